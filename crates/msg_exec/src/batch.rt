@@ -10,6 +10,7 @@ ghost use Rattle.msg_exec.specs.inner.SystemsOut.{AreOut};
 use crate::job::Job;
 use crate::lender::{Lender, run_turn};
 use crate::side_by_side::run_side_by_side;
+use crate::size::size_of_turns;
 use crate::spares::Spares;
 use crate::{Gate, NoMemory, Turn, Workers};
 use msg_frames::laws::batches_run_side_by_side;
@@ -64,8 +65,8 @@ fn run_many<R: Threads + Sync, S: System, G: Gate>(
     batches_run_side_by_side();
     written_parts_come_home();
     let jobs = lend_out_all(alloc, lender, batch, spares)?;
-    let at_once = &mut spares.at_once;
-    let results = run_side_by_side(rt, alloc, &lender.world, gate, workers, jobs, at_once)?;
+    let habit = spares.habit()?;
+    let results = run_side_by_side(rt, alloc, &lender.world, gate, workers, jobs, habit)?;
     for result in results {
         let done = result?;
         turns.push(lender.take_back(alloc, done, spares))?;
@@ -98,7 +99,44 @@ pub(crate) fn run_turns<S: System, G: Gate>(
     Ok(())
 }
 
-/// Runs the jobs of one batch, and appends their turns, by order of addition: in place where one
+/// Runs the jobs of a batch over the workers, or, if these didn't pay lately for the batches in its
+/// place of a frame, in place; and tells the habit of that place how much the batch did.
+fn run_by_habit<R: Threads + Sync, S: System, G: Gate>(
+    rt: &R,
+    alloc: Global,
+    lender: &mut Lender<S>,
+    batch: &[u32],
+    workers: Workers,
+    gate: &G,
+    spares: &mut Spares,
+    turns: &mut Vec<Turn>,
+) -> Result<(), NoMemory>
+    requires stands { (s : State) × (LenderStands S.meaning lender.old s
+        × All (λ i. i < s.systems) batch.now) }
+    requires few { length lender.old.accesses.items ≤ 256 }
+    requires once { AllPairs (λ i j. i ≢ j) batch.now }
+    requires apart { NoneConflict lender.old.accesses.items batch.now }
+    ensures state { OnOk result ((s : State) → LenderStands S.meaning lender.old s
+        → LenderStands S.meaning lender.new (after_turns_of batch.now s).state) }
+    ensures turns { OnOk result ((s : State) → LenderStands S.meaning lender.old s
+        → turns.new.items ≡ turns.old.items ++ (after_turns_of batch.now s).turns) }
+    ensures accesses { OnOk result (lender.new.accesses.items ≡ lender.old.accesses.items) }
+    ensures gate_passed { OnOk result (EachPassedGate (G.passed gate.now) workers batch.now) }
+{
+    let first = turns.len();
+    if spares.habit()?.tries_next() {
+        run_many(rt, alloc, lender, batch, workers, gate, spares, turns)?;
+        let size = size_of_turns(turns.as_slice(), first);
+        spares.habit()?.did_over_workers(size);
+    } else {
+        run_turns(alloc, lender, batch, gate, spares, turns)?;
+        let size = size_of_turns(turns.as_slice(), first);
+        spares.habit()?.did_in_place(size);
+    }
+    Ok(())
+}
+
+/// Runs the jobs of one batch, and appends their turns, by order of addition: in place if one
 /// worker runs them all, or there is at most one.
 fn run_batch<R: Threads + Sync, S: System, G: Gate>(
     rt: &R,
@@ -125,7 +163,7 @@ fn run_batch<R: Threads + Sync, S: System, G: Gate>(
     if workers.number() == 1 || batch.len() <= 1 {
         return run_turns(alloc, lender, batch, gate, spares, turns);
     }
-    run_many(rt, alloc, lender, batch, workers, gate, spares, turns)
+    run_by_habit(rt, alloc, lender, batch, workers, gate, spares, turns)
 }
 
 /// Runs the batches one after the other.
@@ -155,8 +193,10 @@ pub(crate) fn run_batches<R: Threads + Sync, S: System, G: Gate>(
         (concat (map (λ batch. batch.items) batches.now))) }
 {
     let mut turns = spares.turns(alloc, lender.accesses.len())?;
+    spares.begin_batches();
     for batch in batches {
         run_batch(rt, alloc, lender, batch, workers, gate, spares, &mut turns)?;
+        spares.next_batch();
     }
     Ok(turns)
 }

@@ -1,5 +1,5 @@
 // The parts of a new engine.
-ghost use Rattle.std.specs.Prelude.{◌≡◌, ◌<◌, ◌≤◌, ◌↔◌, IfOk, IfErr, OnOk, IsTrue, Some, length, map};
+ghost use Rattle.std.specs.Prelude.{◌≡◌, ◌≤◌, ◌↔◌, IfOk, IfErr, OnOk, IsTrue, length, map};
 ghost use Rattle.msg_order.specs.Prelude.{IsAcyclic, NameSystemsBelow, edges_of};
 ghost use Rattle.msg_system.specs.Prelude.{HasClash, IsAccessOf, new_asked};
 ghost use Rattle.msg_exec.specs.Prelude.{EachIs, RefusesFor};

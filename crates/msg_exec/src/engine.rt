@@ -37,7 +37,7 @@ pub struct EngineOf<S> {
 pub type Engine = EngineOf<Box<dyn System>>;
 
 impl<S: System> EngineOf<S> {
-    ghost use Rattle.std.specs.Prelude.{◌≡◌, ◌<◌, ◌++◌, ◌∷◌, [], ◌-◌, ◌^◌, ◌+◌, ◌↔◌, ℕ, All, drop, min, IfOk, OnOk, Err, Ok, ◌≤◌, IfErr, IfSome, IsNone, IsTrue, List, None, Some, length, map};
+    ghost use Rattle.std.specs.Prelude.{◌≡◌, ◌<◌, ◌++◌, ◌∷◌, [], ◌-◌, ◌^◌, ◌+◌, ◌↔◌, ℕ, All, drop, min, IfOk, OnOk, Err, ◌≤◌, IfErr, IfSome, IsNone, IsTrue, List, None, Some, length, map};
     ghost use Rattle.std.specs.Option.{option_copied};
     ghost use Rattle.msg_system.specs.Needs.{HasClash};
     ghost use Rattle.msg_world.specs.declared.run_fault.RunFault.TheVariants.{BadOrder, NoMemory, Spoiled};

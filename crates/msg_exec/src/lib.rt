@@ -15,6 +15,7 @@ mod lender;
 mod posts;
 mod replay;
 mod side_by_side;
+mod size;
 mod spares;
 mod totals;
 

@@ -8,7 +8,7 @@ use crate::job::{Job, TakesTurns};
 use crate::{Gate, NoMemory, Runs, Workers};
 use msg_board::Work;
 use msg_system::System;
-use msg_workers::run_jobs;
+use msg_workers::{Habit, run_jobs};
 use msg_world::{Taken, World};
 use std::alloc::Global;
 use std::marker::PhantomData;
@@ -84,7 +84,7 @@ pub(crate) fn run_side_by_side<R: Threads + Sync, S: System, G: Gate>(
     gate: &G,
     workers: Workers,
     jobs: Vec<Job<S>>,
-    at_once: &mut u32,
+    habit: &mut Habit,
 ) -> Result<Vec<Result<Job<S>, NoMemory>>, NoMemory>
     requires few { length jobs.items ≤ 256 }
     requires may { EachMay (MayRun S.meaning world.now) jobs.items }
@@ -94,5 +94,5 @@ pub(crate) fn run_side_by_side<R: Threads + Sync, S: System, G: Gate>(
         jobs.items) }
 {
     let jobs = with_world(alloc, world, jobs)?;
-    run_jobs::<R, Batch<S>, G>(rt, alloc, gate, workers, jobs, at_once)
+    run_jobs::<R, Batch<S>, G>(rt, alloc, gate, workers, jobs, habit)
 }

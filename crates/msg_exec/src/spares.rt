@@ -4,6 +4,7 @@ ghost use Rattle.std.specs.Prelude.{◌≡◌, [], IfOk};
 use crate::job::JobContents;
 use crate::{Log, NoMemory, Outcome, Turn};
 use msg_system::Reply;
+use msg_workers::Habit;
 use msg_world::{Access, Taken};
 use std::alloc::Global;
 use std::marker::Model;
@@ -13,14 +14,16 @@ use std::mem::replace;
 const MOST: usize = 256;
 
 /// What serves frames to come: empty lists with their memory, for their logs; boxes of what goes
-/// with systems to their turns; and how many others the first worker starts at once in the next
-/// batch that goes over workers. Contracts see nothing of it.
+/// with systems to their turns; and for each place of a batch in a frame, whether workers pay
+/// there. That stays where the plan changes. Contracts see nothing of it.
 #[derive(Drop)]
 pub(crate) struct Spares {
     turns: Vec<Turn>,
     replies: Vec<Vec<Reply>>,
     contents: Vec<Box<JobContents>>,
-    pub at_once: u32,
+    habits: Vec<Habit>,
+    /// The place of the batch that runs.
+    place: usize,
 }
 
 impl Model for Spares {
@@ -37,7 +40,8 @@ impl Spares {
             turns: Vec::new(alloc),
             replies: Vec::new(alloc),
             contents: Vec::new(alloc),
-            at_once: 1,
+            habits: Vec::new(alloc),
+            place: 0,
         }
     }
 
@@ -83,6 +87,25 @@ impl Spares {
             outcome: Outcome::Skipped,
         };
         Ok(Box::new(alloc, contents)?)
+    }
+
+    /// The first batch of a frame is next.
+    pub(crate) fn begin_batches(&mut self) {
+        self.place = 0;
+    }
+
+    /// The batch in the next place of the frame is next.
+    pub(crate) fn next_batch(&mut self) {
+        self.place = self.place.saturating_add(1);
+    }
+
+    /// What the batches in the place of this one have shown.
+    pub(crate) fn habit(&mut self) -> Result<&mut Habit, NoMemory> {
+        let place = self.place;
+        if place >= self.habits.len() {
+            self.habits.resize(place.saturating_add(1), Habit::new())?;
+        }
+        Ok(&mut self.habits[place])
     }
 
     /// Keeps what went with a system, where there is room for it.

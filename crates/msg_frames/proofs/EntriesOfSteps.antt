@@ -5,7 +5,7 @@ use Rattle.msg_world.specs.Prelude.{WorldState}
 use Rattle.msg_system.specs.{declared.op.Op.Op, declared.reply.Reply.Reply}
 use Rattle.msg_system.specs.Prelude.{AfterOp, AfterProgram, Step, Job, Meaning, after_at_most, after_job, after_op, next_op, one_more, ops_answered, turn}
 use Rattle.msg_system.proofs.Turns.{ops_answered-snoc}
-use Rattle.msg_frames.specs.Prelude.{entries_at, entries_for, entry_for, outcome_entries, outcome_of}
+use Rattle.msg_frames.specs.Prelude.{Outcome, ReadEntry, entries_at, entries_for, entries_told, entry_for, outcome_of, replies_of}
 
 module _ (t : ℕ) (m : Meaning) (w : WorldState) where
   -- so far all ops were answered
@@ -34,6 +34,10 @@ module _ (t : ℕ) (m : Meaning) (w : WorldState) where
   answered (suc n) =
       let far : AfterProgram = after_at_most n (next_op m) m.writer m.places w in
       answered_more (next_op m far.replies) far refl (answered n)
+
+-- the entries for a type of a system whose turn came out so
+abbrev pub outcome_entries : ℕ → Meaning → Outcome → List ReadEntry
+outcome_entries t m outcome = entries_told t m.needs m.rule (replies_of outcome)
 
 -- the entries that the outcome of a job tells are those of its steps
 pub job_logged : (t : ℕ) (j : Job) (w : WorldState)

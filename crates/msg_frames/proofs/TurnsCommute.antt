@@ -4,9 +4,9 @@ use Rattle.std.proofs.lemmas.{Bool.and_from, Bool.cases_Bool, Bool.Decides.eqb_t
 use Rattle.msg_world.specs.{Prelude.Conflict, Prelude.OfResource, Prelude.OfType, Prelude.Part, Prelude.Registry, Prelude.WorldState, Prelude.content, declared.access.Access.Access}
 use Rattle.msg_system.specs.Prelude.{AfterJob, HasFootprint, IsAccessOf, Job, after_job, JobFootprint, Needs, needs_any}
 use Rattle.msg_system.specs.declared.reply.Reply.{Reply}
-use Rattle.msg_frames.proofs.EntriesOfSteps.{job_logged}
+use Rattle.msg_frames.proofs.EntriesOfSteps.{job_logged, outcome_entries}
 use Rattle.msg_system.proofs.AccessesUseNeeds.{uses_needs}
-use Rattle.msg_frames.specs.Prelude.{entries_at, outcome_entries, outcome_of, with_entries, Member, Outcome, State, TurnsOfOthersCommute, after_turn_of, member_after, member_needs, turn_of}
+use Rattle.msg_frames.specs.Prelude.{entries_at, outcome_of, with_entries, Member, Outcome, State, TurnsOfOthersCommute, after_turn_of, member_after, member_needs, turn_of}
 
 -- worlds with the same parts are the same
 pub same_world : (v w : WorldState) → ((p : Part) → content p v ≡ content p w) → v ≡ w

@@ -2,7 +2,7 @@
 use Rattle.std.specs.Prelude.{◌≡◌, ℕ, ◌+◌, Bool, List, map, flat_map, unwrap_or}
 use Rattle.std.specs.List.{filter, range_with_len}
 use Rattle.msg_world.specs.Prelude.{OfType}
-use Rattle.msg_frames.specs.{declared.account.Account.Account, declared.totals.Totals.Totals, Frames.State, Tiling.reader_place}
+use Rattle.msg_frames.specs.{declared.account.Account.Account, declared.totals.Totals.Totals, Frames.State, Moments.reader_place}
 
 -- system i reads type t
 abbrev pub is_reader : State → ℕ → ℕ → Bool

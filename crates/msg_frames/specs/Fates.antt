@@ -4,7 +4,7 @@ use Rattle.std.specs.List.{Sorted.IsStrictlyIncreasing, enumerate_from}
 use Rattle.msg_buffer.specs.Prelude.{History, IsPresent, Stretch, Tile, count, instances, message_of}
 use Rattle.msg_world.specs.declared.record.Record.{Record}
 use Rattle.msg_system.specs.{Prelude.Meaning, Prelude.Step, declared.reply.Reply.Reply}
-use Rattle.msg_frames.specs.{declared.frame.Frame.Frame, declared.log.Log.Log, CompleteRun.IsCompleteRun, CompleteRun.IsServed, CompleteRun.entries_in_run, CompleteRun.message_numbered, Entries.ReadEntry, LogEntries.entries_told, Entries.numbers_cleared, Entries.numbers_given, Entries.numbers_missed, Steps.replies_of, Steps.told, Frames.run, Frames.State, Frames.has_begun, Soundness.IsSoundState, Tiling.Moment, Tiling.found_at, Tiling.moments, Tiling.reader_place}
+use Rattle.msg_frames.specs.{declared.frame.Frame.Frame, declared.log.Log.Log, CompleteRun.IsCompleteRun, CompleteRun.IsServed, CompleteRun.entries_in_run, CompleteRun.message_numbered, Entries.ReadEntry, LogEntries.entries_told, Entries.numbers_cleared, Entries.numbers_given, Entries.numbers_missed, Steps.replies_of, Steps.told, Frames.run, Frames.State, Frames.has_begun, Soundness.IsSoundState, Moments.Moment, Moments.found_at, Moments.moments, Moments.reader_place}
 
 -- ---- the entries that logs have
 

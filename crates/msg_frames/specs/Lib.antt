@@ -6,7 +6,7 @@ pub mod Replays
 pub mod TurnLaws
 pub mod Steps
 pub mod LogEntries
-pub mod Tiling
+pub mod Moments
 pub mod CompleteRun
 pub mod Fates
 pub mod Soundness

@@ -1,7 +1,7 @@
 -- What replies tell of a reader: the system's rule says which op each of them answers.
 use Rattle.std.specs.Prelude.{ℕ, List, [], ◌∷◌, ◌++◌}
-use Rattle.msg_system.specs.{Prelude.Meaning, Prelude.Needs, Prelude.Rule, Prelude.if_kept, Prelude.ops_answered, declared.op.Op.Op, declared.reply.Reply.Reply}
-use Rattle.msg_frames.specs.{declared.log.Outcome.Outcome, Entries.ReadEntry, Entries.entry_for, Steps.replies_of}
+use Rattle.msg_system.specs.{Prelude.Needs, Prelude.Rule, Prelude.if_kept, Prelude.ops_answered, declared.op.Op.Op, declared.reply.Reply.Reply}
+use Rattle.msg_frames.specs.{Entries.ReadEntry, Entries.entry_for}
 
 -- the entries for a type among the replies to these ops
 abbrev pub entries_for : ℕ → List Op → List Reply → List ReadEntry
@@ -18,7 +18,3 @@ entries_told t n rule [] = []
 entries_told t n rule (replies ∷ turns) =
     entries_for t (ops_by n rule replies) replies
     ++ entries_told t n (λ later now. rule (replies ∷ later) now) turns
-
--- the entries for a type of a system whose turn came out so
-abbrev pub outcome_entries : ℕ → Meaning → Outcome → List ReadEntry
-outcome_entries t m outcome = entries_told t m.needs m.rule (replies_of outcome)

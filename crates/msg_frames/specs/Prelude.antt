@@ -7,12 +7,12 @@ pub use Rattle.msg_frames.specs.FirstState.{IsNew, first_state, new_job, nobody,
 pub use Rattle.msg_frames.specs.Frames.{post_steps, turns_steps, AfterFrame, AfterRun, UsesParts, are_in_conflict, frame, needs_conflict, run, AfterTurns, AreAccessesOf, Member, State, after_posts, after_turn_of, after_turns_of, before_turns, counts, frame_in, has_begun, job_begun, join_flags, joined_member, member_after, after_joining, logged_turn, member_needs, outcome_of, post_replies, turn_order_in, turn_of, with_joining}
 pub use Rattle.msg_frames.specs.ReaderLaws.{AccountsBalance, AllAreAnswered, AreNew, FirstIsSound, FrameStaysSound, NoneBeforeJoining, ReplaysTellTheSame, RunStaysSound, RunsAreComplete}
 pub use Rattle.msg_frames.specs.Replays.{IsLawfulFor, TellsTheSame}
-pub use Rattle.msg_frames.specs.Rows.{Setup, alone, conditions_frames, contrary, contrary_frames, drained, drained_frames, early_frames, echo, echo_frames, fourth, fourth_frames, gated, gated_frames, lag, lag_frames, late, late_frames, systems_numbered, program, relay, relay_frames, signallers, signallers_frames, setup_state, tally, tally_frames, two_conditions, writers, writers_frames}
+pub use Rattle.msg_frames.specs.Rows.{Setup, program, setup_state}
 pub use Rattle.msg_frames.specs.Soundness.{IsBalanced, IsSoundState, NoCycle}
 pub use Rattle.msg_frames.specs.Steps.{AreAnswered, IsWrittenOnce, all_written, answers_of, replies_of, told, wrote}
-pub use Rattle.msg_frames.specs.Tiling.{Moment, found_at, moments, moments_at, reader_place}
+pub use Rattle.msg_frames.specs.Moments.{Moment, found_at, moments, moments_at, reader_place}
 unfoldable pub use Rattle.msg_frames.specs.Frames.{parts, settled_order, turn_order}
-pub use Rattle.msg_frames.specs.LogEntries.{entries_for, entries_told, ops_by, outcome_entries}
+pub use Rattle.msg_frames.specs.LogEntries.{entries_for, entries_told, ops_by}
 pub use Rattle.msg_frames.specs.TurnLaws.{AreOrdered, OrderIsSettled, TurnsAreInOrder, BatchesRunSideBySide, FrameKeeps, FramesAgreeInLawfulOrders, FramesKeepSystems, FramesRunByBatches, LawfulOrdersAgree, ListsOnlyGrow, SameMember, SameSystems, SameSystemsHaveSameAccesses, TurnsKeepSystems, TurnsOfOthersCommute, all_home, by_batches, home, with_member}
 pub use Rattle.msg_frames.specs.UpToDate.{IsUpToDate, MissesNothing, NothingDrained, ReadsAll, ReadsAllInEach, WhoIsUpToDateMissesNothing, WhoReadsAllCatchesUp, WhoReadsAllHasTheFrameBefore, WhoReadsAllIsUpToDate, WhoReadsEachFrameMissesNothing, WhoseProgramReadsAll, reads_all}
 pub use Rattle.msg_frames.specs.declared.frame.Frame.{Frame}

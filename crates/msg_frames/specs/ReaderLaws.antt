@@ -5,7 +5,7 @@ use Rattle.msg_buffer.specs.Prelude.{IsSound}
 use Rattle.msg_order.specs.declared.rule.Rule.{Rule}
 use Rattle.msg_world.specs.Prelude.{WorldState}
 use Rattle.msg_system.specs.Prelude.{Meaning}
-use Rattle.msg_frames.specs.{declared.frame.Frame.Frame, declared.log.Log.Log, declared.place.Place.Place, Entries.no_totals, Frames.frame, Frames.run, Frames.State, Frames.UsesParts, Frames.has_begun, FirstState.IsNew, FirstState.before_joining, FirstState.first_state, FirstState.nobody, Replays.TellsTheSame, Soundness.IsBalanced, Steps.AreAnswered, Soundness.IsSoundState, Soundness.NoCycle, CompleteRun.IsCompleteRun, Fates.answers_in, Tiling.reader_place}
+use Rattle.msg_frames.specs.{declared.frame.Frame.Frame, declared.log.Log.Log, declared.place.Place.Place, Entries.no_totals, Frames.frame, Frames.run, Frames.State, Frames.UsesParts, Frames.has_begun, FirstState.IsNew, FirstState.before_joining, FirstState.first_state, FirstState.nobody, Replays.TellsTheSame, Soundness.IsBalanced, Steps.AreAnswered, Soundness.IsSoundState, Soundness.NoCycle, CompleteRun.IsCompleteRun, Fates.answers_in, Moments.reader_place}
 
 -- ---- soundness
 

@@ -2,7 +2,7 @@
 use Rattle.std.specs.Prelude.{◌≡◌, ℕ, ◌+◌, ◌≤◌, ◌<◌, Bool, List, length, Some, IsTrue, IsFalse}
 use Rattle.msg_buffer.specs.Prelude.{IsSound, count}
 use Rattle.msg_order.specs.Prelude.{IsAcyclic, rules_among}
-use Rattle.msg_frames.specs.{Entries.no_totals, Frames.State, Frames.UsesParts, Frames.has_begun, Tiling.reader_place, declared.totals.Totals.Totals}
+use Rattle.msg_frames.specs.{Entries.no_totals, Frames.State, Frames.UsesParts, Frames.has_begun, Moments.reader_place, declared.totals.Totals.Totals}
 
 -- The account begins at a start, and all that the reader got, missed and cleared since leads to its
 -- place.

@@ -3,7 +3,7 @@ use Rattle.std.specs.Prelude.{◌≡◌, ◌≢◌, ℕ, ◌<◌, ◌≤◌, ◌
 use Rattle.std.specs.List.{list_any}
 use Rattle.msg_buffer.specs.Prelude.{IsPresent, count, update}
 use Rattle.msg_system.specs.{Prelude.of_program, declared.op.Op.Op, declared.op.Op.TheVariants.Read, declared.op.Op.TheVariants.Forward, declared.op.Op.TheVariants.Sum, declared.program.Program.Program}
-use Rattle.msg_frames.specs.{declared.frame.Frame.Frame, declared.log.Outcome.TheVariants.Skipped, CompleteRun.entries_in_run, Frames.frame, Frames.run, Frames.turn_order, Frames.State, Frames.after_turns_of, Frames.before_turns, Frames.has_begun, Soundness.IsSoundState, Soundness.NoCycle, Tiling.reader_place}
+use Rattle.msg_frames.specs.{declared.frame.Frame.Frame, declared.log.Outcome.TheVariants.Skipped, CompleteRun.entries_in_run, Frames.frame, Frames.run, Frames.turn_order, Frames.State, Frames.after_turns_of, Frames.before_turns, Frames.has_begun, Soundness.IsSoundState, Soundness.NoCycle, Moments.reader_place}
 
 -- the op reads the type without limit
 abbrev pub reads_all : ℕ → Op → Bool

@@ -3,7 +3,7 @@ use Rattle.std.proofs.Common.{◌≡◌, ℕ, ◌+◌, ◌-◌, ◌<◌, ◌≤�
 use Rattle.std.specs.List.{list_any, range_with_len}
 use Rattle.std.proofs.lemmas.{Bool.cases_Bool, List.append-nil, List.get_or-map, List.length-map, List.take-map, List.get_or-take, List.get_or_past, List.get_or_push, List.get_or_append_left, Simd.get_or-replicate, List.Elements.All-head, List.Elements.All-tail, List.Elements.filter_more, List.Elements.Contains-append_left, List.Elements.Contains-push, List.Elements.Contains-push_cases, Bool.Decides.eqb_tells, Bool.cases_eq, Bool.cases_lt, Bool.or_left, Bool.or_right, Bool.or_cases, Bool.and_parts, Bool.false≢true, Bool.false_from_ne_true, Bool.eqb-true, Bool.eq-eqb}
 use Rattle.msg_order.specs.Prelude.{Graph, IsAcyclic, IsAmong, IsLowestOnCycle, NameSystemsBelow, Rule, Settles, SystemSet, edges_of, has_joined, pairs, rules_among}
-use Rattle.msg_order.specs.{inner.SystemSet.has, inner.SystemSet.meets, inner.SystemSet.no_set, Graph.path, inner.Paths.set_at, inner.Paths.comes_before, inner.Paths.ArePaths}
+use Rattle.msg_order.specs.{inner.SystemSet.has, inner.SystemSet.meets, inner.SystemSet.no_set, Graph.path, inner.Paths.set_at, inner.Paths.comes_before, inner.Paths.ArePaths, inner.Paths.AreStarts}
 use Rattle.msg_order.proofs.{SystemSets.has-no_set, SystemSets.meets-found, SystemSets.meets-true, Elements.Contains-tail, Elements.Contains-cases, Elements.Contains-list_any, Elements.Contains-range, Elements.filter-Contains, Elements.list_any-Contains, Elements.range-Contains, PathTest.path_trans, PathTest.to_Path, PathTest.no_Path, PathTest.no_path, PathTest.same_test, PathTest.same_paths, SettledPairs.grown, SettledPairs.grown_paths, SettledPairs.reaches, SettledPairs.settles_row, SettledPairs.settles_then, SettledPairs.settles_keeps, SettledPairs.pairs_until, SettledPairs.pairs_until-more, SettledPairs.row, SettledPairs.pairs-Contains}
 
 -- past the last set there is none
@@ -22,13 +22,38 @@ AddsEdges before from to new = (i j : ℕ) → comes_before new i j
     ≡ (comes_before before i j || ((i == from || comes_before before i from) &&
     (has to j || meets (set_at before j) to)))
 
--- it holds past the last set
-pub adds_past : (before new : List SystemSet) (from : ℕ) (to : SystemSet) (i j : ℕ) → length new ≡ length before
-    → length before ≤ j → ((k : ℕ) → has to k ≡ true → k < length before)
-    → comes_before new i j ≡ (comes_before before i j ||
-    ((i == from || comes_before before i from) && (has to j || meets (set_at before j) to)))
-adds_past before new from to i j len h within =
-    grind (arith, false_from_ne_true, meets-no_set, none_past, set_past)
+-- past the last set nothing meets
+pub meets_past : (before : List SystemSet) (to : SystemSet) (j : ℕ) → length before ≤ j
+    → meets (set_at before j) to ≡ false
+meets_past before to j h = grind (arith, meets-no_set, set_past)
+
+-- a set that lies within the list, with what paths lead to from it, does so too
+pub reached_in : (before : List SystemSet) (to reached : SystemSet)
+    → ((k : ℕ) → has to k ≡ true → k < length before)
+    → ((k : ℕ) → has reached k ≡ (has to k || meets (set_at before k) to))
+    → (k : ℕ) → has reached k ≡ true → k < length before
+reached_in before to reached within is k e =
+    grind (arith, cases_lt, false≢true, or_cases, within k, is k, meets_past before to k)
+
+-- where a set has none of the starts, no path leads on from it
+pub leads_nowhere : (before : List SystemSet) (starts to : SystemSet) → AreStarts before starts
+    → meets to starts ≡ false → (k : ℕ) → meets (set_at before k) to ≡ false
+leads_nowhere before starts to are apart k =
+    false_from_ne_true (meets (set_at before k) to) (λ e.
+    let m = meets-true (set_at before k) to e in
+    grind (arith, false≢true, are m.0 k m.1.1.0, meets-found to starts m.0 m.1.0 m.1.1.1))
+
+-- edges to no system are none
+pub adds_none : (before : List SystemSet) (from : ℕ) (to : SystemSet) → ((k : ℕ) → has to k ≡ false)
+    → AddsEdges before from to before
+adds_none before from to none i j =
+    grind (arith, cases_Bool, false_from_ne_true, meets-true (set_at before j) to, none)
+
+-- the starts, and the system from which edges were added
+pub starts_more : (before new : List SystemSet) (from : ℕ) (to starts more : SystemSet) → AreStarts before starts
+    → AddsEdges before from to new → ((k : ℕ) → has more k ≡ (k == from || has starts k)) → AreStarts new more
+starts_more before new from to starts more are adds is i j e =
+    grind (arith, or_cases, or_left, or_right, and_parts, adds i j, is i, are i j, are i from)
 
 -- One edge.
 pub adds_edge : (g : Graph) (before new : List SystemSet) (from later : ℕ) (to : SystemSet) → ArePaths g before

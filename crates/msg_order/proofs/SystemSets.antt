@@ -1,9 +1,9 @@
 -- Sets of systems as words of bits.
-use Rattle.std.proofs.Common.{◌≡◌, ℕ, ◌+◌, ◌*◌, ◌/◌, ◌^◌, ◌%◌, ◌<◌, ◌≤◌, Bool, true, false, not, ◌&&◌, ◌||◌, List, get_or, length, refl, arith, w64, get_or-set_same, get_or-set_other, slice_set, ◌==◌, bit_and, bit_or}
-use Rattle.std.specs.{Int.bit_not, List.list_any, List.range_with_len}
+use Rattle.std.proofs.Common.{◌≡◌, ℕ, ◌+◌, ◌*◌, ◌/◌, ◌^◌, ◌%◌, ◌<◌, ◌≤◌, Bool, true, false, not, ◌&&◌, ◌||◌, List, get_or, length, refl, arith, w64, get_or-set_same, get_or-set_other, slice_set, ◌==◌, bit_and, bit_or, ◌≢◌}
+use Rattle.std.specs.{Int.bit_not, Int.trailing_zeros, List.list_any, List.range_with_len}
 use Rattle.std.proofs.lemmas.{Bool.cases_eq, Bool.and_parts, Bool.and_from, Bool.eq-eqb, Bool.ne_eqb, Bool.false_from_ne_true, List.get_or_past}
 use Rattle.msg_world.specs.Prelude.{has_bit}
-use Rattle.msg_world.proofs.Bits.{has_bit-zero, has_bit-set, has_bit-unset, has_bit-and, has_bit-or}
+use Rattle.msg_world.proofs.Bits.{has_bit-zero, has_bit-set, has_bit-unset, has_bit-and, has_bit-or, next_is_below, next_is_set, none_before_next, none_from}
 use Rattle.msg_order.specs.{Prelude.SystemSet, inner.SystemSet.has, inner.SystemSet.meets, inner.SystemSet.no_set}
 use Rattle.msg_order.proofs.Elements.{list_any-Contains, Contains-list_any, Contains-range, range-Contains}
 
@@ -74,6 +74,37 @@ pub words-share : (xs ys : List ℕ) (i r k : ℕ) → r < 64 → 64 * i + r ≡
     → has_bit (bit_and (get_or xs i 0) (get_or ys i 0)) r ≡ true
     → (has_bit (get_or xs (k / 64) 0) (k % 64) && has_bit (get_or ys (k / 64) 0) (k % 64)) ≡ true
 words-share xs ys i r k h e t = grind (arith, has_bit-and)
+
+-- the place of a bit further on in the same word
+further_on : (k t : ℕ) → k % 64 + t < 64 → ((k + t) / 64 ≡ k / 64) × ((k + t) % 64 ≡ k % 64 + t)
+further_on k t h = (omega arith, omega arith)
+
+module _ (words : List ℕ) (k : ℕ) (fits : get_or words (k / 64) 0 < 2 ^ 64) where
+  -- the next bit that is set in the word of k, from k on
+  module _ (some : get_or words (k / 64) 0 / 2 ^ (k % 64) ≢ 0) where
+    pub next_in_word : k % 64 + trailing_zeros w64 (get_or words (k / 64) 0 / 2 ^ (k % 64)) < 64
+    next_in_word = next_is_below (get_or words (k / 64) 0) (k % 64) fits some
+
+    pub next_there : (let n : ℕ = k + trailing_zeros w64 (get_or words (k / 64) 0 / 2 ^ (k % 64)) in
+        has_bit (get_or words (n / 64) 0) (n % 64) ≡ true)
+    next_there =
+        let at = further_on k _ next_in_word in
+        rw (at.0, at.1) (next_is_set (get_or words (k / 64) 0) (k % 64) fits some)
+
+    pub none_till_next : (q : ℕ) → k ≤ q → q < k + trailing_zeros w64 (get_or words (k / 64) 0 / 2 ^ (k % 64))
+        → has_bit (get_or words (q / 64) 0) (q % 64) ≡ false
+    none_till_next q le lt =
+        let below = next_in_word in
+        let word : q / 64 ≡ k / 64 = omega (arith, below) in
+        rw word (none_before_next (get_or words (k / 64) 0) (k % 64) fits some (q % 64) (omega (arith, below))
+        (omega (arith, below)))
+
+  -- where none is set, none is before the next word
+  pub none_in_word : get_or words (k / 64) 0 / 2 ^ (k % 64) ≡ 0 → (q : ℕ) → k ≤ q → q < (k / 64 + 1) * 64
+      → has_bit (get_or words (q / 64) 0) (q % 64) ≡ false
+  none_in_word gone q le lt =
+      let word : q / 64 ≡ k / 64 = omega arith in
+      rw word (none_from (get_or words (k / 64) 0) (k % 64) gone (q % 64) (omega arith))
 
 -- what the functions of sets are proved by
 pub ruleset of_sets = (

@@ -1,6 +1,6 @@
 // The paths of a growing graph: before each system those from which a path leads to it.
 ghost use Rattle.std.specs.Prelude.{◌≡◌, ◌==◌, ◌||◌, ◌&&◌, ℕ, ◌<◌, ◌≤◌, ◌↔◌, [], true, false, length, IfOk, IsTrue, IsFalse, MatchOption, OnErr};
-ghost use Rattle.msg_order.specs.{Prelude.AreInConflict, Prelude.Graph, Prelude.IsAcyclic, Prelude.IsLowestOnCycle, Prelude.NameSystemsBelow, Prelude.rules_among, inner.Paths.ArePaths, inner.Paths.AreSettled, inner.Paths.comes_before, inner.Paths.set_at, inner.SystemSet.has, inner.SystemSet.meets};
+ghost use Rattle.msg_order.specs.{Prelude.AreInConflict, Prelude.Graph, Prelude.IsAcyclic, Prelude.IsLowestOnCycle, Prelude.NameSystemsBelow, Prelude.rules_among, inner.Paths.ArePaths, inner.Paths.AreSettled, inner.Paths.AreStarts, inner.Paths.comes_before, inner.Paths.set_at, inner.SystemSet.has, inner.SystemSet.meets};
 
 use crate::Rule;
 use crate::system_set::SystemSet;
@@ -21,26 +21,77 @@ pub fn no_paths<A: Allocator>(alloc: A, systems: usize) -> Result<Vec<SystemSet,
     Ok(before)
 }
 
-/// Adds an edge from one system to each system of a set.
-#[tactic(auto, using(crate::proofs::SetPaths::adds_past))]
-pub fn add_edges(before: &mut [SystemSet], from: usize, to: &SystemSet)
+/// The systems of a set, and those to which a path leads from one of these. `starts` has each system
+/// from which a path leads on.
+#[tactic(auto, using(crate::proofs::SetPaths::meets_past, crate::proofs::SetPaths::leads_nowhere))]
+fn reached_from(before: &[SystemSet], starts: &SystemSet, to: &SystemSet) -> SystemSet
+    requires few { length before.now ≤ 256 }
+    requires starts { AreStarts before.now starts.now }
+    ensures { (j : ℕ) → has result j ≡ (has to.now j || meets (set_at before.now j) to.now) }
+{
+    let mut reached = *to;
+    if to.meets(starts) {
+        for j in 0..before.len() {
+            if before[j].meets(to) {
+                reached.insert(j);
+            }
+        }
+    }
+    reached
+}
+
+/// Puts systems before each system of a set.
+fn put_before(before: &mut [SystemSet], reached: &SystemSet, earlier: &SystemSet)
+    requires few { length before.old ≤ 256 }
+    requires within { (k : ℕ) → has reached.now k ≡ true → k < length before.old }
+    ensures { (i j : ℕ)
+        → comes_before before.new i j
+        ≡ (comes_before before.old i j || (has reached.now j && has earlier.now i)) }
+{
+    let mut j = reached.next(0);
+    'reached: while j < before.len() {
+        let set = &mut before[j];
+        set.union_with(earlier);
+        j = reached.next(j + 1);
+    }
+}
+
+/// Each system from which a path leads on.
+#[tactic(auto, using(crate::proofs::SetPaths::none_past))]
+fn starts_of(before: &[SystemSet]) -> SystemSet
+    requires few { length before.now ≤ 256 }
+    ensures { AreStarts before.now result }
+{
+    let mut starts = SystemSet::empty();
+    for j in 0..before.len() {
+        starts.union_with(&before[j]);
+    }
+    starts
+}
+
+/// Adds an edge from one system to each system of a set. `starts` has each system from which a path
+/// leads on, before and after.
+#[tactic(auto, using(crate::proofs::SetPaths::starts_more, crate::proofs::SetPaths::adds_none))]
+pub fn add_edges(before: &mut [SystemSet], starts: &mut SystemSet, from: usize, to: &SystemSet)
     requires few { length before.old ≤ 256 }
     requires is_system { from < length before.old }
     requires within { (k : ℕ) → has to.now k ≡ true → k < length before.old }
-    ensures { (i j : ℕ)
+    requires starts { AreStarts before.old starts.old }
+    ensures edges { (i j : ℕ)
         → comes_before before.new i j
         ≡ (comes_before before.old i j
         || ((i == from || comes_before before.old i from)
         && (has to.now j || meets (set_at before.old j) to.now))) }
+    ensures starts { AreStarts before.new starts.new }
 {
+    if to.is_empty() {
+        return;
+    }
     let mut earlier = before[from];
     earlier.insert(from);
-    for j in 0..before.len() {
-        if to.contains(j) || before[j].meets(to) {
-            let set = &mut before[j];
-            set.union_with(&earlier);
-        }
-    }
+    let reached = reached_from(before, starts, to);
+    put_before(before, &reached, &earlier);
+    starts.insert(from);
 }
 
 fn only(system: usize) -> SystemSet
@@ -60,11 +111,12 @@ fn add_rules(before: &mut [SystemSet], rules: &[Rule], joined: &[bool])
     requires none_yet { ArePaths [] before.old }
     ensures { ArePaths (rules_among joined.now rules.now) before.new }
 {
+    let mut starts = SystemSet::empty();
     for rule in rules {
         let earlier = rule.earlier as usize;
         let later = rule.later as usize;
         if joined[earlier] && joined[later] && !before[later].contains(earlier) {
-            add_edges(before, earlier, &only(later));
+            add_edges(before, &mut starts, earlier, &only(later));
         }
     }
 }
@@ -88,6 +140,9 @@ fn later_conflicts(accesses: &[Access], joined: &[bool], i: usize, before: &Syst
         ↔ ((i < j) × (AreInConflict accesses.now joined.now i j × IsFalse (has before.now j))) }
 {
     let mut later = SystemSet::empty();
+    if !joined[i] {
+        return later;
+    }
     for j in i + 1..accesses.len() {
         if are_in_conflict(accesses, joined, i, j) && !before.contains(j) {
             later.insert(j);
@@ -105,9 +160,10 @@ fn settle_pairs(before: &mut [SystemSet], accesses: &[Access], joined: &[bool])
     ensures { (g : Graph) → ArePaths g before.old
         → AreSettled accesses.now joined.now g before.new }
 {
+    let mut starts = starts_of(before);
     for i in 0..before.len() {
         let later = later_conflicts(accesses, joined, i, &before[i]);
-        add_edges(before, i, &later);
+        add_edges(before, &mut starts, i, &later);
     }
 }
 

@@ -1,6 +1,6 @@
 #![tactic(auto, using(crate::proofs::SystemSets::of_sets), unfolding(crate::specs::inner::SystemSet::has))]
 
-ghost use Rattle.std.specs.Prelude.{◌≡◌, ◌==◌, ◌||◌, ◌&&◌, not, ℕ, ◌<◌, ◌↔◌, false, IsTrue};
+ghost use Rattle.std.specs.Prelude.{◌≡◌, ◌==◌, ◌||◌, ◌&&◌, not, ℕ, ◌<◌, ◌≤◌, ◌↔◌, true, false, IsTrue};
 
 /// A set of systems, by their numbers below 256.
 #[derive(Clone, Copy, Debug)]
@@ -40,6 +40,25 @@ impl SystemSet {
         ensures { (j : ℕ) → has self.new j ≡ (not (j == k) && has self.old j) }
     {
         self.words[k / 64] &= !(1u64 << (k % 64));
+    }
+
+    /// The first system in it from this number on; 256 where there is none.
+    pub fn next(&self, from: usize) -> usize
+        requires { from ≤ 256 }
+        ensures from_there { from ≤ result }
+        ensures at_most { result ≤ 256 }
+        ensures is_in { result < 256 → has self.now result ≡ true }
+        ensures none_before { (k : ℕ) → from ≤ k → k < result → has self.now k ≡ false }
+    {
+        let mut k = from;
+        'words: while k < 256 {
+            let rest = self.words[k / 64] >> (k % 64);
+            if rest != 0 {
+                return k + rest.trailing_zeros() as usize;
+            }
+            k = (k / 64 + 1) * 64;
+        }
+        256
     }
 
     /// Adds all systems of the other set.

@@ -7,11 +7,13 @@
 #![tactic(auto)]
 
 mod gate;
+mod habit;
 mod run_workers;
 mod runs;
 mod workers;
 
 pub use gate::{Gate, NoGate};
+pub use habit::Habit;
 pub use msg_board::NoMemory;
 pub use run_workers::run_jobs;
 pub use runs::{Runs, work};

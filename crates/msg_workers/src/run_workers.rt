@@ -1,12 +1,12 @@
 // Workers side by side.
-ghost use Rattle.std.specs.Prelude.{◌≡◌, ◌+◌, ◌<◌, ◌≤◌, ◌⊎◌, ℕ, All, IfOk, OnOk, Some, length, min, slice_get};
+ghost use Rattle.std.specs.Prelude.{◌≡◌, ◌+◌, ◌<◌, ◌≤◌, ℕ, All, IfOk, OnOk, Some, length, min, slice_get};
 ghost use Rattle.std.specs.Thread.{IsSend, IsSync};
 ghost use Rattle.msg_board.specs.Prelude.{IsLawfulOutcome, IsNewPass, jobs_of};
 ghost use Rattle.msg_workers.specs.Work.{EachMay, PassedGate};
 ghost use Rattle.msg_workers.specs.inner.Workers.{HasWorked, HaveWorked, IsFirstDraw};
 
 use crate::runs::{Runs, work_on};
-use crate::{Gate, NoMemory, Workers};
+use crate::{Gate, Habit, NoMemory, Workers};
 use msg_board::{Board, Pass, Work};
 use std::alloc::Global;
 use std::sync::atomic::{AtomicBool, Ordering};
@@ -150,11 +150,12 @@ fn work_beside<R: Threads + Sync, W: Runs + Send, G: Gate>(
 }
 
 /// Runs the jobs, by at most so many workers and at most one for each job, and gives their results
-/// in the order of the jobs. The first worker starts `at_once` others before it runs a job, but at
-/// least one and no more than there are, and the last of these starts the next where it gets a job.
-/// Where no thread can be made, a worker draws in the thread that was to start it, after the jobs
-/// of that one. Afterwards `at_once` is what serves a batch of such jobs best: all workers, where
-/// the others ran at least half of these jobs, and else one.
+/// in the order of the jobs. The first worker starts as many others before it runs a job as the
+/// habit says, but at least one and no more than there are, and the last of these starts the next
+/// where it gets a job. Where no thread can be made, a worker draws in the thread that was to start
+/// it, after the jobs of that one. Afterwards the habit is what serves a batch of such jobs best:
+/// all workers begin at once, where the others ran at least half of these jobs, and else one; and
+/// where they ran less than a quarter, the next batches run in place.
 ///
 /// # Errors
 ///
@@ -165,18 +166,16 @@ pub fn run_jobs<R: Threads + Sync, W: Runs + Send, G: Gate>(
     gate: &G,
     workers: Workers,
     jobs: Vec<W::Job>,
-    at_once: &mut u32,
+    habit: &mut Habit,
 ) -> Result<Vec<W::Done>, NoMemory>
     requires few { length jobs.items ≤ 256 }
     requires may { EachMay W.may jobs.items }
     ensures lawful { IfOk result (λ results. IsLawfulOutcome W.lawful jobs.items results.items) }
     ensures gate_passed { OnOk result ((k : ℕ) (job : W.Job) → slice_get jobs.items k ≡ Some job
         → PassedGate (G.passed gate.now) (min workers (length jobs.items)) (W.system_of job)) }
-    ensures at_once { OnOk result ((at_once.new ≡ 1)
-        ⊎ (at_once.new ≡ min workers (length jobs.items))) }
 {
-    let half = jobs.len() as u32 / 2;
-    let most = workers.number().min(jobs.len() as u32).max(1);
+    let number = jobs.len() as u32;
+    let most = workers.number().min(number).max(1);
     let run_out = AtomicBool::new(false);
     let (board, mut passes) = Board::<W>::new(alloc, jobs, most)?;
     let shared = Shared {
@@ -185,7 +184,7 @@ pub fn run_jobs<R: Threads + Sync, W: Runs + Send, G: Gate>(
         gate,
         run_out: &run_out,
     };
-    let own = work_from(rt, &shared, 0, *at_once, passes.as_mut_slice());
-    *at_once = if own <= half { most } else { 1 };
+    let own = work_from(rt, &shared, 0, habit.at_once, passes.as_mut_slice());
+    habit.learn(most, number, own);
     board.close(alloc, passes)
 }

@@ -13,6 +13,10 @@ set_at before j = slice_index_or before j no_set
 abbrev pub comes_before : List SystemSet → ℕ → ℕ → Bool
 comes_before before i j = has (set_at before j) i
 
+-- each system from which a path leads on is among the starts
+abbrev pub AreStarts : List SystemSet → SystemSet → Type 0
+AreStarts before starts = (i j : ℕ) → comes_before before i j ≡ true → has starts i ≡ true
+
 -- the sets are the paths of g
 abbrev pub ArePaths : Graph → List SystemSet → Type 0
 ArePaths g before = (i j : ℕ) → comes_before before i j ≡ path g i j

@@ -18,7 +18,7 @@ returns-clause-gate_passed g c = IfOk-weaker c.close.result _ _
     let board = c.in_ok-board.board in
     each_passed (g.G.Gate.passed c.args.gate.now) g.W.Runs.system_of board ended
     (min c.args.workers (length c.args.jobs.items))
-    (omega (arith, some, as_many, most, passes_are, c.len-2.ensures, c.max-most.ensures, c.min.ensures))
+    (omega (arith, some, as_many, most, passes_are, c.len-number.ensures, c.max-most.ensures, c.min.ensures))
     (subst (λ ps. HoldsEachOnce (length (jobs_of board)) (drawn_by ps)) all c.close.ensures.drawn_once)
     c.work_from-own.ensures.worked k job
     (subst (λ jobs. slice_get jobs k ≡ Some job) (sym c.in_ok-board.ensures.jobs) at))

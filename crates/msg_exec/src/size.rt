@@ -1,0 +1,30 @@
+// How much turns did.
+use crate::{Outcome, Turn};
+use msg_system::Reply;
+
+/// The messages that a reply tells of, and one for the reply.
+fn size_of_reply(reply: &Reply) -> u64 {
+    let messages = match reply {
+        Reply::Wrote(wrote) => wrote.n,
+        Reply::Read(took) => took.items.as_slice().len() as u64,
+        Reply::Forwarded { took, .. } => took.items.as_slice().len() as u64,
+        Reply::Summed { took, .. } => took.items.as_slice().len() as u64,
+        Reply::Drained { items, .. } => items.as_slice().len() as u64,
+        _ => 0,
+    };
+    messages.saturating_add(1)
+}
+
+/// How much these turns did, from turn `from` on: their replies, and the messages that these tell
+/// of.
+pub(crate) fn size_of_turns(turns: &[Turn], from: usize) -> u64 {
+    let mut size = 0u64;
+    for i in from..turns.len() {
+        if let Outcome::Ran(replies) = &turns[i].outcome {
+            for reply in replies.as_slice() {
+                size = size.saturating_add(size_of_reply(reply));
+            }
+        }
+    }
+    size
+}

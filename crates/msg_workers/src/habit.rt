@@ -1,0 +1,67 @@
+// Whether workers have paid, and how many to start at once.
+
+/// At most so many batches run in place between two tries.
+const LONGEST_PAUSE: u32 = 256;
+
+/// What the batches in one place of a frame have shown so far: whether the next of them goes over
+/// workers, and how many of these begin at once.
+///
+/// A batch over workers paid where others than the first worker ran at least a quarter of its jobs.
+/// Where it didn't, the first worker ran nearly all by the time that the others had started: so the
+/// next batch runs in place, and after each further try that doesn't pay twice as many do, at most
+/// 256. A try that pays ends that, and so does a batch in place that did more than twice as much as
+/// the one of the last try: then the next goes over workers. No result depends on it.
+#[derive(Clone, Copy, Debug)]
+pub struct Habit {
+    /// How many others the first worker starts before it runs a job.
+    pub(crate) at_once: u32,
+    /// How many batches run in place before workers are tried again.
+    in_place: u32,
+    /// How many ran in place before the last try; 0 where that paid.
+    pause: u32,
+    /// How much the batch of the last try did.
+    tried: u64,
+}
+
+impl Habit {
+    /// Nothing was tried yet: the next batch goes over workers, which start one another.
+    pub fn new() -> Habit {
+        Habit {
+            at_once: 1,
+            in_place: 0,
+            pause: 0,
+            tried: 0,
+        }
+    }
+
+    /// Whether the next batch goes over workers. Where it doesn't, it counts as one in place.
+    pub fn tries_next(&mut self) -> bool {
+        let tries = self.in_place == 0;
+        self.in_place = self.in_place.saturating_sub(1);
+        tries
+    }
+
+    /// Learns how much the batch did that was tried over workers.
+    pub fn did_over_workers(&mut self, size: u64) {
+        self.tried = size;
+    }
+
+    /// Learns how much the batch did that ran in place.
+    pub fn did_in_place(&mut self, size: u64) {
+        if size / 2 > self.tried {
+            self.in_place = 0;
+        }
+    }
+
+    /// Learns from a batch of so many jobs over so many workers, of which the first ran `own` jobs.
+    pub(crate) fn learn(&mut self, workers: u32, jobs: u32, own: u32) {
+        let others = jobs.saturating_sub(own);
+        self.at_once = if own <= jobs / 2 { workers } else { 1 };
+        self.pause = if others >= jobs.div_ceil(4) {
+            0
+        } else {
+            self.pause.saturating_mul(2).clamp(1, LONGEST_PAUSE)
+        };
+        self.in_place = self.pause;
+    }
+}
