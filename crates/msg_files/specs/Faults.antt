@@ -155,19 +155,18 @@ abbrev pub Reads : {A : Type 0} → Reading A → Reading A → Type 0
 Reads reading (Ok a) = reading ≡ Ok a
 Reads reading (Err e) = (e.reason ≡ reason.NoMemory) ⊎ (reading ≡ Err e)
 
--- a file is refused so: by the reason of its first fault
-abbrev pub IsRefused : {A : Type 0} → Reading A → Refusal → Type 0
-IsRefused (Ok a) r = ⊥
-IsRefused (Err e) r = r ≡ reason_refusal e.reason
+-- what has this fault is refused by its reason
+abbrev pub IsRefusedFor : (Fault → Type 0) → Refusal → Type 0
+IsRefusedFor has r = (e : Fault) × has e × (r ≡ reason_refusal e.reason)
 
 -- the bytes are no JSON text; or memory was refused
 abbrev pub IsUnread : List ℕ → FileFault → Type 0
 IsUnread bytes (file_fault.NotJson line column) = IsUtf8 bytes → read bytes ≡ None
 IsUnread bytes (file_fault.At e) = e.reason ≡ reason.NoMemory
 
--- Bytes have this fault: they are no JSON text; or they are the text of a value that has it; or
--- memory was refused.
-abbrev pub IsFaultOf : {A : Type 0} → (Data → Reading A) → List ℕ → FileFault → Type 0
-IsFaultOf reading bytes (file_fault.NotJson line column) = IsUtf8 bytes → read bytes ≡ None
-IsFaultOf reading bytes (file_fault.At e) = (e.reason ≡ reason.NoMemory)
-    ⊎ ((d : Data) × IsJsonOf bytes d × (reading d ≡ Err e))
+-- Bytes have this fault, if it is told which faults a value has: they are no JSON text; or they are
+-- the text of a value that has it; or memory was refused.
+abbrev pub IsFaultOf : (Data → Fault → Type 0) → List ℕ → FileFault → Type 0
+IsFaultOf has bytes (file_fault.NotJson line column) = IsUtf8 bytes → read bytes ≡ None
+IsFaultOf has bytes (file_fault.At e) = (e.reason ≡ reason.NoMemory)
+    ⊎ ((d : Data) × IsJsonOf bytes d × has d e)

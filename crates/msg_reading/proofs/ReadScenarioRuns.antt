@@ -3,7 +3,7 @@ use Rattle.std.proofs.Common.{◌≡◌, ℕ, ℤ, ◌+◌, ◌≤◌, ◌<◌, 
 use Rattle.std.proofs.lemmas.{Grind.common_steps, Result.IfOk-at_ok}
 use Rattle.serde_json.specs.{Data.Data, Data.number, Data.unsigned, Find.as_i64}
 use Rattle.msg_world.specs.Prelude.{HasPart, Part}
-use Rattle.msg_system.specs.Prelude.{HasClash, job_needs, needs_any, program_needs}
+use Rattle.msg_system.specs.Prelude.{job_needs, needs_any}
 use Rattle.msg_system.specs.{declared.condition.Condition.Condition, declared.op.Op.Op}
 use Rattle.msg_order.specs.Prelude.{IsAcyclic, NameSystemsBelow, edges_of}
 use Rattle.msg_frames.specs.declared.frame.Frame.{Frame}
@@ -12,7 +12,7 @@ use Rattle.msg_files.specs.declared.location.Key.TheVariants as key
 use Rattle.msg_files.specs.declared.location.Step.TheVariants as step
 use Rattle.msg_scenario_data.specs.{Prelude.IsRunnable, Prelude.fits_kind, declared.kind.Kind.Kind, declared.scenario.Scenario.Scenario, declared.scenario.SystemSpec.SystemSpec}
 use Rattle.msg_reading.specs.ScenarioFormat as Spec
-use Rattle.msg_reading.specs.Prelude.{Declared, frames_of, held_of, resources_of, rules_of, scenario_of, systems_of, types_of}
+use Rattle.msg_reading.specs.Prelude.{Declared, NoneClash, frames_of, held_of, resources_of, rules_of, scenario_of, systems_of, types_of}
 use Rattle.msg_reading.proofs.FitsOfReadings.{in_then, list_fits, of_found, of_wanted, within}
 use Rattle.msg_reading.proofs.WhatIsUsedIsThere.{ConditionFits, HasNames, IsBelow, OpFits, condition_fits, job_fits, op_fits, post_fits, rule_fits}
 
@@ -165,7 +165,7 @@ module _ (t r n : ℕ) where
 pub record IsWhole (s : Scenario) : Type 0 where
   pub few_systems : length s.systems ≤ 256
   pub rules_in_range : NameSystemsBelow (length s.systems) s.rules
-  pub runnable : All (λ x. ¬ HasClash (program_needs x.program.ops)) s.systems → IsAcyclic (edges_of s.rules)
+  pub runnable : NoneClash s.systems → IsAcyclic (edges_of s.rules)
       → IsRunnable s
 
 in_turn_whole : (types systems frames d : Data) → IfOk (Spec.in_turn types systems frames d) IsWhole

@@ -3,28 +3,29 @@ use Rattle.std.specs.Prelude.{◌≡◌, ◌⊎◌, ℕ, All, List, Some, Ok, Er
 use Rattle.serde_json.specs.Data.{Data}
 use Rattle.msg_order.specs.Prelude.{IsAcyclic, IsLowestOnCycle, edges_of}
 use Rattle.msg_system.specs.Prelude.{HasClash, program_needs}
-use Rattle.msg_files.specs.Prelude.{IsJsonOf, IsUnread, fault, here, reason_refusal}
+use Rattle.msg_files.specs.Prelude.{fault, here}
 use Rattle.msg_files.specs.declared.fault.Fault.{Fault}
-use Rattle.msg_files.specs.declared.file_fault.FileFault.{FileFault}
-use Rattle.msg_files.specs.declared.file_fault.FileFault.TheVariants as file_fault
 use Rattle.msg_files.specs.declared.location.Key.TheVariants as key
 use Rattle.msg_files.specs.declared.reason.Reason.{Reason}
 use Rattle.msg_files.specs.declared.reason.Reason.TheVariants as reason
-use Rattle.msg_files.specs.declared.refusal.Refusal.{Refusal}
 use Rattle.msg_reading.specs.ScenarioFormat.{scenario_of}
 use Rattle.msg_scenario_data.specs.{declared.scenario.Scenario.Scenario, declared.scenario.SystemSpec.SystemSpec}
+
+-- no program of these systems reads and writes one type
+abbrev pub NoneClash : List SystemSpec → Type 0
+NoneClash systems = All (λ x. ¬ HasClash (program_needs x.program.ops)) systems
 
 -- s is the lowest system whose program reads and writes one type
 pub record IsLowestClashing (systems : List SystemSpec) (s : ℕ) : Type 0 where
   pub system : SystemSpec
   pub is : slice_get systems s ≡ Some system
   pub clash : HasClash (program_needs system.program.ops)
-  pub lowest : All (λ x. ¬ HasClash (program_needs x.program.ops)) (take s systems)
+  pub lowest : NoneClash (take s systems)
 
 -- the value is read as a scenario whose programs don't clash, and whose rules make no cycle
 pub record IsReadAs (d : Data) (scenario : Scenario) : Type 0 where
   pub denotes : scenario_of d ≡ Ok scenario
-  pub no_clash : All (λ x. ¬ HasClash (program_needs x.program.ops)) scenario.systems
+  pub no_clash : NoneClash scenario.systems
   pub acyclic : IsAcyclic (edges_of scenario.rules)
 
 -- a clash of a system is a fault of that system, and a cycle one of the rules
@@ -44,8 +45,7 @@ unfit why = fault why
 abbrev pub IsUnfit : Scenario → Reason → Type 0
 IsUnfit scenario (reason.Clash s) = IsLowestClashing scenario.systems s
 IsUnfit scenario (reason.Cycle s) =
-    All (λ x. ¬ HasClash (program_needs x.program.ops)) scenario.systems
-    × IsLowestOnCycle (edges_of scenario.rules) s
+    NoneClash scenario.systems × IsLowestOnCycle (edges_of scenario.rules) s
 IsUnfit scenario _ = ⊥
 
 -- a value has this fault: its first one as it is read, or else that of the scenario that it is
@@ -53,15 +53,3 @@ abbrev pub HasFault : Data → Fault → Type 0
 HasFault d e = (scenario_of d ≡ Err e)
     ⊎ ((scenario : Scenario) × (scenario_of d ≡ Ok scenario) × (e ≡ unfit e.reason)
     × IsUnfit scenario e.reason)
-
--- a value is refused for the reason of its fault
-abbrev pub IsRefusedFor : Data → Refusal → Type 0
-IsRefusedFor d refusal = (e : Fault) × HasFault d e × (refusal ≡ reason_refusal e.reason)
-
--- Bytes have this fault: they are no JSON text; or they are the text of a value that has it; or
--- memory was refused.
-abbrev pub IsScenarioFault : List ℕ → FileFault → Type 0
-IsScenarioFault bytes (file_fault.NotJson line column) =
-    IsUnread bytes (file_fault.NotJson line column)
-IsScenarioFault bytes (file_fault.At e) = (e.reason ≡ reason.NoMemory)
-    ⊎ ((d : Data) × IsJsonOf bytes d × HasFault d e)

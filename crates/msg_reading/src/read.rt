@@ -1,9 +1,9 @@
 // A scenario from the bytes of a JSON text.
 ghost use Rattle.std.specs.Prelude.{◌≡◌, ◌≢◌, ◌⊎◌, None, Err, IfOk, IfErr, IsUtf8};
 ghost use Rattle.serde_json.specs.{Data.Data, Read.read, View.view};
-ghost use Rattle.msg_files.specs.Prelude.{IsJsonOf, IsUnread};
+ghost use Rattle.msg_files.specs.Prelude.{IsFaultOf, IsJsonOf, IsRefusedFor};
 ghost use Rattle.msg_files.specs.declared.reason.Reason.TheVariants.{NoMemory as NoRoom};
-ghost use Rattle.msg_reading.specs.Prelude.{HasFault, IsReadAs, IsRefusedFor, IsScenarioFault};
+ghost use Rattle.msg_reading.specs.Prelude.{HasFault, IsReadAs};
 ghost use Rattle.msg_scenario_data.specs.Prelude.{IsRunnable};
 
 use crate::{Fault, FileFault, Refusal, Scenario};
@@ -38,7 +38,7 @@ pub fn read_scenario(alloc: Global, bytes: &[u8]) -> Result<Scenario, Refusal>
     ensures not_json { result ≡ Err Refusal.NotJson → IsUtf8 bytes.now → read bytes.now ≡ None }
     ensures refused { IfErr result (λ refusal.
         refusal ≢ Refusal.NotJson → refusal ≢ Refusal.NoMemory
-        → (d : Data) × IsJsonOf bytes.now d × IsRefusedFor d refusal) }
+        → (d : Data) × IsJsonOf bytes.now d × IsRefusedFor (HasFault d) refusal) }
 {
     match check_scenario(alloc, bytes) {
         Ok(scenario) => Ok(scenario),
@@ -55,7 +55,7 @@ pub fn check_scenario(alloc: Global, bytes: &[u8]) -> Result<Scenario, FileFault
     ensures ok { IfOk result (λ scenario.
         (d : Data) × IsJsonOf bytes.now d × IsReadAs d scenario) }
     ensures runnable { IfOk result IsRunnable }
-    ensures fault { IfErr result (IsScenarioFault bytes.now) }
+    ensures fault { IfErr result (IsFaultOf HasFault bytes.now) }
 {
     let value = parse(alloc, bytes)?;
     Ok(read_value(alloc, &value)?)

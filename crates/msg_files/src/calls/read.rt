@@ -1,7 +1,7 @@
 // A calls file, read from the bytes of a JSON text.
 ghost use Rattle.std.specs.Prelude.{◌≡◌, ◌≢◌, None, Ok, Err, IfOk, IfErr, IsUtf8};
 ghost use Rattle.serde_json.specs.{Data.Data, Read.read};
-ghost use Rattle.msg_files.specs.Prelude.{IsFaultOf, IsJsonOf, IsRefused, file_of};
+ghost use Rattle.msg_files.specs.Prelude.{IsFaultOf, IsJsonOf, IsRefusedFor, file_of};
 
 use crate::calls::Calls;
 use crate::file_fault::FileFault;
@@ -19,7 +19,7 @@ pub fn read_calls(alloc: Global, bytes: &[u8]) -> Result<Calls, Refusal>
     ensures not_json { result ≡ Err Refusal.NotJson → IsUtf8 bytes.now → read bytes.now ≡ None }
     ensures refused { IfErr result (λ refusal.
         refusal ≢ Refusal.NotJson → refusal ≢ Refusal.NoMemory
-        → (d : Data) × IsJsonOf bytes.now d × IsRefused (file_of d) refusal) }
+        → (d : Data) × IsJsonOf bytes.now d × IsRefusedFor (λ e. file_of d ≡ Err e) refusal) }
 {
     match check_calls(alloc, bytes) {
         Ok(calls) => Ok(calls),
@@ -30,7 +30,7 @@ pub fn read_calls(alloc: Global, bytes: &[u8]) -> Result<Calls, Refusal>
 /// The calls file that the bytes are a JSON text of, or the first fault in reading order.
 pub fn check_calls(alloc: Global, bytes: &[u8]) -> Result<Calls, FileFault>
     ensures ok { IfOk result (λ file. (d : Data) × IsJsonOf bytes.now d × (file_of d ≡ Ok file)) }
-    ensures fault { IfErr result (IsFaultOf file_of bytes.now) }
+    ensures fault { IfErr result (IsFaultOf (λ d e. file_of d ≡ Err e) bytes.now) }
 {
     let value = parse(alloc, bytes)?;
     Ok(file::read_file(alloc, &value)?)

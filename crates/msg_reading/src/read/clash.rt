@@ -1,7 +1,6 @@
 // Whether a system's program clashes with itself.
-ghost use Rattle.std.specs.Prelude.{◌≡◌, ◌≤◌, ℕ, All, Err, IfErr, OnOk, length};
-ghost use Rattle.msg_system.specs.Prelude.{HasClash, program_needs};
-ghost use Rattle.msg_reading.specs.Prelude.{IsLowestClashing, unfit};
+ghost use Rattle.std.specs.Prelude.{◌≡◌, ◌≤◌, ℕ, Err, IfErr, OnOk, length};
+ghost use Rattle.msg_reading.specs.Prelude.{IsLowestClashing, NoneClash, unfit};
 ghost use Rattle.msg_files.specs.declared.reason.Reason.TheVariants.{Clash};
 
 use crate::{Fault, SystemSpec};
@@ -13,8 +12,7 @@ use msg_scenario_data::MAX_SYSTEMS;
 /// program does.
 pub fn check_clashes(systems: &[SystemSpec]) -> Result<(), Fault>
     requires few { length systems.now ≤ MAX_SYSTEMS }
-    ensures passed { OnOk result
-        (All (λ x. ¬ HasClash (program_needs x.program.ops)) systems.now) }
+    ensures passed { OnOk result (NoneClash systems.now) }
     ensures refused { IfErr result (λ e. (s : ℕ) × (e ≡ unfit (Clash s))
         × IsLowestClashing systems.now s) }
 {
