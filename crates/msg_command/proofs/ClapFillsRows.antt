@@ -3,7 +3,7 @@ use Rattle.std.proofs.Common.{arith, ◌≡◌, ℕ, zero, suc, length, List, []
 use Rattle.std.specs.{Str.bytes_eq, Str.chars, List.list_all, Option.option_map_or}
 use Rattle.clap.specs.{Words.Row, Words.Rule, Words.Text, Words.Shape, Words.first_of, Facts.unwrap_or_range, Lexer.long_of, Lexer.short_of, Simple.built_leaf, Simple.filled, Simple.help_rule, Simple.with_index, Walk.Step, Walk.has_long, Walk.has_short, Walk.bundle, Walk.reading_by, Walk.after_step, Walk.nothing_held, Walk.rows_after, Walk.walk, Walk.walk_from, Walk.Held, Walk.Names, Walk.Outcome, Walk.Waiting, Walk.Walk, Walk.done, Walk.plain, Walk.action_of, Walk.after_flag, Walk.arg_by_id, Walk.arg_by_long, Walk.arg_by_short, Walk.attached_value, Walk.bundle_met, Walk.bundle_step, Walk.has_row, Walk.long_met, Walk.long_or_other, Walk.option_met, Walk.reacted, Walk.settled, Walk.settled_rows, Walk.short_met, Walk.short_or_plain, Walk.used, Walk.used_by_id, Walk.walked, Walk.with_default, Walk.with_values, Walk.without, Walk.word_met, Takes.is_valid, Takes.default_passes, Takes.bundle_passes, Takes.bundle_step_passes, Takes.flag_word_passes, Takes.flags_pass, Takes.is_given, Takes.level_passes, Takes.long_passes, Takes.option_passes, Takes.react_passes, Takes.settle_passes, Takes.short_passes, Takes.step_passes, Takes.turn_passes, Takes.use_passes, Takes.walk_passes, Takes.word_passes, declared.parser.matches.ValueSource.ValueSource, declared.parser.matches.ValueSource.TheVariants.DefaultValue, declared.parser.matches.ValueSource.TheVariants.CommandLine, declared.builder.value_parser.Reading.Reading, declared.builder.ArgAction.TheVariants.Set, declared.builder.ArgAction.TheVariants.Help}
 use Rattle.clap.proofs.OnLiterals.{clap_on_literals}
-use Rattle.msg_command.specs.Prelude.{buffer_app, file_rule, run_app, workers_rule}
+use Rattle.msg_command.specs.Prelude.{file_app, file_rule, run_app, workers_rule}
 use Rattle.std.proofs.lemmas.Bool.{and_from, and_parts}
 
 -- ---- rows
@@ -242,22 +242,23 @@ workers_built = with_index 2 (filled workers_rule)
 abbrev help_built : Rule
 help_built = with_index 2 (filled help_rule)
 
--- ---- buffer FILE
+-- ---- a subcommand of one FILE
 
-abbrev pub buffer_shape : Shape
-buffer_shape = built_leaf buffer_app.top
+abbrev pub file_shape : Text → Shape
+file_shape name = built_leaf (file_app name).top
 
-buffer_valued : EachValued buffer_shape.rules
+file_valued : (name : Text) → EachValued (file_shape name).rules
 unfolding clap_on_literals
-buffer_valued = (set_valued file_built refl refl, (help_valued help_built refl, tt))
+file_valued name = (set_valued file_built refl refl, (help_valued help_built refl, tt))
 
--- `buffer` takes words only with a FILE
-pub buffer_given : (words : List Text) → level_passes buffer_shape [] nothing_held words false ≡ true
-    → (file : Text) × (first_of (codes "FILE") (rows_after buffer_shape.rules [] words) ≡ Some file)
+-- it takes words only with a FILE
+pub file_given : (name : Text) (words : List Text)
+    → level_passes (file_shape name) [] nothing_held words false ≡ true
+    → (file : Text) × (first_of (codes "FILE") (rows_after (file_shape name).rules [] words) ≡ Some file)
 unfolding clap_on_literals
-buffer_given words passes =
-    let rows = rows_after buffer_shape.rules [] words in
-    let are = valued_rows buffer_shape words buffer_valued passes in
+file_given name words passes =
+    let rows = rows_after (file_shape name).rules [] words in
+    let are = valued_rows (file_shape name) words (file_valued name) passes in
     let given = (and_parts (is_given (codes "FILE") rows) _ are.1).0 in
     first_there (codes "FILE") rows are.0 (grind (arith, given))
 

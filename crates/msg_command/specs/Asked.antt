@@ -3,20 +3,22 @@ use Rattle.std.specs.Prelude.{◌≡◌, ◌≢◌, ◌⊎◌, ℕ, [], ◌<◌,
 use Rattle.std.specs.{Char.digit_value, List.list_all, Str.bytes_eq, Str.Parse.digits_value, Str.Parse.without_leading_plus}
 use Rattle.clap.specs.{Words.IsAmong, Words.Kinds, Words.Row, Words.Text, Words.first_of, Words.subcommand_of, declared.error.ErrorKind.ErrorKind}
 use Rattle.clap.specs.declared.error.ErrorKind.TheVariants as kind
-use Rattle.msg_command.specs.{CommandLine.msgrun_app, declared.words.Action.Action, declared.words.Action.TheVariants.Buffer, declared.words.Action.TheVariants.Run, declared.words.WordFault.WordFault}
+use Rattle.msg_command.specs.{CommandLine.msgrun_app, declared.words.Action.Action, declared.words.Action.TheVariants.Buffer, declared.words.Action.TheVariants.Run, declared.words.Action.TheVariants.Check, declared.words.WordFault.WordFault}
 use Rattle.msg_command.specs.declared.words.WordFault.TheVariants as word
 
--- a request: to answer the calls file of a name, or of standard input; or to run the scenario file
--- of a name on so many workers
+-- a request: to answer the calls file of a name, or of standard input; to run the scenario file of
+-- a name on so many workers; or to check the file of a name
 pub data Request : Type 0 where
   buffer : Option Text → Request
   run : Text → ℕ → Request
+  check : Text → Request
 
 -- the request that an action stands for
 abbrev pub request_of : Action → Request
 request_of (Buffer None) = buffer None
 request_of (Buffer (Some file)) = buffer (Some (string_bytes file))
 request_of (Run file workers) = run (string_bytes file) workers
+request_of (Check file) = check (string_bytes file)
 
 -- one decimal digit or more, and nothing else
 abbrev pub is_numeral : Text → Bool
@@ -39,15 +41,17 @@ run_asked (Some file) (Some workers) = Some (run file workers)
 run_asked (Some file) None = None
 run_asked None workers = None
 
--- without a subcommand, standard input; with the subcommand `buffer`, its FILE; with `run`, its
--- FILE and N
+-- without a subcommand, standard input; with the subcommand `buffer` or `check`, its FILE; with
+-- `run`, its FILE and N
 abbrev pub asked_by : Option (Text × List Row) → Option Request
 asked_by None = Some (buffer None)
 asked_by (Some (name, rows)) =
     if bytes_eq name (codes "buffer")
     then option_map (λ file. buffer (Some file)) (first_of (codes "FILE") rows)
     else (if bytes_eq name (codes "run")
-    then run_asked (first_of (codes "FILE") rows) (workers_asked rows) else None)
+    then run_asked (first_of (codes "FILE") rows) (workers_asked rows)
+    else (if bytes_eq name (codes "check")
+    then option_map (λ file. check file) (first_of (codes "FILE") rows) else None))
 
 -- what the words ask for, by the subcommand that clap finds in them
 abbrev pub asked : List Text → Option Request
@@ -72,3 +76,4 @@ IsToldOf kinds word.NoMemory = Unit {0}
 abbrev pub IsInRange : Action → Type 0
 IsInRange (Buffer file) = Unit {0}
 IsInRange (Run file workers) = (0 < workers) × (workers ≤ 64)
+IsInRange (Check file) = Unit {0}

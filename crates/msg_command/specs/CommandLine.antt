@@ -1,4 +1,5 @@
--- The command line: `msgrun`, `msgrun buffer FILE`, or `msgrun run FILE --workers N`.
+-- The command line: `msgrun`, `msgrun buffer FILE`, `msgrun run FILE --workers N`, or
+-- `msgrun check FILE`.
 use Rattle.std.specs.Prelude.{Some, List, [], ◌∷◌, String, codes, map, string_bytes, true}
 use Rattle.std.specs.declared.alloc.Global.{Global}
 use Rattle.clap.specs.{Words.App, Words.Rule, Words.Text, Words.new_app, Words.new_rule, Words.with_rule, Words.with_subcommand, declared.builder.ArgAction.TheVariants.Set}
@@ -16,13 +17,21 @@ workers_rule = record (new_rule (codes "workers")) {
   defaults = codes "1" ∷ [];
 }
 
+-- a subcommand of this name with its FILE
+abbrev pub file_app : Text → App
+file_app name = with_rule (new_app name) file_rule
+
 -- buffer FILE
 abbrev pub buffer_app : App
-buffer_app = with_rule (new_app (codes "buffer")) file_rule
+buffer_app = file_app (codes "buffer")
 
 -- run FILE --workers N
 abbrev pub run_app : App
-run_app = with_rule (with_rule (new_app (codes "run")) file_rule) workers_rule
+run_app = with_rule (file_app (codes "run")) workers_rule
+
+-- check FILE
+abbrev pub check_app : App
+check_app = file_app (codes "check")
 
 -- a command whose words don't begin with the program's own name
 abbrev pub bare_app : App
@@ -33,6 +42,10 @@ bare_app =
 abbrev pub texts_of : List (String Global) → List Text
 texts_of words = map string_bytes words
 
+-- the command with the subcommands that answer calls or run frames
+abbrev pub running_app : App
+running_app = with_subcommand (with_subcommand bare_app buffer_app.top) run_app.top
+
 -- the whole command: nothing, or one of the subcommands
 abbrev pub msgrun_app : App
-msgrun_app = with_subcommand (with_subcommand bare_app buffer_app.top) run_app.top
+msgrun_app = with_subcommand running_app check_app.top

@@ -6,7 +6,7 @@ use thiserror::Error;
 
 mod print;
 
-pub use print::print_fault;
+pub use print::{print_fault, refusal_line};
 
 /// What ended the program.
 #[derive(Debug, Drop, Error)]
@@ -20,7 +20,10 @@ pub enum MainFault {
     /// The file was refused.
     #[error("refused {0}")]
     Refused(#[from] Refusal),
-    /// No engine was made of a scenario, for want of memory.
+    /// The file that was to be checked was refused, and these lines tell where and why.
+    #[error("refused")]
+    Told(Vec<u8>),
+    /// Memory was refused while an engine was made of a scenario, or while a file was checked.
     #[error("want of memory")]
     Built,
     /// The answers or the report weren't printed to their end.

@@ -5,6 +5,6 @@ mod fault;
 mod input;
 mod words;
 
-pub use fault::{MainFault, print_fault};
+pub use fault::{MainFault, print_fault, refusal_line};
 pub use input::{InputFault, MAX_BYTES, read_all};
 pub use words::{Action, WordFault, parse_words};

@@ -13,6 +13,8 @@ pub enum Action {
     Buffer(Option<String>),
     /// Run the scenario file of this name on 1 to 64 workers.
     Run { file: String, workers: u32 },
+    /// Check the scenario file or calls file of this name.
+    Check(String),
 }
 
 /// Why the words give no action.

@@ -1,6 +1,7 @@
 -- reading a file: lists of JSON values, element by element
 pub mod WalksOverLists
 pub mod FaultsOfFiles
+pub mod KeysInOrder
 -- its calls, one after another, and their text
 pub mod ItemsInLines
 pub mod Digits

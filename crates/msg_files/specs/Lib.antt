@@ -7,4 +7,5 @@ pub mod Sinks
 pub mod Cursors
 pub mod CallsFormat
 pub mod CallsText
+pub mod Told
 pub mod inner

@@ -7,6 +7,7 @@ pub use Rattle.msg_files.specs.Json.{IsJsonOf, Text, elements, is_list, is_list_
 pub use Rattle.msg_files.specs.Seen.{head_seen, items_seen, number_seen, text_seen, value_seen}
 pub use Rattle.msg_files.specs.Values.{at_key, batch_of, below, headed, known_keys, limit, limit_of, list_up_to, natural, number_of, numbers_of, text_of as text_in, value_of, values_from, values_of, whole}
 pub use Rattle.msg_files.specs.Sinks.{AppendsAtLeast, AppendsPrefix, TakesUnlessFailed, failures_after, one_failure_more}
+pub use Rattle.msg_files.specs.Told.{told}
 pub use Rattle.msg_files.specs.declared.call.Call.{Call}
 pub use Rattle.msg_files.specs.declared.call.Call.TheVariants.{Batch, Clear, ClearAll, Count, Current, Cursor, CursorCurrent, Drain, Get, Len, Missed, Oldest, Read, Total, Update, Write}
 pub use Rattle.msg_files.specs.declared.refusal.Refusal.{Refusal}

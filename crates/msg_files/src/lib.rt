@@ -18,6 +18,7 @@ mod refusal;
 mod report_fault;
 mod sink;
 mod std_sink;
+mod told;
 
 pub use call::Call;
 pub use calls::{Calls, check_calls, read_calls, run_calls};
@@ -33,3 +34,4 @@ pub use refusal::Refusal;
 pub use report_fault::ReportFault;
 pub use sink::{PutFault, Sink, put_all, put_text};
 pub use std_sink::StdSink;
+pub use told::add_told;

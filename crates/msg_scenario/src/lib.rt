@@ -4,7 +4,7 @@
 
 pub use msg_files::{
     Call, Calls, Fault, FileFault, Key, Location, MemorySink, PutFault, ROOM, Reason, Refusal,
-    ReportFault, Sink, StdSink, Step, check_calls, put_all, read_calls, run_calls,
+    ReportFault, Sink, StdSink, Step, add_told, check_calls, put_all, read_calls, run_calls,
 };
 pub use msg_reading::{check_scenario, read_scenario};
 pub use msg_reports::{add_system, engine_of, report, run_scenario};

@@ -1,9 +1,9 @@
 //! Runs a scenario file, and reports what its systems were answered and what each reader got,
 //! missed and cleared; or answers a calls file: the calls of one message buffer and its cursors, a
-//! line for each.
+//! line for each; or checks a file, and tells where and why it is refused.
 //!
 //! `msgrun run FILE --workers N` runs a scenario, `msgrun buffer FILE` answers calls, and `msgrun`
-//! alone those of standard input.
+//! alone those of standard input; `msgrun check FILE` runs nothing.
 #![tactic(auto)]
 
 ghost use Rattle.std.specs.Prelude.{◌≡◌, ◌<◌, ◌≤◌};
@@ -11,11 +11,13 @@ ghost use Rattle.msgrun.specs.Prelude.{status_after};
 
 mod boxes;
 mod building;
+mod checking;
 
 use boxes::{as_main_fault, run_in_boxes};
+use checking::check;
 use msg_command::{Action, InputFault, MainFault, WordFault, parse_words, print_fault, read_all};
 use msg_exec::Workers;
-use msg_files::{StdSink, put_all, read_calls, run_calls};
+use msg_files::{StdSink, put_all, put_text, read_calls, run_calls};
 use msg_reading::read_scenario;
 use std::env::Env;
 use std::fs::Files;
@@ -37,6 +39,7 @@ fn run<R: AllocGlobal + Env + Files + Input + Print + Sync + Threads>(
     match parse_words(rt.alloc(), words.as_slice())? {
         Action::Buffer(file) => answer_calls(rt, file),
         Action::Run { file, workers } => answer_scenario(rt, file, workers),
+        Action::Check(file) => check_file(rt, file),
     }
 }
 
@@ -79,6 +82,16 @@ fn answer_scenario<R: AllocGlobal + Files + Input + Print + Sync + Threads>(
     let scenario = read_scenario(rt.alloc(), bytes.as_slice())?;
     let mut output = StdSink::new(io::writer(rt));
     as_main_fault(run_in_boxes(rt, rt.alloc(), &scenario, workers, &mut output))
+}
+
+/// Checks a file, and puts its counts on standard output.
+fn check_file<R: AllocGlobal + Files + Input + Print>(
+    rt: &R,
+    file: String,
+) -> Result<(), MainFault> {
+    let bytes = bytes_of(rt, Some(file))?;
+    let text = check(rt.alloc(), bytes.as_slice())?;
+    Ok(put_text(text.as_slice(), &mut StdSink::new(io::writer(rt)))?)
 }
 
 /// All bytes of a file, or of standard input.

@@ -1,6 +1,6 @@
 ghost use Rattle.std.specs.Prelude.{◌≡◌};
 ghost use Rattle.msg_files.specs.Prelude.{TakesUnlessFailed};
-ghost use Rattle.msg_command.specs.Prelude.{line_of, status_of};
+ghost use Rattle.msg_command.specs.Prelude.{line_of, refusal_line, status_of};
 
 use crate::fault::MainFault;
 use crate::{InputFault, WordFault};
@@ -17,7 +17,7 @@ pub fn print_fault<S: Sink>(fault: &MainFault, sink: &mut S) -> u8
     status_of(fault)
 }
 
-fn line_of(fault: &MainFault) -> &'static [u8]
+fn line_of(fault: &MainFault) -> &[u8]
     ensures { result.now ≡ line_of fault.now }
 {
     match fault {
@@ -27,17 +27,8 @@ fn line_of(fault: &MainFault) -> &'static [u8]
         MainFault::Input(InputFault::Failed) => b"msgrun: cannot read input\n",
         MainFault::Input(InputFault::TooLarge) => b"msgrun: input too large\n",
         MainFault::Input(InputFault::NoMemory) => b"msgrun: want of memory\n",
-        MainFault::Refused(Refusal::NotJson) => b"msgrun: refused 1 NotJson\n",
-        MainFault::Refused(Refusal::Shape) => b"msgrun: refused 2 Shape\n",
-        MainFault::Refused(Refusal::UnknownKey) => b"msgrun: refused 3 UnknownKey\n",
-        MainFault::Refused(Refusal::BadName) => b"msgrun: refused 4 BadName\n",
-        MainFault::Refused(Refusal::TwiceNamed) => b"msgrun: refused 5 TwiceNamed\n",
-        MainFault::Refused(Refusal::BadNumber) => b"msgrun: refused 6 BadNumber\n",
-        MainFault::Refused(Refusal::TooMany) => b"msgrun: refused 7 TooMany\n",
-        MainFault::Refused(Refusal::UnknownName) => b"msgrun: refused 8 UnknownName\n",
-        MainFault::Refused(Refusal::Clash(_)) => b"msgrun: refused 9 Clash\n",
-        MainFault::Refused(Refusal::Cycle(_)) => b"msgrun: refused 10 Cycle\n",
-        MainFault::Refused(Refusal::NoMemory) => b"msgrun: want of memory\n",
+        MainFault::Refused(refusal) => refusal_line(*refusal),
+        MainFault::Told(text) => text.as_slice(),
         MainFault::Built => b"msgrun: want of memory\n",
         MainFault::Report(ReportFault::Run(RunFault::Spoiled)) => b"msgrun: run fault 1 Spoiled\n",
         MainFault::Report(ReportFault::Run(RunFault::BadOrder)) => {
@@ -51,6 +42,25 @@ fn line_of(fault: &MainFault) -> &'static [u8]
     }
 }
 
+/// The line of a refusal.
+pub fn refusal_line(refusal: Refusal) -> &'static [u8]
+    ensures line { result.now ≡ refusal_line refusal }
+{
+    match refusal {
+        Refusal::NotJson => b"msgrun: refused 1 NotJson\n",
+        Refusal::Shape => b"msgrun: refused 2 Shape\n",
+        Refusal::UnknownKey => b"msgrun: refused 3 UnknownKey\n",
+        Refusal::BadName => b"msgrun: refused 4 BadName\n",
+        Refusal::TwiceNamed => b"msgrun: refused 5 TwiceNamed\n",
+        Refusal::BadNumber => b"msgrun: refused 6 BadNumber\n",
+        Refusal::TooMany => b"msgrun: refused 7 TooMany\n",
+        Refusal::UnknownName => b"msgrun: refused 8 UnknownName\n",
+        Refusal::Clash(_) => b"msgrun: refused 9 Clash\n",
+        Refusal::Cycle(_) => b"msgrun: refused 10 Cycle\n",
+        Refusal::NoMemory => b"msgrun: want of memory\n",
+    }
+}
+
 fn status_of(fault: &MainFault) -> u8
     ensures { result ≡ status_of fault.now }
 {
@@ -60,6 +70,7 @@ fn status_of(fault: &MainFault) -> u8
         MainFault::Input(InputFault::TooLarge) => 2,
         MainFault::Refused(Refusal::NoMemory) => 1,
         MainFault::Refused(_) => 2,
+        MainFault::Told(_) => 2,
         _ => 1,
     }
 }

@@ -1,7 +1,7 @@
 // The command line, as `clap` is told of it.
 ghost use Rattle.std.specs.Prelude.{◌≡◌, ◌≢◌, [], IfOk, IfErr, OnOk, false, true};
 ghost use Rattle.clap.specs.{Words.app_of, Words.rule_of, Words.fault_of, Words.takes, Words.subcommand_of, Words.subcommand_rows_of, Words.kind_of, declared.Command.out-Command as fields_of, declared.error.ErrorKind.TheVariants.DisplayHelp, declared.error.ErrorKind.TheVariants.OutOfMemory};
-ghost use Rattle.msg_command.specs.Prelude.{IsHelp, IsToldOf, buffer_app, file_rule, msgrun_app, run_app, texts_of, workers_rule};
+ghost use Rattle.msg_command.specs.Prelude.{IsHelp, IsToldOf, buffer_app, check_app, file_app, file_rule, msgrun_app, run_app, running_app, texts_of, workers_rule};
 
 use crate::words::{WordFault, help};
 use clap::error::ErrorKind;
@@ -38,11 +38,19 @@ fn with_texts<'a>(command: Command<'a>, about: &'a str, more: &'a str) -> Comman
     command.about(about).after_help(more)
 }
 
+/// A subcommand of one file.
+fn file_command<'a>(alloc: Global, name: &'a str, what: &'a str) -> Result<Command<'a>, AllocError>
+    ensures app { IfOk result (λ c. app_of c ≡ file_app name.now) }
+    ensures local { IfOk result (λ c. (fields_of c).has_globals ≡ false) }
+{
+    Command::new(alloc, name).arg(file_arg(alloc, what))
+}
+
 fn buffer_command<'a>(alloc: Global) -> Result<Command<'a>, AllocError>
     ensures app { IfOk result (λ c. app_of c ≡ buffer_app) }
     ensures local { IfOk result (λ c. (fields_of c).has_globals ≡ false) }
 {
-    let command = Command::new(alloc, "buffer").arg(file_arg(alloc, "The calls file"))?;
+    let command = file_command(alloc, "buffer", "The calls file")?;
     Ok(with_texts(command, "Answers the calls file FILE", help::BUFFER))
 }
 
@@ -50,8 +58,7 @@ fn run_command<'a>(alloc: Global) -> Result<Command<'a>, AllocError>
     ensures app { IfOk result (λ c. app_of c ≡ run_app) }
     ensures local { IfOk result (λ c. (fields_of c).has_globals ≡ false) }
 {
-    let one = Command::new(alloc, "run").arg(file_arg(alloc, "The scenario file"))?;
-    let command = one.arg(workers_arg(alloc))?;
+    let command = file_command(alloc, "run", "The scenario file")?.arg(workers_arg(alloc))?;
     Ok(with_texts(
         command,
         "Runs the scenario file FILE, and reports",
@@ -59,8 +66,21 @@ fn run_command<'a>(alloc: Global) -> Result<Command<'a>, AllocError>
     ))
 }
 
-fn command<'a>(alloc: Global) -> Result<Command<'a>, AllocError>
-    ensures app { IfOk result (λ c. app_of c ≡ msgrun_app) }
+fn check_command<'a>(alloc: Global) -> Result<Command<'a>, AllocError>
+    ensures app { IfOk result (λ c. app_of c ≡ check_app) }
+    ensures local { IfOk result (λ c. (fields_of c).has_globals ≡ false) }
+{
+    let command = file_command(alloc, "check", "The scenario file or calls file")?;
+    Ok(with_texts(
+        command,
+        "Checks the file FILE, and says where and why it is refused",
+        help::CHECK,
+    ))
+}
+
+/// The command with the subcommands that answer calls or run frames.
+fn running_command<'a>(alloc: Global) -> Result<Command<'a>, AllocError>
+    ensures app { IfOk result (λ c. app_of c ≡ running_app) }
     ensures local { IfOk result (λ c. (fields_of c).has_globals ≡ false) }
 {
     let buffer = buffer_command(alloc)?;
@@ -74,6 +94,14 @@ fn command<'a>(alloc: Global) -> Result<Command<'a>, AllocError>
     );
     let command = command.subcommand(buffer)?;
     command.subcommand(run)
+}
+
+fn command<'a>(alloc: Global) -> Result<Command<'a>, AllocError>
+    ensures app { IfOk result (λ c. app_of c ≡ msgrun_app) }
+    ensures local { IfOk result (λ c. (fields_of c).has_globals ≡ false) }
+{
+    let check = check_command(alloc)?;
+    running_command(alloc)?.subcommand(check)
 }
 
 fn fault(alloc: Global, error: clap::Error) -> WordFault

@@ -39,3 +39,14 @@ Each frame is told, and at the end what each reader got, missed and cleared:
 A file may also have resources and held updates, and a system a kind, conditions (if), a
 frame to join with and a start. The ops: write, batch, read, len, missed, clear, forward,
 sum, get, set, add, drain, signal. docs/FORMATS.md describes all of it.";
+
+pub(crate) const CHECK: &str = "\
+FILE is read as `msgrun run` reads it; or, if it is an object with the key calls, as `msgrun
+buffer` does. Nothing is run. A file that can be run is told with its counts:
+  ok: 2 systems, 1 types, 0 resources, 1 rules, 2 frames
+One that is refused is told with the place of its first fault, what stands there, and why
+that is refused:
+  msgrun: refused 8 UnknownName
+  at systems[1].ops[0][1]: \"hat\" (system \"r\")
+  no type has this name
+Systems, types and all lists are counted from 0.";

@@ -43,6 +43,10 @@ fn action_of(alloc: Global, matches: &ArgMatches<'_>) -> Result<Action, WordFaul
         let workers = workers_of(inner)?;
         return Ok(Action::Run { file, workers });
     }
+    if name == "check" {
+        let file = file_of(alloc, inner)?;
+        return Ok(Action::Check(file));
+    }
     Err(WordFault::Bad)
 }
 

@@ -1,0 +1,69 @@
+-- What a file is told as that was checked, and not run.
+use Rattle.std.specs.Prelude.{◌≡◌, ◌⊎◌, ℕ, Bool, true, false, List, ◌++◌, length, Ok, Err, codes, decimal, is_some}
+use Rattle.serde_json.specs.{Data.Data, Find.get}
+use Rattle.msg_files.specs.Prelude.{IsJsonOf, IsUnread, Text, file_of, key_text, reason_refusal, told}
+use Rattle.msg_files.specs.Cursors.{CallsFile}
+use Rattle.msg_files.specs.declared.fault.Fault.{Fault}
+use Rattle.msg_files.specs.declared.file_fault.FileFault.TheVariants as file_fault
+use Rattle.msg_files.specs.declared.location.Key.TheVariants as key
+use Rattle.msg_files.specs.declared.refusal.Refusal.TheVariants as refusal
+use Rattle.msg_reading.specs.Prelude.{HasFault, IsReadAs}
+use Rattle.msg_scenario_data.specs.declared.scenario.Scenario.{Scenario}
+use Rattle.msg_command.specs.Prelude.{refusal_line}
+use Rattle.msg_command.specs.{declared.fault.MainFault.MainFault, declared.fault.MainFault.TheVariants.Built, declared.fault.MainFault.TheVariants.Told}
+
+-- how many systems, types and resources a scenario has
+unfoldable pub parts_counts : Scenario → Text
+parts_counts s =
+    decimal (length s.systems) ++ codes " systems, " ++ decimal (length s.types)
+    ++ codes " types, " ++ decimal (length s.resources) ++ codes " resources"
+
+-- how many rules and frames it has
+unfoldable pub course_counts : Scenario → Text
+course_counts s =
+    decimal (length s.rules) ++ codes " rules, " ++ decimal (length s.frames) ++ codes " frames"
+
+-- the counts of a scenario
+abbrev pub scenario_counts : Scenario → Text
+scenario_counts s =
+    codes "ok: " ++ parts_counts s ++ codes ", " ++ course_counts s ++ codes "\n"
+
+-- the counts of a calls file
+abbrev pub calls_counts : CallsFile → Text
+calls_counts file = codes "ok: " ++ decimal (length file.calls) ++ codes " calls\n"
+
+-- the bytes are the text of a calls file or of a scenario, and this is its counts
+abbrev pub PassesWith : List ℕ → Text → Type 0
+PassesWith bytes text = (d : Data) × IsJsonOf bytes d
+    × (((file : CallsFile) × (file_of d ≡ Ok file) × (text ≡ calls_counts file))
+    ⊎ ((scenario : Scenario) × IsReadAs d scenario × (text ≡ scenario_counts scenario)))
+
+-- an object that has calls is a calls file
+abbrev pub is_calls_file : Data → Bool
+is_calls_file d = is_some (get (key_text key.Calls) d)
+
+-- a value has this fault, as the calls file or the scenario that it is to be
+abbrev pub IsFaultOfEither : Data → Fault → Type 0
+IsFaultOfEither d e =
+    ((is_calls_file d ≡ true) × (file_of d ≡ Err e))
+    ⊎ ((is_calls_file d ≡ false) × HasFault d e)
+
+-- where the bytes stop to be JSON
+abbrev pub not_json_text : ℕ → ℕ → Text
+not_json_text line column =
+    codes "at line " ++ decimal line ++ codes ", column " ++ decimal column ++ codes "\n"
+
+-- Lines tell why bytes are refused: they are no JSON text, or they are the text of a value, and
+-- this is its fault.
+abbrev pub TellsFault : List ℕ → Text → Type 0
+TellsFault bytes text =
+    ((line : ℕ) × (column : ℕ) × IsUnread bytes (file_fault.NotJson line column)
+    × (text ≡ refusal_line refusal.NotJson ++ not_json_text line column))
+    ⊎ ((d : Data) × (e : Fault) × IsJsonOf bytes d × IsFaultOfEither d e
+    × (text ≡ refusal_line (reason_refusal e.reason) ++ told e d))
+
+-- What ends the program where a file was checked and doesn't pass: these lines, or want of memory.
+abbrev pub EndsCheck : List ℕ → MainFault → Type 0
+EndsCheck bytes (Told text) = TellsFault bytes text.items
+EndsCheck bytes Built = Unit {0}
+EndsCheck bytes _ = ⊥

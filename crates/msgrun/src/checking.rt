@@ -1,0 +1,128 @@
+// A file that is checked, and not run.
+ghost use Rattle.std.specs.Prelude.{◌≡◌, ◌++◌, IfErr, IfOk, OnOk};
+ghost use Rattle.serde_json.specs.View.{view};
+ghost use Rattle.msg_files.specs.Prelude.{IsFaultOf};
+ghost use Rattle.msg_files.specs.declared.file_fault.FileFault.TheVariants.{At as AtPlace};
+ghost use Rattle.msg_files.specs.declared.refusal.Refusal.TheVariants.{NotJson};
+ghost use Rattle.msg_reading.specs.Prelude.{HasFault};
+ghost use Rattle.msg_command.specs.Prelude.{refusal_line as line_of_refusal};
+ghost use Rattle.msgrun.specs.Prelude as Spec;
+ghost use Rattle.msgrun.specs.Checked.{course_counts, parts_counts};
+ghost use Rattle.msgrun.specs.inner.Checking.{TellsOf};
+
+use msg_command::{MainFault, refusal_line};
+use msg_files::json::parse;
+use msg_files::numerals::{add_count, add_number};
+use msg_files::{Calls, Fault, FileFault, Key, NoMemory, Reason, Refusal, add_told, check_calls};
+use msg_reading::check_scenario;
+use msg_scenario_data::Scenario;
+use serde_json::Value;
+use std::alloc::Global;
+
+/// The counts of the scenario or the calls file that the bytes are; or the lines that tell where
+/// they are refused, and why.
+pub(crate) fn check(alloc: Global, bytes: &[u8]) -> Result<Vec<u8>, MainFault>
+    ensures passed { IfOk result (λ text. Spec.PassesWith bytes.now text.items) }
+    ensures told { IfErr result (Spec.EndsCheck bytes.now) }
+{
+    match check_scenario(alloc, bytes) {
+        Ok(scenario) => Ok(count_scenario(alloc, &scenario)?),
+        Err(FileFault::NotJson { line, column }) => {
+            Err(MainFault::Told(tell_not_json(alloc, line, column)?))
+        }
+        Err(FileFault::At(fault)) => check_value(alloc, bytes, fault),
+    }
+}
+
+/// Bytes that are no scenario for this fault may be a calls file.
+fn check_value(alloc: Global, bytes: &[u8], fault: Fault) -> Result<Vec<u8>, MainFault>
+    requires fault { IsFaultOf HasFault bytes.now (AtPlace fault) }
+    ensures passed { IfOk result (λ text. Spec.PassesWith bytes.now text.items) }
+    ensures told { IfErr result (Spec.EndsCheck bytes.now) }
+{
+    let Ok(value) = parse(alloc, bytes) else {
+        return Err(MainFault::Built);
+    };
+    if value.get(Key::Calls.text()).is_none() {
+        return Err(tell(alloc, &fault, &value)?);
+    }
+    match check_calls(alloc, bytes) {
+        Ok(calls) => Ok(count_calls(alloc, &calls)?),
+        Err(FileFault::At(fault)) => Err(tell(alloc, &fault, &value)?),
+        Err(FileFault::NotJson { .. }) => unreachable!(),
+    }
+}
+
+/// The lines that tell of a fault of a value.
+fn tell(alloc: Global, fault: &Fault, value: &Value) -> Result<MainFault, NoMemory>
+    ensures tells { IfOk result (TellsOf fault.now (view value.now)) }
+{
+    if matches!(fault.reason, Reason::NoMemory) {
+        return Ok(MainFault::Built);
+    }
+    let mut text = Vec::new(alloc);
+    text.extend_from_slice(refusal_line(fault.reason.refusal()))?;
+    add_told(alloc, &mut text, fault, value)?;
+    Ok(MainFault::Told(text))
+}
+
+/// The lines that tell where bytes stop to be JSON.
+fn tell_not_json(alloc: Global, line: usize, column: usize) -> Result<Vec<u8>, NoMemory>
+    ensures tells { IfOk result (λ text. text.items
+        ≡ line_of_refusal NotJson ++ Spec.not_json_text line column) }
+{
+    let mut text = Vec::new(alloc);
+    text.extend_from_slice(refusal_line(Refusal::NotJson))?;
+    add_count(&mut text, b"at line ", line as u64)?;
+    add_count(&mut text, b", column ", column as u64)?;
+    text.extend_from_slice(b"\n")?;
+    Ok(text)
+}
+
+fn count_scenario(alloc: Global, scenario: &Scenario) -> Result<Vec<u8>, NoMemory>
+    ensures counts { IfOk result (λ text. text.items ≡ Spec.scenario_counts scenario.now) }
+{
+    let mut text = Vec::new(alloc);
+    text.extend_from_slice(b"ok: ")?;
+    add_parts(&mut text, scenario)?;
+    text.extend_from_slice(b", ")?;
+    add_course(&mut text, scenario)?;
+    text.extend_from_slice(b"\n")?;
+    Ok(text)
+}
+
+/// Adds how many systems, types and resources there are.
+#[tactic(auto, unfolding(crate::specs::Checked::parts_counts))]
+fn add_parts(text: &mut Vec<u8>, scenario: &Scenario) -> Result<(), NoMemory>
+    ensures appends { OnOk result
+        (text.new.items ≡ text.old.items ++ parts_counts scenario.now) }
+{
+    add_number(text, scenario.systems.as_slice().len() as u64)?;
+    add_count(text, b" systems, ", scenario.types.as_slice().len() as u64)?;
+    add_count(
+        text,
+        b" types, ",
+        scenario.resources.as_slice().len() as u64,
+    )?;
+    text.extend_from_slice(b" resources")
+}
+
+/// Adds how many rules and frames there are.
+#[tactic(auto, unfolding(crate::specs::Checked::course_counts))]
+fn add_course(text: &mut Vec<u8>, scenario: &Scenario) -> Result<(), NoMemory>
+    ensures appends { OnOk result
+        (text.new.items ≡ text.old.items ++ course_counts scenario.now) }
+{
+    add_number(text, scenario.rules.as_slice().len() as u64)?;
+    add_count(text, b" rules, ", scenario.frames.as_slice().len() as u64)?;
+    text.extend_from_slice(b" frames")
+}
+
+fn count_calls(alloc: Global, calls: &Calls) -> Result<Vec<u8>, NoMemory>
+    ensures counts { IfOk result (λ text. text.items ≡ Spec.calls_counts calls.now) }
+{
+    let mut text = Vec::new(alloc);
+    add_count(&mut text, b"ok: ", calls.calls().len() as u64)?;
+    text.extend_from_slice(b" calls\n")?;
+    Ok(text)
+}
