@@ -2,6 +2,7 @@
 pub mod WalksOverLists
 pub mod FaultsOfFiles
 pub mod KeysInOrder
+pub mod NearNames
 -- its calls, one after another, and their text
 pub mod ItemsInLines
 pub mod Digits

@@ -7,5 +7,6 @@ pub mod Sinks
 pub mod Cursors
 pub mod CallsFormat
 pub mod CallsText
+pub mod Nearest
 pub mod Told
 pub mod inner

@@ -5,6 +5,7 @@ use Rattle.std.specs.Option.{option_map_or}
 use Rattle.serde_json.specs.{Data.Data, Data.string, Find.as_str, Find.at, Find.get, Written.compact_text, Written.has_float}
 use Rattle.msg_files.specs.Faults.{key_text}
 use Rattle.msg_files.specs.Json.{Text, elements, is_list, is_object, keys}
+use Rattle.msg_files.specs.Nearest.{hint}
 use Rattle.msg_files.specs.declared.fault.Fault.{Fault}
 use Rattle.msg_files.specs.declared.location.Key.{Key}
 use Rattle.msg_files.specs.declared.location.Key.TheVariants as key
@@ -153,10 +154,10 @@ abbrev pub place_line : Location → Data → Text
 place_line l d =
     codes "at " ++ path_text l ++ codes ": " ++ there l d ++ system_text l d ++ codes "\n"
 
--- the line of a reason
-abbrev pub reason_line : Reason → Text
-reason_line why = sentence why ++ detail why ++ codes "\n"
+-- what is wanted, and the name that may have been meant by what stands there
+abbrev pub reason_line : Reason → Data → Option Data → Text
+reason_line why file there = sentence why ++ detail why ++ hint why file there ++ codes "\n"
 
 -- two lines: where the fault lies and what stands there, and why that is refused
 abbrev pub told : Fault → Data → Text
-told e d = place_line e.location d ++ reason_line e.reason
+told e d = place_line e.location d ++ reason_line e.reason d (value_at e.location d)

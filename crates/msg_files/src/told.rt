@@ -8,10 +8,12 @@ use msg_buffer::NoMemory;
 use serde_json::Value;
 use std::alloc::Global;
 
+mod nearest;
 mod path;
 mod reason;
 mod shown;
 
+use nearest::add_hint;
 use path::{add_path, system_name, value_at};
 use reason::add_reason;
 use shown::{add_key, add_shown};
@@ -21,7 +23,7 @@ use shown::{add_key, add_shown};
 ///
 /// ```text
 /// at systems[7].ops[1][1]: "arive2" (system "tower2")
-/// no type has this name
+/// no type has this name; did you mean arrive2?
 /// ```
 pub fn add_told(
     alloc: Global,
@@ -33,7 +35,7 @@ pub fn add_told(
         (text.new.items ≡ text.old.items ++ Spec.told fault.now (view file.now)) }
 {
     add_place(alloc, text, fault.location, file)?;
-    add_reason(text, fault.reason)
+    add_why(text, fault, file)
 }
 
 /// Adds the line of a location, and of what stands there.
@@ -51,6 +53,17 @@ fn add_place(
     text.extend_from_slice(b": ")?;
     add_there(alloc, text, location, file)?;
     add_system(alloc, text, location, file)?;
+    text.extend_from_slice(b"\n")
+}
+
+/// Adds the line of a reason, and of the name that may have been meant.
+fn add_why(text: &mut Vec<u8>, fault: &Fault, file: &Value) -> Result<(), NoMemory>
+    ensures appends { OnOk result (text.new.items ≡ text.old.items
+        ++ Spec.reason_line fault.now.reason (view file.now)
+        (Spec.value_at fault.now.location (view file.now))) }
+{
+    add_reason(text, fault.reason)?;
+    add_hint(text, fault.reason, file, value_at(file, fault.location))?;
     text.extend_from_slice(b"\n")
 }
 

@@ -48,5 +48,5 @@ One that is refused is told with the place of its first fault, what stands there
 that is refused:
   msgrun: refused 8 UnknownName
   at systems[1].ops[0][1]: \"hat\" (system \"r\")
-  no type has this name
+  no type has this name; did you mean hit?
 Systems, types and all lists are counted from 0.";

@@ -6,13 +6,13 @@ use crate::numerals::add_number;
 use crate::reason::Reason;
 use msg_buffer::NoMemory;
 
-/// Adds the line of a reason.
+/// Adds what is wanted in place of what stands there.
 pub fn add_reason(text: &mut Vec<u8>, reason: Reason) -> Result<(), NoMemory>
-    ensures appends { OnOk result (text.new.items ≡ text.old.items ++ Spec.reason_line reason) }
+    ensures appends { OnOk result
+        (text.new.items ≡ text.old.items ++ (Spec.sentence reason ++ Spec.detail reason)) }
 {
     text.extend_from_slice(sentence(reason))?;
-    add_detail(text, reason)?;
-    text.extend_from_slice(b"\n")
+    add_detail(text, reason)
 }
 
 /// Adds the number or the key that the sentence of a reason ends with.
