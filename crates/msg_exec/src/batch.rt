@@ -99,45 +99,33 @@ pub(crate) fn run_turns<S: System, G: Gate>(
     Ok(())
 }
 
-/// Runs the jobs of a batch over the workers, or, if these didn't pay lately for the batches in its
-/// place of a frame, in place; and tells the habit of that place how much the batch did.
-fn run_by_habit<R: Threads + Sync, S: System, G: Gate>(
-    rt: &R,
-    alloc: Global,
-    lender: &mut Lender<S>,
-    batch: &[u32],
-    workers: Workers,
-    gate: &G,
-    spares: &mut Spares,
-    turns: &mut Vec<Turn>,
-) -> Result<(), NoMemory>
-    requires stands { (s : State) × (LenderStands S.meaning lender.old s
-        × All (λ i. i < s.systems) batch.now) }
-    requires few { length lender.old.accesses.items ≤ 256 }
-    requires once { AllPairs (λ i j. i ≢ j) batch.now }
-    requires apart { NoneConflict lender.old.accesses.items batch.now }
-    ensures state { OnOk result ((s : State) → LenderStands S.meaning lender.old s
-        → LenderStands S.meaning lender.new (after_turns_of batch.now s).state) }
-    ensures turns { OnOk result ((s : State) → LenderStands S.meaning lender.old s
-        → turns.new.items ≡ turns.old.items ++ (after_turns_of batch.now s).turns) }
-    ensures accesses { OnOk result (lender.new.accesses.items ≡ lender.old.accesses.items) }
-    ensures gate_passed { OnOk result (EachPassedGate (G.passed gate.now) workers batch.now) }
-{
-    let first = turns.len();
-    if spares.habit()?.tries_next() {
-        run_many(rt, alloc, lender, batch, workers, gate, spares, turns)?;
-        let size = size_of_turns(turns.as_slice(), first);
-        spares.habit()?.did_over_workers(size);
-    } else {
-        run_turns(alloc, lender, batch, gate, spares, turns)?;
-        let size = size_of_turns(turns.as_slice(), first);
-        spares.habit()?.did_in_place(size);
+/// Whether the next batch, of so many jobs, goes over workers.
+fn goes_over_workers(workers: Workers, jobs: usize, spares: &mut Spares) -> Result<bool, NoMemory> {
+    if workers.number() == 1 || jobs <= 1 {
+        return Ok(false);
     }
+    Ok(spares.habit()?.tries_next())
+}
+
+/// Tells the habit of its place how much a batch in place did, whose turns begin with `first`. One
+/// that can't go over workers has no habit.
+fn tell_in_place(
+    workers: Workers,
+    jobs: usize,
+    turns: &[Turn],
+    first: usize,
+    spares: &mut Spares,
+) -> Result<(), NoMemory> {
+    if workers.number() == 1 || jobs <= 1 {
+        return Ok(());
+    }
+    spares.habit()?.did_in_place(size_of_turns(turns, first));
     Ok(())
 }
 
 /// Runs the jobs of one batch, and appends their turns, by order of addition: in place if one
-/// worker runs them all, or there is at most one.
+/// worker runs them all, if there is at most one, and if workers didn't pay lately for the batches
+/// in this place of a frame.
 fn run_batch<R: Threads + Sync, S: System, G: Gate>(
     rt: &R,
     alloc: Global,
@@ -160,10 +148,16 @@ fn run_batch<R: Threads + Sync, S: System, G: Gate>(
     ensures accesses { OnOk result (lender.new.accesses.items ≡ lender.old.accesses.items) }
     ensures gate_passed { OnOk result (EachPassedGate (G.passed gate.now) workers batch.now) }
 {
-    if workers.number() == 1 || batch.len() <= 1 {
-        return run_turns(alloc, lender, batch, gate, spares, turns);
+    let first = turns.len();
+    if goes_over_workers(workers, batch.len(), spares)? {
+        run_many(rt, alloc, lender, batch, workers, gate, spares, turns)?;
+        let size = size_of_turns(turns.as_slice(), first);
+        spares.habit()?.did_over_workers(size);
+    } else {
+        run_turns(alloc, lender, batch, gate, spares, turns)?;
+        tell_in_place(workers, batch.len(), turns.as_slice(), first, spares)?;
     }
-    run_by_habit(rt, alloc, lender, batch, workers, gate, spares, turns)
+    Ok(())
 }
 
 /// Runs the batches one after the other.
