@@ -1,4 +1,5 @@
 // Whether workers have paid, and how many to start at once.
+ghost use Rattle.std.specs.Prelude.{◌≡◌, ◌⊎◌};
 
 /// At most so many batches run in place between two tries.
 const LONGEST_PAUSE: u32 = 256;
@@ -14,7 +15,7 @@ const LONGEST_PAUSE: u32 = 256;
 #[derive(Clone, Copy, Debug)]
 pub struct Habit {
     /// How many others the first worker starts before it runs a job.
-    pub(crate) at_once: u32,
+    pub at_once: u32,
     /// How many batches run in place before workers are tried again.
     in_place: u32,
     /// How many ran in place before the last try; 0 where that paid.
@@ -54,7 +55,9 @@ impl Habit {
     }
 
     /// Learns from a batch of so many jobs over so many workers, of which the first ran `own` jobs.
-    pub(crate) fn learn(&mut self, workers: u32, jobs: u32, own: u32) {
+    pub(crate) fn learn(&mut self, workers: u32, jobs: u32, own: u32)
+        ensures at_once { (self.new.at_once ≡ 1) ⊎ (self.new.at_once ≡ workers) }
+    {
         let others = jobs.saturating_sub(own);
         self.at_once = if own <= jobs / 2 { workers } else { 1 };
         self.pause = if others >= jobs.div_ceil(4) {
