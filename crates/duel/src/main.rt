@@ -2,16 +2,18 @@
 //! and run on four workers.
 #![tactic(auto)]
 
-ghost use Rattle.std.specs.Prelude.{[], IfOk, length, map};
-ghost use Rattle.msg_world.specs.Prelude.{IsWhole, PartsStand, WorldState};
-ghost use Rattle.msg_frames.specs.Prelude.{first_state};
-ghost use Rattle.msg_exec.specs.Prelude.{HasRunFrames, numbered_from};
+ghost use Rattle.std.specs.Prelude.{OnOk};
+ghost use Rattle.msg_exec.specs.Prelude.{IsEngine};
+ghost use Rattle.msg_exec.specs.Hosts.{HasRunLoop};
+ghost use Rattle.msg_world.specs.Prelude.{i64_values};
 
+mod audience;
 mod role;
 
-use msg_exec::{EngineBuilder, EngineOf, Frame, Items, Log, NoGate, Workers};
+use audience::Audience;
+use msg_exec::{EngineBuilder, EngineOf, Host, Workers};
 use msg_order::Rule;
-use msg_system::{BehaviorSystem, Condition, Probe, System};
+use msg_system::{BehaviorSystem, Condition, Probe, SystemOf};
 use msg_world::{ResNo, TypeNo, World};
 use role::{Fighter, Role};
 use std::alloc::Global;
@@ -58,43 +60,31 @@ fn ring(alloc: Global) -> anyhow::Result<EngineBuilder<BehaviorSystem<Role>>> {
     Ok(ring)
 }
 
-/// Runs frames of these systems over a world.
+/// Lets them fight until the audience has seen enough, for so many frames at most.
 fn fight<R: Threads + Sync>(
     rt: &R,
-    alloc: Global,
-    ring: EngineBuilder<BehaviorSystem<Role>>,
-    world: World,
-    frames: &[Frame],
+    engine: &mut EngineOf<BehaviorSystem<Role>>,
+    audience: &mut Audience,
+    most: u64,
     workers: Workers,
-) -> anyhow::Result<(EngineOf<BehaviorSystem<Role>>, Vec<Log>)>
-    requires whole { IsWhole world }
+) -> anyhow::Result<()>
+    requires engine { IsEngine i64_values ⟦<BehaviorSystem<Role> as SystemOf>⟧.meaning engine.old }
 
-    // Whatever the workers: the logs are those of one thread, from the first state of the ring.
-    ensures one_thread { IfOk result (λ r. (w : WorldState) → PartsStand world w
-        → HasRunFrames ⟦<BehaviorSystem<Role> as System>⟧.meaning frames.now (first_state
-        (numbered_from 0 (map ⟦<BehaviorSystem<Role> as System>⟧.meaning ring.systems)) ring.places
-        ring.rules (length world.types) w) [] r.1.items r.0) }
+    // Whatever the workers: the audience was told the logs of one thread.
+    ensures one_thread { OnOk result
+        (HasRunLoop i64_values ⟦<BehaviorSystem<Role> as SystemOf>⟧.meaning
+        ⟦<Audience as Host>⟧.gives most audience.old engine.old audience.new engine.new) }
 {
-    let mut engine = ring.build(world)?;
-    let mut logs = Vec::new(alloc);
-    anyhow::ensure!(
-        engine.all_fit(frames),
-        "a post is to a type that isn't there"
-    );
-    engine.run_frames(rt, frames, workers, &NoGate, &mut logs)?;
-    Ok((engine, logs))
+    engine.run_loop(rt, audience, most, workers)?;
+    Ok(())
 }
 
 fn main(rt: HostRuntime) -> anyhow::Result<()> {
     let (alloc, workers) = (rt.alloc(), Workers::new(4).unwrap());
-    let world = World::new(alloc, &[100; 4], &[0])?;
-    let mut frames = Vec::new(alloc);
-    for _ in 0..8 {
-        frames.push(Frame {
-            posts: Items::from_vec(Vec::new(alloc)),
-        })?;
-    }
-    let (engine, _logs) = fight(&rt, alloc, ring(alloc)?, world, &frames, workers)?;
+    let mut engine = ring(alloc)?.build(World::new(alloc, &[100; 4], &[0])?)?;
+    let mut audience = Audience { falls: 2 };
+    fight(&rt, &mut engine, &mut audience, 100, workers)?;
+    println!(rt; "the fight took {} frames", engine.frames_run())?;
     for account in engine.accounts()? {
         println!(rt;
             "system {} got {} missed {}",

@@ -40,6 +40,8 @@ impl Role {
 }
 
 impl Behavior for Role {
+    type Value = i64;
+
     ghost use Rattle.duel.specs.{declared.role.Role.Role, Roles.next_deed, Roles.role_after};
 
     ghost Memory = { Role };

@@ -1,9 +1,9 @@
 -- What words that clap takes leave of a subcommand: each row has a value.
 use Rattle.std.proofs.Common.{arith, ◌≡◌, ℕ, zero, suc, length, List, [], ◌∷◌, refl, ap, ◌∙◌, Option, Some, None, Bool, true, false, codes, fold, find, encode_utf8, drop, is_some, ◌&&◌, cond, slice_get, not, nat_le}
 use Rattle.std.specs.{Str.bytes_eq, Str.chars, List.list_all, Option.option_map_or}
-use Rattle.clap.specs.{Words.Row, Words.Rule, Words.Text, Words.Shape, Words.first_of, Facts.unwrap_or_range, Lexer.long_of, Lexer.short_of, Simple.built_leaf, Simple.filled, Simple.help_rule, Simple.with_index, Walk.Step, Walk.has_long, Walk.has_short, Walk.bundle, Walk.reading_by, Walk.after_step, Walk.nothing_held, Walk.rows_after, Walk.walk, Walk.walk_from, Walk.Held, Walk.Names, Walk.Outcome, Walk.Waiting, Walk.Walk, Walk.done, Walk.plain, Walk.action_of, Walk.after_flag, Walk.arg_by_id, Walk.arg_by_long, Walk.arg_by_short, Walk.attached_value, Walk.bundle_met, Walk.bundle_step, Walk.has_row, Walk.long_met, Walk.long_or_other, Walk.option_met, Walk.reacted, Walk.settled, Walk.settled_rows, Walk.short_met, Walk.short_or_plain, Walk.used, Walk.used_by_id, Walk.walked, Walk.with_default, Walk.with_values, Walk.without, Walk.word_met, Takes.is_valid, Takes.default_passes, Takes.bundle_passes, Takes.bundle_step_passes, Takes.flag_word_passes, Takes.flags_pass, Takes.is_given, Takes.level_passes, Takes.long_passes, Takes.option_passes, Takes.react_passes, Takes.settle_passes, Takes.short_passes, Takes.step_passes, Takes.turn_passes, Takes.use_passes, Takes.walk_passes, Takes.word_passes, declared.parser.matches.ValueSource.ValueSource, declared.parser.matches.ValueSource.TheVariants.DefaultValue, declared.parser.matches.ValueSource.TheVariants.CommandLine, declared.builder.value_parser.Reading.Reading, declared.builder.ArgAction.TheVariants.Set, declared.builder.ArgAction.TheVariants.Help}
+use Rattle.clap.specs.{Words.Row, Words.Rule, Words.Text, Words.Shape, Words.first_of, Facts.unwrap_or_range, Lexer.long_of, Lexer.short_of, Simple.built_leaf, Simple.filled, Simple.help_rule, Simple.with_index, Walk.Step, Walk.has_long, Walk.has_short, Walk.bundle, Walk.reading_by, Walk.after_step, Walk.nothing_held, Walk.rows_after, Walk.walk, Walk.walk_from, Walk.Held, Walk.Names, Walk.Outcome, Walk.Waiting, Walk.Walk, Walk.done, Walk.plain, Walk.action_of, Walk.after_flag, Walk.arg_by_id, Walk.arg_by_long, Walk.arg_by_short, Walk.attached_value, Walk.bundle_met, Walk.bundle_step, Walk.has_row, Walk.long_met, Walk.long_or_other, Walk.option_met, Walk.reacted, Walk.settled, Walk.settled_rows, Walk.short_met, Walk.short_or_plain, Walk.used, Walk.used_by_id, Walk.walked, Walk.with_default, Walk.with_values, Walk.without, Walk.word_met, Takes.is_valid, Takes.default_passes, Takes.bundle_passes, Takes.bundle_step_passes, Takes.flag_word_passes, Takes.flags_pass, Takes.is_given, Takes.level_passes, Takes.long_passes, Takes.option_passes, Takes.react_passes, Takes.settle_passes, Takes.short_passes, Takes.step_passes, Takes.turn_passes, Takes.use_passes, Takes.walk_passes, Takes.word_passes, declared.parser.matches.ValueSource.ValueSource, declared.parser.matches.ValueSource.TheVariants.DefaultValue, declared.parser.matches.ValueSource.TheVariants.CommandLine, declared.builder.value_parser.Reading.Reading, declared.builder.ArgAction.TheVariants.Set, declared.builder.ArgAction.TheVariants.SetTrue, declared.builder.ArgAction.TheVariants.Help}
 use Rattle.clap.proofs.OnLiterals.{clap_on_literals}
-use Rattle.msg_command.specs.Prelude.{file_app, file_rule, run_app, workers_rule}
+use Rattle.msg_command.specs.Prelude.{dot_rule, file_app, file_rule, frame_rule, plan_app, run_app, workers_rule}
 use Rattle.std.proofs.lemmas.Bool.{and_from, and_parts}
 
 -- ---- rows
@@ -60,6 +60,13 @@ set_valued : (a : Rule) → action_of a ≡ Set → nat_le (unwrap_or_range a.ra
 set_valued a set least again [] rows passes all =
     let parts = and_parts (nat_le (unwrap_or_range a.range).start_inclusive 0) _ passes in cc
 set_valued a set least again (v ∷ vs) rows passes all =
+    rw set (with_values_keeps a.id _ CommandLine (v ∷ vs) (without a.id rows) refl (without_keeps a.id rows all))
+
+-- a flag, for which something stands where it has no value
+flag_valued : (a : Rule) → action_of a ≡ SetTrue → some_of a.missing ≡ true → Valued a
+flag_valued a set some again [] rows passes all =
+    rw set (with_values_keeps a.id _ CommandLine a.missing (without a.id rows) some (without_keeps a.id rows all))
+flag_valued a set some again (v ∷ vs) rows passes all =
     rw set (with_values_keeps a.id _ CommandLine (v ∷ vs) (without a.id rows) refl (without_keeps a.id rows all))
 
 -- help never passes
@@ -239,6 +246,15 @@ file_built = with_index 1 (filled file_rule)
 abbrev workers_built : Rule
 workers_built = with_index 2 (filled workers_rule)
 
+abbrev pub plan_shape : Shape
+plan_shape = built_leaf plan_app.top
+
+abbrev dot_built : Rule
+dot_built = with_index 2 (filled dot_rule)
+
+abbrev frame_built : Rule
+frame_built = with_index 2 (filled frame_rule)
+
 abbrev help_built : Rule
 help_built = with_index 2 (filled help_rule)
 
@@ -281,3 +297,24 @@ run_given words passes =
     let workers_row : is_some (find (λ r. bytes_eq r.id (codes "workers")) rows) ≡ true =
     grind (arith, default_there workers_built (with_default first file_built) refl refl) in
     (first_there (codes "FILE") rows are.0 (grind (arith, given)), first_there (codes "workers") rows are.0 workers_row)
+
+-- ---- plan FILE --frame K --dot
+
+plan_valued : EachValued plan_shape.rules
+unfolding clap_on_literals
+plan_valued =
+    (set_valued file_built refl refl, (flag_valued dot_built refl refl, (set_valued frame_built refl refl, (help_valued help_built refl, tt))))
+
+-- `plan` takes words only with a FILE, and a number of a frame is there, given or by default
+pub plan_given : (words : List Text) → level_passes plan_shape [] nothing_held words false ≡ true
+    → ((file : Text) × (first_of (codes "FILE") (rows_after plan_shape.rules [] words) ≡ Some file))
+    × ((text : Text) × (first_of (codes "frame") (rows_after plan_shape.rules [] words) ≡ Some text))
+unfolding clap_on_literals
+plan_given words passes =
+    let rows = rows_after plan_shape.rules [] words in
+    let are = valued_rows plan_shape words plan_valued passes in
+    let first = (settled plan_shape.rules (walk plan_shape.rules [] nothing_held words).held).rows in
+    let given = (and_parts (is_given (codes "FILE") rows) _ are.1).0 in
+    let frame_row : is_some (find (λ r. bytes_eq r.id (codes "frame")) rows) ≡ true =
+    grind (arith, default_there frame_built (with_default (with_default first file_built) dot_built) refl refl) in
+    (first_there (codes "FILE") rows are.0 (grind (arith, given)), first_there (codes "frame") rows are.0 frame_row)

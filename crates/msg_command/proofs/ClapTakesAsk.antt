@@ -1,12 +1,12 @@
--- Words that clap takes ask for something, or for a run on what is no number of workers: `buffer` and `check` have their
--- FILE, `run` its FILE and a number, and nothing else is entered.
+-- Words that clap takes ask for something, or for what there can't be: `buffer` and `check` have their FILE, `run` and
+-- `plan` their FILE and a number, and nothing else is entered.
 use Rattle.std.proofs.Common.{arith, ◌≡◌, ◌⊎◌, inl, inr, ℕ, get_or, List, [], ◌∷◌, refl, ap, Option, Some, None, Bool, true, false, codes, fold, is_some, ◌&&◌, ◌||◌, cond, if◌then◌else◌, not, option_map}
 use Rattle.std.specs.{Str.bytes_eq, Option.option_map_or}
 use Rattle.std.proofs.lemmas.{Slice.Eq.bytes_eq-Decides, Bool.and_parts}
 use Rattle.clap.specs.{Words.Rule, Words.Shape, Words.Text, Words.takes, Lexer.long_of, Simple.built, Simple.entered, Simple.names_of, Simple.rows_at, Walk.Held, Walk.Names, Walk.Outcome, Walk.Step, Walk.Waiting, Walk.Walk, Walk.after_flag, Walk.after_step, Walk.long_or_other, Walk.nothing_held, Walk.stop_after, Walk.subcommand, Walk.subcommand_met, Walk.subcommand_or_other, Walk.trailing, Walk.value, Walk.walk_from, Walk.walked, Walk.walked_from, Walk.word_met, Takes.entered_passes, Takes.level_passes, Takes.other_passes, Takes.step_passes, Takes.turn_passes, Takes.walk_passes, Takes.word_passes}
 use Rattle.clap.proofs.OnLiterals.{clap_on_literals}
-use Rattle.msg_command.specs.Prelude.{IsRunOnNone, asked, msgrun_app, workers_in}
-use Rattle.msg_command.proofs.ClapFillsRows.{file_given, run_given, run_shape}
+use Rattle.msg_command.specs.Prelude.{AsksForNone, asked, msgrun_app, number_in}
+use Rattle.msg_command.proofs.ClapFillsRows.{file_given, plan_given, plan_shape, run_given, run_shape}
 
 -- ---- a flag is no subcommand
 
@@ -83,18 +83,19 @@ help_named name isnt = grind (arith, bytes_eq-Decides (codes "help") name, bytes
 
 -- ---- what is asked for
 
--- words ask for something, or for a run on what is no number of workers
+-- words ask for something, or for what there can't be
 abbrev Asks : List Text → Type 0
-Asks words = (is_some (asked words) ≡ true) ⊎ IsRunOnNone words
+Asks words = (is_some (asked words) ≡ true) ⊎ AsksForNone words
 
--- the subcommands: `buffer`, `run`, `check` and `help`
+-- the subcommands: `buffer`, `run`, `check`, `plan` and `help`
 abbrev sub_at : ℕ → Shape
 sub_at k = get_or (built msgrun_app).subs k top
 
--- the one that a name is of, by four tests of it
-abbrev found : Bool → Bool → Bool → Bool → Option Shape
-found a b c h =
-    cond a (Some (sub_at 0)) (cond b (Some (sub_at 1)) (cond c (Some (sub_at 2)) (cond h (Some (sub_at 3)) None)))
+-- the one that a name is of, by five tests of it
+abbrev found : Bool → Bool → Bool → Bool → Bool → Option Shape
+found a b c p h =
+    cond a (Some (sub_at 0))
+    (cond b (Some (sub_at 1)) (cond c (Some (sub_at 2)) (cond p (Some (sub_at 3)) (cond h (Some (sub_at 4)) None))))
 
 run_asks : (words rest : List Text)
     → entered (built msgrun_app) (stop_after top.rules names words) ≡ Some (rows_at run_shape rest)
@@ -105,24 +106,38 @@ run_asks words rest sub passes =
     let rows = (rows_at run_shape rest).1 in
     let file = given.0.0 in
     let text = given.1.0 in
-    elim (workers_in text) as (λ o. workers_in text ≡ o → Asks words) [
+    elim (number_in 64 text) as (λ o. number_in 64 text ≡ o → Asks words) [
       | Some n ↦ λ is. inl (rw (sub, given.0.1, given.1.1, is) refl)
-      | None ↦ λ is. inr (rows, text, sub, given.1.1, is)
+      | None ↦ λ is. inr (inl (rows, text, sub, given.1.1, is))
     ] refl
 
-found_asks : (words rest : List Text) (a b c h : Bool) → h ≡ false
-    → entered (built msgrun_app) (stop_after top.rules names words) ≡ option_map (λ s. rows_at s rest) (found a b c h)
-    → option_map_or (λ s. level_passes s [] nothing_held rest false) (found a b c h) true ≡ true → Asks words
+plan_asks : (words rest : List Text)
+    → entered (built msgrun_app) (stop_after top.rules names words) ≡ Some (rows_at plan_shape rest)
+    → level_passes plan_shape [] nothing_held rest false ≡ true → Asks words
 unfolding clap_on_literals
-found_asks words rest true b c h isnt sub passes =
+plan_asks words rest sub passes =
+    let given = plan_given rest passes in
+    let rows = (rows_at plan_shape rest).1 in
+    let text = given.1.0 in
+    elim (number_in 10000 text) as (λ o. number_in 10000 text ≡ o → Asks words) [
+      | Some n ↦ λ is. inl (rw (sub, given.0.1, given.1.1, is) refl)
+      | None ↦ λ is. inr (inr (rows, text, sub, given.1.1, is))
+    ] refl
+
+found_asks : (words rest : List Text) (a b c p h : Bool) → h ≡ false
+    → entered (built msgrun_app) (stop_after top.rules names words) ≡ option_map (λ s. rows_at s rest) (found a b c p h)
+    → option_map_or (λ s. level_passes s [] nothing_held rest false) (found a b c p h) true ≡ true → Asks words
+unfolding clap_on_literals
+found_asks words rest true b c p h isnt sub passes =
     let file = file_given (codes "buffer") rest passes in
     inl (rw (sub, file.1) refl)
-found_asks words rest false true c h isnt sub passes = run_asks words rest sub passes
-found_asks words rest false false true h isnt sub passes =
+found_asks words rest false true c p h isnt sub passes = run_asks words rest sub passes
+found_asks words rest false false true p h isnt sub passes =
     let file = file_given (codes "check") rest passes in
     inl (rw (sub, file.1) refl)
-found_asks words rest false false false true isnt sub passes = cc
-found_asks words rest false false false false isnt sub passes = inl (rw sub refl)
+found_asks words rest false false false true h isnt sub passes = plan_asks words rest sub passes
+found_asks words rest false false false false true isnt sub passes = cc
+found_asks words rest false false false false false isnt sub passes = inl (rw sub refl)
 
 stopped_asks : (words : List Text) (o : Option (Text × List Text)) → stop_after top.rules names words ≡ o
     → entered_passes (built msgrun_app) o ≡ true → isnt_help o ≡ true → Asks words
@@ -130,7 +145,7 @@ unfolding clap_on_literals
 stopped_asks words None is passes isnt = inl (rw is refl)
 stopped_asks words (Some (name, rest)) is passes isnt =
     found_asks words rest (bytes_eq (codes "buffer") name || false) (bytes_eq (codes "run") name || false)
-    (bytes_eq (codes "check") name || false) (bytes_eq (codes "help") name || false) (ap (λ b. b || false) (help_named name isnt))
+    (bytes_eq (codes "check") name || false) (bytes_eq (codes "plan") name || false) (bytes_eq (codes "help") name || false) (ap (λ b. b || false) (help_named name isnt))
     (ap (entered (built msgrun_app)) is) passes
 
 -- what words that clap takes ask for

@@ -1,5 +1,5 @@
--- numbers of workers
-pub mod WorkerNumbers
+-- numbers up to a limit
+pub mod Numbers
 -- what clap finds in words
 pub mod RowValues
 pub mod ClapErrors

@@ -1,17 +1,19 @@
 -- What the words of the command line ask for.
-use Rattle.std.specs.Prelude.{◌≡◌, ◌≢◌, ◌⊎◌, ℕ, [], ◌<◌, ◌≤◌, ◌&&◌, Bool, List, length, Option, Some, None, option_map, option_and_then, codes, string_bytes, nat_le, nat_lt, if◌then◌else◌}
-use Rattle.std.specs.{Char.digit_value, List.list_all, Str.bytes_eq, Str.Parse.digits_value, Str.Parse.without_leading_plus}
+use Rattle.std.specs.Prelude.{◌≡◌, ◌⊎◌, ℕ, [], ◌<◌, ◌≤◌, ◌&&◌, Bool, false, List, length, Option, Some, None, option_map, option_and_then, codes, string_bytes, nat_le, nat_lt, if◌then◌else◌}
+use Rattle.std.specs.{Char.digit_value, List.list_all, Option.option_map_or, Str.bytes_eq, Str.Parse.digits_value, Str.Parse.without_leading_plus}
 use Rattle.clap.specs.{Words.IsAmong, Words.Kinds, Words.Row, Words.Text, Words.first_of, Words.subcommand_of, declared.error.ErrorKind.ErrorKind}
 use Rattle.clap.specs.declared.error.ErrorKind.TheVariants as kind
-use Rattle.msg_command.specs.{CommandLine.msgrun_app, declared.words.Action.Action, declared.words.Action.TheVariants.Buffer, declared.words.Action.TheVariants.Run, declared.words.Action.TheVariants.Check, declared.words.WordFault.WordFault}
+use Rattle.msg_command.specs.{CommandLine.msgrun_app, declared.words.Action.Action, declared.words.Action.TheVariants.Buffer, declared.words.Action.TheVariants.Run, declared.words.Action.TheVariants.Check, declared.words.Action.TheVariants.Plan, declared.words.WordFault.WordFault}
 use Rattle.msg_command.specs.declared.words.WordFault.TheVariants as word
 
 -- a request: to answer the calls file of a name, or of standard input; to run the scenario file of
--- a name on so many workers; or to check the file of a name
+-- a name on so many workers; to check the file of a name; or to tell the plan of a frame of the
+-- scenario file of a name, for Graphviz or not
 pub data Request : Type 0 where
   buffer : Option Text → Request
   run : Text → ℕ → Request
   check : Text → Request
+  plan : Text → ℕ → Bool → Request
 
 -- the request that an action stands for
 abbrev pub request_of : Action → Request
@@ -19,21 +21,30 @@ request_of (Buffer None) = buffer None
 request_of (Buffer (Some file)) = buffer (Some (string_bytes file))
 request_of (Run file workers) = run (string_bytes file) workers
 request_of (Check file) = check (string_bytes file)
+request_of (Plan file frame dot) = plan (string_bytes file) frame dot
 
 -- one decimal digit or more, and nothing else
 abbrev pub is_numeral : Text → Bool
 is_numeral digits = nat_lt 0 (length digits) && list_all (λ c. nat_lt (digit_value c) 10) digits
 
--- a number of workers: a numeral from 1 to 64, before which a plus may stand
-abbrev pub workers_in : Text → Option ℕ
-workers_in text =
+-- a number from 1 to this one: its numeral, before which a plus may stand
+abbrev pub number_in : ℕ → Text → Option ℕ
+number_in most text =
     let digits = without_leading_plus text in
     let number = digits_value 10 digits in
-    if is_numeral digits && (nat_le 1 number && nat_le number 64) then Some number else None
+    if is_numeral digits && (nat_le 1 number && nat_le number most) then Some number else None
 
 -- the number of workers that is asked for
 abbrev pub workers_asked : List Row → Option ℕ
-workers_asked rows = option_and_then workers_in (first_of (codes "workers") rows)
+workers_asked rows = option_and_then (number_in 64) (first_of (codes "workers") rows)
+
+-- the frame that is asked for; no system joins after frame 10,000
+abbrev pub frame_asked : List Row → Option ℕ
+frame_asked rows = option_and_then (number_in 10000) (first_of (codes "frame") rows)
+
+-- whether --dot is among the words
+abbrev pub dot_asked : List Row → Bool
+dot_asked rows = option_map_or (λ t. bytes_eq t (codes "true")) (first_of (codes "dot") rows) false
 
 -- a run of FILE on so many workers, where there are both
 abbrev pub run_asked : Option Text → Option ℕ → Option Request
@@ -41,8 +52,14 @@ run_asked (Some file) (Some workers) = Some (run file workers)
 run_asked (Some file) None = None
 run_asked None workers = None
 
+-- the plan of such a frame of FILE, where there are both
+abbrev pub plan_asked : Option Text → Option ℕ → Bool → Option Request
+plan_asked (Some file) (Some frame) dot = Some (plan file frame dot)
+plan_asked (Some file) None dot = None
+plan_asked None frame dot = None
+
 -- without a subcommand, standard input; with the subcommand `buffer` or `check`, its FILE; with
--- `run`, its FILE and N
+-- `run`, its FILE and N; with `plan`, its FILE, K, and whether it is for Graphviz
 abbrev pub asked_by : Option (Text × List Row) → Option Request
 asked_by None = Some (buffer None)
 asked_by (Some (name, rows)) =
@@ -51,29 +68,41 @@ asked_by (Some (name, rows)) =
     else (if bytes_eq name (codes "run")
     then run_asked (first_of (codes "FILE") rows) (workers_asked rows)
     else (if bytes_eq name (codes "check")
-    then option_map (λ file. check file) (first_of (codes "FILE") rows) else None))
+    then option_map (λ file. check file) (first_of (codes "FILE") rows)
+    else (if bytes_eq name (codes "plan")
+    then plan_asked (first_of (codes "FILE") rows) (frame_asked rows) (dot_asked rows) else None)))
 
 -- what the words ask for, by the subcommand that clap finds in them
 abbrev pub asked : List Text → Option Request
 asked words = asked_by (subcommand_of msgrun_app words)
 
--- the words name `run`, and the value that they have for `workers` is no number from 1 to 64
-abbrev pub IsRunOnNone : List Text → Type 0
-IsRunOnNone words = (rows : List Row) × (text : Text)
-    × (subcommand_of msgrun_app words ≡ Some (codes "run", rows))
-    × (first_of (codes "workers") rows ≡ Some text) × (workers_in text ≡ None)
+-- the words name this subcommand, and their value for this option is no number from 1 to `most`
+abbrev pub HasNoNumber : Text → Text → ℕ → List Text → Type 0
+HasNoNumber name id most words = (rows : List Row) × (text : Text)
+    × (subcommand_of msgrun_app words ≡ Some (name, rows))
+    × (first_of id rows ≡ Some text) × (number_in most text ≡ None)
+
+-- the words ask for a run on workers, or for a plan of a frame, that there can't be
+abbrev pub AsksForNone : List Text → Type 0
+AsksForNone words = HasNoNumber (codes "run") (codes "workers") 64 words
+    ⊎ HasNoNumber (codes "plan") (codes "frame") 10000 words
+
+-- clap tells by this kind that help or the version is asked for
+abbrev pub IsShown : ErrorKind → Type 0
+IsShown k = (k ≡ kind.DisplayHelp) ⊎ (k ≡ kind.DisplayVersion)
 
 -- The fault of words in which clap finds these kinds of errors. It is help only where one of them
--- is `DisplayHelp`. It is bad words only where there is none, or one of another kind. It may always
--- be want of memory.
+-- asks for that or for the version. It is bad words only where there is none, or one of another
+-- kind. It may always be want of memory.
 abbrev pub IsToldOf : Kinds → WordFault → Type 0
-IsToldOf kinds (word.Help text) = IsAmong kind.DisplayHelp kinds
+IsToldOf kinds (word.Help text) = (k : ErrorKind) × IsAmong k kinds × IsShown k
 IsToldOf kinds word.Bad = (kinds ≡ [])
-    ⊎ ((k : ErrorKind) × IsAmong k kinds × (k ≢ kind.DisplayHelp))
+    ⊎ ((k : ErrorKind) × IsAmong k kinds × ¬ IsShown k)
 IsToldOf kinds word.NoMemory = Unit {0}
 
--- a run is on 1 to 64 workers
+-- a run is on 1 to 64 workers, a plan of a frame from 1 to 10,000
 abbrev pub IsInRange : Action → Type 0
 IsInRange (Buffer file) = Unit {0}
 IsInRange (Run file workers) = (0 < workers) × (workers ≤ 64)
 IsInRange (Check file) = Unit {0}
+IsInRange (Plan file frame dot) = (0 < frame) × (frame ≤ 10000)

@@ -1,8 +1,8 @@
--- The command line: `msgrun`, `msgrun buffer FILE`, `msgrun run FILE --workers N`, or
--- `msgrun check FILE`.
+-- The command line: `msgrun`, `msgrun buffer FILE`, `msgrun run FILE --workers N`,
+-- `msgrun check FILE`, or `msgrun plan FILE --frame K --dot`.
 use Rattle.std.specs.Prelude.{Some, List, [], ◌∷◌, String, codes, map, string_bytes, true}
 use Rattle.std.specs.declared.alloc.Global.{Global}
-use Rattle.clap.specs.{Words.App, Words.Rule, Words.Text, Words.new_app, Words.new_rule, Words.with_rule, Words.with_subcommand, declared.builder.ArgAction.TheVariants.Set}
+use Rattle.clap.specs.{Words.App, Words.Rule, Words.Text, Words.new_app, Words.new_rule, Words.with_rule, Words.with_subcommand, declared.builder.ArgAction.TheVariants.Set, declared.builder.ArgAction.TheVariants.SetTrue}
 
 -- FILE, which has to stand there
 abbrev pub file_rule : Rule
@@ -12,6 +12,19 @@ file_rule = record (new_rule (codes "FILE")) { required = true; action = Some Se
 abbrev pub workers_rule : Rule
 workers_rule = record (new_rule (codes "workers")) {
   long = Some (codes "workers");
+  action = Some Set;
+  value_names = 1;
+  defaults = codes "1" ∷ [];
+}
+
+-- --dot, which has no value
+abbrev pub dot_rule : Rule
+dot_rule = record (new_rule (codes "dot")) { long = Some (codes "dot"); action = Some SetTrue }
+
+-- --frame K, which is 1 where it doesn't stand there
+abbrev pub frame_rule : Rule
+frame_rule = record (new_rule (codes "frame")) {
+  long = Some (codes "frame");
   action = Some Set;
   value_names = 1;
   defaults = codes "1" ∷ [];
@@ -33,10 +46,15 @@ run_app = with_rule (file_app (codes "run")) workers_rule
 abbrev pub check_app : App
 check_app = file_app (codes "check")
 
--- a command whose words don't begin with the program's own name
+-- plan FILE --frame K --dot
+abbrev pub plan_app : App
+plan_app = with_rule (with_rule (file_app (codes "plan")) dot_rule) frame_rule
+
+-- a command whose words don't begin with the program's own name, and which has a version
 abbrev pub bare_app : App
 bare_app =
-    let a = new_app (codes "msgrun") in record a { top = record a.top { no_binary_name = true } }
+    let a = new_app (codes "msgrun") in
+    record a { top = record a.top { no_binary_name = true; has_version = true } }
 
 -- the words, as their bytes
 abbrev pub texts_of : List (String Global) → List Text
@@ -48,4 +66,4 @@ running_app = with_subcommand (with_subcommand bare_app buffer_app.top) run_app.
 
 -- the whole command: nothing, or one of the subcommands
 abbrev pub msgrun_app : App
-msgrun_app = with_subcommand running_app check_app.top
+msgrun_app = with_subcommand (with_subcommand running_app check_app.top) plan_app.top

@@ -15,15 +15,18 @@ pub enum Action {
     Run { file: String, workers: u32 },
     /// Check the scenario file or calls file of this name.
     Check(String),
+    /// Tell the plan of a frame of the scenario file of this name, for Graphviz or as lines.
+    Plan { file: String, frame: u32, dot: bool },
 }
 
 /// Why the words give no action.
 #[derive(Debug, Drop, Error)]
 pub enum WordFault {
-    /// The words are those of no command, or the number of workers isn't from 1 to 64.
+    /// The words are those of no command, or the number of workers isn't from 1 to 64, or
+    /// that of the frame not from 1 to 10,000.
     #[error("bad command line")]
     Bad,
-    /// The words ask for help, and this is its text.
+    /// The words ask for help or for the version, and this is its text.
     #[error("{0}")]
     Help(String),
     /// A growth was refused.

@@ -1,1 +1,3 @@
 pub mod Adders
+pub mod GameValues
+pub mod Pairs

@@ -12,6 +12,8 @@ pub struct Adder {
 }
 
 impl Behavior for Adder {
+    type Value = i64;
+
     ghost use Rattle.msg_engine_tests.specs.{declared.adders.Adder.Adder, Adders.next_addition, Adders.adder_after};
 
     ghost Memory = { Adder };

@@ -1,12 +1,13 @@
 // Systems that decide by their memory: each on 1, 2, 7 and 64 workers.
 ghost use Rattle.msg_exec.specs.Prelude.{IsEngine};
+ghost use Rattle.msg_world.specs.Prelude.{i64_values};
 
 use crate::expecting::replies_of;
 use crate::making::{NUMBERS, frame_of, quiet, replay, run_frame};
 use msg_exec::{EngineBuilder, EngineOf, Frame, Log, NoGate, Outcome};
 use msg_part_tests::numbers::type_no;
 use msg_system::{
-    Access, Behavior, BehaviorSystem, Condition, NoMemory, Op, Probe, Reply, Start, System,
+    Access, Behavior, BehaviorSystem, Condition, NoMemory, Op, Probe, Reply, Start, SystemOf,
 };
 use msg_world::{TypeNo, World};
 use std::alloc::Global;
@@ -23,6 +24,8 @@ struct Alternating {
 }
 
 impl Behavior for Alternating {
+    type Value = i64;
+
     ghost use Rattle.std.specs.Prelude.{Some, None, length, nat_lt, pos, if◌then◌else◌};
     ghost use Rattle.msg_system.specs.declared.op.Op.TheVariants.{Write};
     ghost use Rattle.msg_engine_tests.specs.declared.alternating.Alternating.{Alternating};
@@ -60,7 +63,8 @@ fn engine_of_two(
     conditions: &[Condition],
     join: u32,
 ) -> EngineOf<BehaviorSystem<Alternating>>
-    ensures engine { IsEngine ⟦<BehaviorSystem<Alternating> as System>⟧.meaning result }
+    ensures engine { IsEngine i64_values
+        ⟦<BehaviorSystem<Alternating> as SystemOf>⟧.meaning result }
 {
     let mut systems = EngineBuilder::new(alloc);
     for (here, there) in [(type_no(0), type_no(1)), (type_no(2), type_no(3))] {
@@ -92,7 +96,12 @@ fn written(rt: &impl Abort, world: &World, t: TypeNo) -> usize {
 }
 
 /// Each system that has joined wrote as `wrote` says, by one op a message.
-fn expect_wrote<S: System>(rt: &impl Abort, engine: &EngineOf<S>, log: &Log, wrote: Wrote) {
+fn expect_wrote<S: SystemOf<Value = i64>>(
+    rt: &impl Abort,
+    engine: &EngineOf<S>,
+    log: &Log,
+    wrote: Wrote,
+) {
     for turn in log.turns.as_slice() {
         match (&turn.outcome, wrote) {
             (Outcome::Ran(replies), Some((first, second))) => {
@@ -113,7 +122,7 @@ fn expect_wrote<S: System>(rt: &impl Abort, engine: &EngineOf<S>, log: &Log, wro
 
 /// Runs a frame on `number` workers, or replays it with system 1 before system 0. Each system
 /// writes as `wrote` says.
-fn expect_frame<R: Threads + Sync + Abort, S: System>(
+fn expect_frame<R: Threads + Sync + Abort, S: SystemOf<Value = i64> + Send>(
     rt: &R,
     engine: &mut EngineOf<S>,
     frame: &Frame,
@@ -121,8 +130,8 @@ fn expect_frame<R: Threads + Sync + Abort, S: System>(
     is_replayed: bool,
     wrote: Wrote,
 )
-    requires engine { IsEngine S.meaning engine.old }
-    ensures engine { IsEngine S.meaning engine.new }
+    requires engine { IsEngine i64_values S.meaning engine.old }
+    ensures engine { IsEngine i64_values S.meaning engine.new }
 {
     let log = if is_replayed {
         replay(rt, engine, frame, &[1, 0])
@@ -224,7 +233,8 @@ fn engine_of_one(
     access: Access,
     limit: u64,
 ) -> EngineOf<BehaviorSystem<Alternating>>
-    ensures engine { IsEngine ⟦<BehaviorSystem<Alternating> as System>⟧.meaning result }
+    ensures engine { IsEngine i64_values
+        ⟦<BehaviorSystem<Alternating> as SystemOf>⟧.meaning result }
 {
     let behavior = Alternating {
         here: type_no(0),
@@ -241,7 +251,7 @@ fn engine_of_one(
 
 /// Runs a frame in which it writes `wrote` messages, and then is told so often that numbers are
 /// spent.
-fn expect_spent<R: Threads + Sync + Abort, S: System>(
+fn expect_spent<R: Threads + Sync + Abort, S: SystemOf<Value = i64> + Send>(
     rt: &R,
     alloc: Global,
     engine: &mut EngineOf<S>,
@@ -249,8 +259,8 @@ fn expect_spent<R: Threads + Sync + Abort, S: System>(
     wrote: u32,
     spent: u32,
 )
-    requires engine { IsEngine S.meaning engine.old }
-    ensures engine { IsEngine S.meaning engine.new }
+    requires engine { IsEngine i64_values S.meaning engine.old }
+    ensures engine { IsEngine i64_values S.meaning engine.new }
 {
     let log = run_frame(rt, engine, &quiet(alloc), number, &NoGate).expect(rt, "a frame");
     let replies = replies_of(rt, &log, 0);

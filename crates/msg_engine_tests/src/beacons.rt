@@ -1,12 +1,15 @@
 // A system of one's own, whose turn is one write.
 ghost use Rattle.msg_exec.specs.Prelude.{IsEngine};
+ghost use Rattle.msg_world.specs.Prelude.{i64_values};
 
 use crate::expecting::{expect_frame, wrote};
 use crate::making::{NUMBERS, quiet};
 use crate::prefaced::{Before, Prefaced};
 use msg_exec::{EngineBuilder, EngineOf};
 use msg_part_tests::numbers::type_no;
-use msg_system::{Access, Cursors, NoMemory, Numbered, Op, Reply, Start, System, one_op_is_a_turn};
+use msg_system::{
+    Access, Cursors, NoMemory, Numbered, Op, Reply, Start, SystemOf, one_op_is_a_turn,
+};
 use msg_world::{Counts, Lent, Taken, TypeNo, World};
 use std::alloc::Global;
 use std::panic::Expect;
@@ -24,7 +27,12 @@ struct Beacon {
     cursors: Cursors,
 }
 
-impl System for Beacon {
+impl SystemOf for Beacon {
+    type Value = i64;
+
+    ghost use Rattle.std.specs.Prelude.{IfOk};
+    ghost use Rattle.msg_world.specs.Prelude.{SameShape, i64_values, taken_of};
+    ghost use Rattle.msg_system.specs.Prelude.{Covers, Ran};
     ghost use Rattle.msg_system.specs.{declared.op.Op.TheVariants.Write, declared.start.Start.TheVariants.Zero};
     ghost use Rattle.msg_system.specs.Prelude.{of_program, only, cursor_places};
 
@@ -45,8 +53,15 @@ impl System for Beacon {
 
     fn start(&mut self, _counts: &Counts) {}
 
-    fn run(&mut self, alloc: Global, lent: Lent, out: &mut Vec<Reply>) -> Result<Taken, NoMemory> {
-        one_op_is_a_turn();
+    fn run(&mut self, alloc: Global, lent: Lent, out: &mut Vec<Reply>) -> Result<Taken, NoMemory>
+        requires covers { Covers (⟦<Beacon as SystemOf>⟧.meaning self.old).needs lent }
+        ensures ran { IfOk result
+            (λ taken. Ran i64_values (⟦<Beacon as SystemOf>⟧.meaning self.old)
+            (⟦<Beacon as SystemOf>⟧.meaning self.new)
+            lent.entry taken out.old.items out.new.items) }
+        ensures shape { IfOk result (λ taken. SameShape (taken_of lent.entry) taken) }
+    {
+        one_op_is_a_turn::<i64>();
         let mut lent = lent;
         let op = Op::Write(self.to, self.value);
         out.push(op.run(alloc, self.writer, &mut self.cursors, &mut lent)?)?;
@@ -63,7 +78,7 @@ impl Numbered for Beacon {
 
 /// Two beacons, each to a type of its own, whose runs are counted.
 fn two_beacons(rt: &impl Abort, alloc: Global, runs: &Arc<AtomicU64>) -> EngineOf<Prefaced<Beacon>>
-    ensures engine { IsEngine ⟦<Prefaced<Beacon> as System>⟧.meaning result }
+    ensures engine { IsEngine i64_values ⟦<Prefaced<Beacon> as SystemOf>⟧.meaning result }
 {
     let mut systems = EngineBuilder::new(alloc);
     for to in [type_no(0), type_no(1)] {

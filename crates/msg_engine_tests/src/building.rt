@@ -1,12 +1,13 @@
 // Where systems of a new engine start, engines that there are not, and numbers of workers.
 ghost use Rattle.msg_exec.specs.Prelude.{IsEngine};
+ghost use Rattle.msg_world.specs.Prelude.{i64_values};
 
 use crate::expecting::{expect_frame, posted, read};
 use crate::making::{engine_of, quiet, script};
 use msg_exec::{BuildError, BuildRefusal, EngineBuilder, EngineOf, Workers};
 use msg_order::Rule;
 use msg_part_tests::numbers::type_no;
-use msg_system::{Op, Scripted, Start, System};
+use msg_system::{Op, Scripted, Start, SystemOf};
 use msg_world::World;
 use std::alloc::Global;
 use std::panic::Expect;
@@ -15,7 +16,7 @@ use std::process::Abort;
 /// An engine of two readers, of which one starts at 0 and one at the count, in a world with one
 /// message.
 fn readers_after_a_post(rt: &impl Abort, alloc: Global) -> EngineOf<Scripted>
-    ensures engine { IsEngine ⟦<Scripted as System>⟧.meaning result }
+    ensures engine { IsEngine i64_values ⟦<Scripted as SystemOf>⟧.meaning result }
 {
     let t = type_no(0);
     let mut systems = EngineBuilder::new(alloc);
@@ -44,6 +45,15 @@ fn starts_in_a_world_with_a_message(rt: HostRuntime) {
     assert_eq!(rt; (zero.start, current.start), (Some(0), Some(1)));
 }
 
+/// No engine is made of these scripts under these rules, and it is said why.
+fn expect_refused(rt: &impl Abort, alloc: Global, ops: &[Op], rules: &[Rule], want: &str) {
+    let Err(refused) = engine_of(rt, alloc, &[10, 10], ops, rules) else {
+        panic!(rt; "not {want}")
+    };
+    let refused = format!(in alloc; "{refused:?}").expect(rt, "a text");
+    assert_eq!(rt; refused.as_str(), want);
+}
+
 /// A clash comes before a cycle, and of rules that go round the lowest system is named.
 #[test]
 fn refused_engines(rt: HostRuntime) {
@@ -66,11 +76,7 @@ fn refused_engines(rt: HostRuntime) {
         (&waiting[..], &[Rule::before(3, 3)][..], "Refused(Cycle(3))"),
         (&later[..], &own[..], "Refused(Clash(1))"),
     ] {
-        let Err(refused) = engine_of(&rt, alloc, &[10, 10], ops, rules) else {
-            panic!(rt; "not {want}")
-        };
-        let refused = format!(in alloc; "{refused:?}").expect(&rt, "a text");
-        assert_eq!(rt; refused.as_str(), want);
+        expect_refused(&rt, alloc, ops, rules, want);
     }
 }
 

@@ -1,12 +1,13 @@
 // Worked runs that `run_frame` keeps, each on 1, 2, 7 and 64 workers.
 ghost use Rattle.msg_exec.specs.Prelude.{IsEngine};
+ghost use Rattle.msg_world.specs.Prelude.{i64_values};
 
 use crate::expecting::{Step, by, expect_frame, posted, read, replies_of, wrote};
 use crate::making::{NUMBERS, engine_of, frame_of, quiet, run_frame, script};
 use msg_exec::{EngineBuilder, EngineOf, NoGate};
 use msg_order::Rule;
 use msg_part_tests::numbers::{res_no, type_no};
-use msg_system::{Items, Op, Reply, Scripted, Start, System};
+use msg_system::{Items, Op, Reply, Scripted, Start, SystemOf};
 use msg_world::World;
 use std::alloc::Global;
 use std::panic::Expect;
@@ -88,7 +89,7 @@ fn contradictory_order(rt: HostRuntime) {
 
 /// An engine of a script that writes, sets and signals, over a held world.
 fn signalling(rt: &impl Abort, alloc: Global) -> EngineOf<Scripted>
-    ensures engine { IsEngine ⟦<Scripted as System>⟧.meaning result }
+    ensures engine { IsEngine i64_values ⟦<Scripted as SystemOf>⟧.meaning result }
 {
     let ops = [Op::Write(type_no(0), 5), Op::Set(res_no(0), 8), Op::Signal];
     let script = script(rt, alloc, &ops, Start::Zero).expect(rt, "a script");
@@ -102,7 +103,7 @@ fn signalling(rt: &impl Abort, alloc: Global) -> EngineOf<Scripted>
 
 /// Runs a frame that writes, sets and signals. The message gets the number `first`, and the oldest
 /// message is `oldest` then.
-fn expect_signal<R: Threads + Sync + Abort, S: System>(
+fn expect_signal<R: Threads + Sync + Abort, S: SystemOf<Value = i64> + Send>(
     rt: &R,
     alloc: Global,
     engine: &mut EngineOf<S>,
@@ -110,8 +111,8 @@ fn expect_signal<R: Threads + Sync + Abort, S: System>(
     first: u64,
     oldest: u64,
 )
-    requires engine { IsEngine S.meaning engine.old }
-    ensures engine { IsEngine S.meaning engine.new }
+    requires engine { IsEngine i64_values S.meaning engine.old }
+    ensures engine { IsEngine i64_values S.meaning engine.new }
 {
     let log = run_frame(rt, engine, &quiet(alloc), number, &NoGate).expect(rt, "a frame");
     let [Reply::Wrote(wrote), Reply::Value(8), Reply::Signalled] = replies_of(rt, &log, 0) else {

@@ -1,11 +1,12 @@
 // Systems that decide: each on 1, 2, 7 and 64 workers.
 ghost use Rattle.msg_exec.specs.Prelude.{IsEngine};
+ghost use Rattle.msg_world.specs.Prelude.{i64_values};
 
 use crate::adders::Adder;
 use crate::making::{NUMBERS, frame_of, run_frame};
 use msg_exec::{EngineBuilder, EngineOf, NoGate};
 use msg_part_tests::numbers::type_no;
-use msg_system::{Access, BehaviorSystem, Start, System};
+use msg_system::{Access, BehaviorSystem, Start, SystemOf};
 use msg_world::{Record, TypeNo, World};
 use std::alloc::Global;
 use std::panic::Expect;
@@ -22,8 +23,8 @@ fn expect_frame_writes<R: Threads + Sync + Abort>(
     posts: &[(TypeNo, i64)],
     values: &[i64],
 )
-    requires engine { IsEngine ⟦<BehaviorSystem<Adder> as System>⟧.meaning engine.old }
-    ensures engine { IsEngine ⟦<BehaviorSystem<Adder> as System>⟧.meaning engine.new }
+    requires engine { IsEngine i64_values ⟦<BehaviorSystem<Adder> as SystemOf>⟧.meaning engine.old }
+    ensures engine { IsEngine i64_values ⟦<BehaviorSystem<Adder> as SystemOf>⟧.meaning engine.new }
 {
     let frame = frame_of(rt, alloc, posts);
     run_frame(rt, engine, &frame, number, &NoGate).expect(rt, "a frame");
@@ -40,7 +41,7 @@ fn expect_frame_writes<R: Threads + Sync + Abort>(
 
 /// An engine of one adder, from the first type to the second.
 fn engine_of_one(rt: &impl Abort, alloc: Global) -> EngineOf<BehaviorSystem<Adder>>
-    ensures engine { IsEngine ⟦<BehaviorSystem<Adder> as System>⟧.meaning result }
+    ensures engine { IsEngine i64_values ⟦<BehaviorSystem<Adder> as SystemOf>⟧.meaning result }
 {
     let (from, to) = (type_no(0), type_no(1));
     let access = Access::none().with_read_type(from).with_write_type(to);

@@ -1,10 +1,11 @@
 // What is expected of frames whose systems have one op each and no conditions.
 ghost use Rattle.msg_exec.specs.Prelude.{IsEngine};
+ghost use Rattle.msg_world.specs.Prelude.{i64_values};
 
 use crate::making::{replay, run_frame};
 use msg_buffer::Written;
 use msg_exec::{EngineOf, Frame, Log, NoGate, Outcome, Turn};
-use msg_system::{Reply, System};
+use msg_system::{Reply, SystemOf};
 use msg_world::{HOST, Record};
 use std::panic::Expect;
 use std::process::Abort;
@@ -92,7 +93,7 @@ pub fn replies_of<'a>(rt: &impl Abort, log: &'a Log, place: usize) -> &'a [Reply
 
 /// Runs a frame on `number` workers. Its posts get the numbers `posts`, and its turns come to
 /// `steps`.
-pub fn expect_frame<R: Threads + Sync + Abort, S: System>(
+pub fn expect_frame<R: Threads + Sync + Abort, S: SystemOf<Value = i64> + Send>(
     rt: &R,
     engine: &mut EngineOf<S>,
     frame: &Frame,
@@ -100,8 +101,8 @@ pub fn expect_frame<R: Threads + Sync + Abort, S: System>(
     posts: &[u64],
     steps: &[Step],
 )
-    requires engine { IsEngine S.meaning engine.old }
-    ensures engine { IsEngine S.meaning engine.new }
+    requires engine { IsEngine i64_values S.meaning engine.old }
+    ensures engine { IsEngine i64_values S.meaning engine.new }
 {
     let log = run_frame(rt, engine, frame, number, &NoGate).expect(rt, "a frame");
     expect_log(rt, &log, posts, steps);
@@ -109,7 +110,7 @@ pub fn expect_frame<R: Threads + Sync + Abort, S: System>(
 
 /// Replays a frame in this order. Its posts get the numbers `posts`, and its turns come to
 /// `steps`.
-pub fn expect_replay<S: System>(
+pub fn expect_replay<S: SystemOf<Value = i64>>(
     rt: &impl Abort,
     engine: &mut EngineOf<S>,
     frame: &Frame,
@@ -117,8 +118,8 @@ pub fn expect_replay<S: System>(
     posts: &[u64],
     steps: &[Step],
 )
-    requires engine { IsEngine S.meaning engine.old }
-    ensures engine { IsEngine S.meaning engine.new }
+    requires engine { IsEngine i64_values S.meaning engine.old }
+    ensures engine { IsEngine i64_values S.meaning engine.new }
 {
     let log = replay(rt, engine, frame, order).expect(rt, "a frame");
     expect_log(rt, &log, posts, steps);

@@ -1,12 +1,13 @@
 // Relays and tallies that join late, and miss messages that were dropped before.
 ghost use Rattle.msg_exec.specs.Prelude.{IsEngine};
+ghost use Rattle.msg_world.specs.Prelude.{i64_values};
 
 use crate::expecting::{posted, replies_of};
 use crate::making::{NUMBERS, frame_of, run_frames};
 use msg_buffer::Written;
 use msg_exec::{EngineBuilder, EngineOf, Log, NoGate};
 use msg_part_tests::numbers::{res_no, type_no};
-use msg_system::{Numbered, Relay, Reply, Start, System, Tally, Took};
+use msg_system::{Numbered, Relay, Reply, Start, SystemOf, Tally, Took};
 use msg_world::World;
 use std::alloc::Global;
 use std::panic::Expect;
@@ -14,8 +15,12 @@ use std::process::Abort;
 use std::thread::Threads;
 
 /// An engine of this system, which joins with the third frame.
-fn engine_of_late<S: Numbered>(rt: &impl Abort, alloc: Global, system: S) -> EngineOf<S>
-    ensures engine { IsEngine S.meaning result }
+fn engine_of_late<S: Numbered + SystemOf<Value = i64>>(
+    rt: &impl Abort,
+    alloc: Global,
+    system: S,
+) -> EngineOf<S>
+    ensures engine { IsEngine i64_values S.meaning result }
 {
     let mut systems = EngineBuilder::new(alloc);
     let added = systems.add_system(system, Vec::new(alloc), 3);
@@ -25,13 +30,13 @@ fn engine_of_late<S: Numbered>(rt: &impl Abort, alloc: Global, system: S) -> Eng
 }
 
 /// Runs three frames, of which each posts a message, and gives the log of the third.
-fn third_log<R: Threads + Sync + Abort, S: System>(
+fn third_log<R: Threads + Sync + Abort, S: SystemOf<Value = i64> + Send>(
     rt: &R,
     alloc: Global,
     engine: &mut EngineOf<S>,
     number: u32,
 ) -> Log
-    requires engine { IsEngine S.meaning engine.old }
+    requires engine { IsEngine i64_values S.meaning engine.old }
 {
     let t = type_no(0);
     let frames = [1, 2, 3].map(|value| frame_of(rt, alloc, &[(t, value)]));

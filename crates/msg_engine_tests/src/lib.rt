@@ -19,6 +19,7 @@ mod deciding;
 mod expecting;
 #[cfg(test)]
 mod frames;
+pub mod game_values;
 #[cfg(test)]
 mod gates;
 #[cfg(test)]
@@ -28,7 +29,10 @@ mod limits;
 #[cfg(test)]
 mod making;
 #[cfg(test)]
+mod many_values;
+#[cfg(test)]
 mod out_of_memory;
+pub mod pairs;
 #[cfg(test)]
 mod prefaced;
 #[cfg(test)]

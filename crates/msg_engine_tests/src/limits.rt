@@ -3,13 +3,14 @@
 // a batch, 1,024 posts and 100,000; 10,000 frames, with the last of which a system joins, and a
 // million; 64 workers; an order of 300; and a read of the greatest limit.
 ghost use Rattle.msg_exec.specs.Prelude.{IsEngine};
+ghost use Rattle.msg_world.specs.Prelude.{i64_values};
 
 use crate::expecting::{by, expect_frame, posted, read, replies_of, wrote};
 use crate::making::{engine_of, frame_of, quiet, readers, replay, run_frame, run_frames, script};
 use msg_exec::{EngineBuilder, EngineOf, Frame, Items, Log, NoGate, Outcome, RunFault};
 use msg_order::Rule;
 use msg_part_tests::numbers::{res_no, type_no};
-use msg_system::{Condition, Op, Probe, Reply, Scripted, Start, System};
+use msg_system::{Condition, Op, Probe, Reply, Scripted, Start, SystemOf};
 use msg_world::{Record, TypeNo, World};
 use std::alloc::Global;
 use std::panic::Expect;
@@ -32,7 +33,7 @@ fn a_read_of_the_greatest_limit(rt: HostRuntime) {
 
 /// An engine of a script that writes each of 64 types, and of one that sets each of 64 resources.
 fn writers_of_all(rt: &impl Abort, alloc: Global) -> EngineOf<Scripted>
-    ensures engine { IsEngine ⟦<Scripted as System>⟧.meaning result }
+    ensures engine { IsEngine i64_values ⟦<Scripted as SystemOf>⟧.meaning result }
 {
     let (mut writes, mut sets) = (Vec::new(alloc), Vec::new(alloc));
     for number in 0..64u32 {
@@ -126,7 +127,7 @@ fn rules_backwards(rt: &impl Abort, alloc: Global) -> Vec<Rule> {
 
 /// An engine of 256 systems and 1,024 rules. The last system writes, and the others read.
 fn backwards(rt: &impl Abort, alloc: Global) -> EngineOf<Scripted>
-    ensures engine { IsEngine ⟦<Scripted as System>⟧.meaning result }
+    ensures engine { IsEngine i64_values ⟦<Scripted as SystemOf>⟧.meaning result }
 {
     let (t, mut ops) = (type_no(0), Vec::new(alloc));
     for _reader in 0..255u32 {
@@ -166,7 +167,7 @@ fn an_order_of_300(rt: HostRuntime) {
 
 /// An engine of a reader with 8 conditions, each with 16 nots: it runs if a message is unread.
 fn guarded(rt: &impl Abort, alloc: Global) -> EngineOf<Scripted>
-    ensures engine { IsEngine ⟦<Scripted as System>⟧.meaning result }
+    ensures engine { IsEngine i64_values ⟦<Scripted as SystemOf>⟧.meaning result }
 {
     let probe = Probe::OnMessage(type_no(0));
     let conditions = Vec::from_elem(alloc, Condition { nots: 16, probe }, 8);
@@ -269,7 +270,7 @@ fn posts_and_values(rt: HostRuntime) {
 
 /// An engine of a reader that joins with the last frame that it can join with.
 fn last_joining(rt: &impl Abort, alloc: Global) -> EngineOf<Scripted>
-    ensures engine { IsEngine ⟦<Scripted as System>⟧.meaning result }
+    ensures engine { IsEngine i64_values ⟦<Scripted as SystemOf>⟧.meaning result }
 {
     let reader = script(rt, alloc, &[Op::Read(type_no(0), None)], Start::Current);
     let mut systems = EngineBuilder::new(alloc);
@@ -286,8 +287,8 @@ fn expect_frames<R: Threads + Sync + Abort>(
     engine: &mut EngineOf<Scripted>,
     number: u32,
 )
-    requires engine { IsEngine ⟦<Scripted as System>⟧.meaning engine.old }
-    ensures engine { IsEngine ⟦<Scripted as System>⟧.meaning engine.new }
+    requires engine { IsEngine i64_values ⟦<Scripted as SystemOf>⟧.meaning engine.old }
+    ensures engine { IsEngine i64_values ⟦<Scripted as SystemOf>⟧.meaning engine.new }
 {
     let (mut frames, mut logs) = (Vec::new(alloc), Vec::new(alloc));
     for _frame in 0..number {
@@ -305,14 +306,14 @@ fn expect_frames<R: Threads + Sync + Abort>(
 }
 
 /// Runs so many frames, one after the other, and gives each log back.
-fn run_and_recycle<R: Threads + Sync + Abort, S: System>(
+fn run_and_recycle<R: Threads + Sync + Abort, S: SystemOf<Value = i64> + Send>(
     rt: &R,
     alloc: Global,
     engine: &mut EngineOf<S>,
     number: u32,
 )
-    requires engine { IsEngine S.meaning engine.old }
-    ensures engine { IsEngine S.meaning engine.new }
+    requires engine { IsEngine i64_values S.meaning engine.old }
+    ensures engine { IsEngine i64_values S.meaning engine.new }
 {
     let frame = quiet(alloc);
     for _frame in 0..number {

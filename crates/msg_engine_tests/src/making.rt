@@ -1,13 +1,14 @@
 // Engines and frames for tests, and the calls that run them.
 ghost use Rattle.std.specs.Prelude.{IfOk};
 ghost use Rattle.msg_exec.specs.Prelude.{IsEngine};
+ghost use Rattle.msg_world.specs.Prelude.{i64_values};
 
 use msg_buffer::NoMemory;
 use msg_exec::{BuildError, EngineBuilder, EngineOf, Frame, Gate, Log, RunFault, Workers};
 use msg_order::Rule;
 use msg_part_tests::numbers::type_no;
-use msg_system::{Items, Op, Program, Scripted, Start, System};
-use msg_world::{TypeNo, World};
+use msg_system::{Items, Op, Program, Scripted, Start, SystemOf};
+use msg_world::{TypeNo, Value, World};
 use std::alloc::Global;
 use std::panic::Expect;
 use std::process::Abort;
@@ -17,12 +18,12 @@ use std::thread::Threads;
 pub const NUMBERS: [u32; 4] = [1, 2, 7, 64];
 
 /// A script of these ops.
-pub fn script(
+pub fn script<V: Value>(
     rt: &impl Abort,
     alloc: Global,
-    ops: &[Op],
+    ops: &[Op<V>],
     start: Start,
-) -> Result<Scripted, NoMemory> {
+) -> Result<Scripted<V>, NoMemory> {
     let mut copies = Vec::with_capacity(alloc, ops.len())?;
     for op in ops {
         copies.push(op.copy(alloc)?)?;
@@ -58,7 +59,7 @@ pub fn engine_of(
     ops: &[Op],
     rules: &[Rule],
 ) -> Result<EngineOf<Scripted>, BuildError>
-    ensures engine { IfOk result (IsEngine ⟦<Scripted as System>⟧.meaning) }
+    ensures engine { IfOk result (IsEngine i64_values ⟦<Scripted as SystemOf>⟧.meaning) }
 {
     let systems = scripts(rt, alloc, ops, rules)?;
     assert!(rt; limits.len() <= 64);
@@ -67,7 +68,7 @@ pub fn engine_of(
 
 /// An engine of `number` readers of one type.
 pub fn readers(rt: &impl Abort, alloc: Global, number: u32) -> EngineOf<Scripted>
-    ensures engine { IsEngine ⟦<Scripted as System>⟧.meaning result }
+    ensures engine { IsEngine i64_values ⟦<Scripted as SystemOf>⟧.meaning result }
 {
     let mut systems = EngineBuilder::new(alloc);
     for _ in 0..number {
@@ -80,7 +81,7 @@ pub fn readers(rt: &impl Abort, alloc: Global, number: u32) -> EngineOf<Scripted
 }
 
 /// A frame with these posts.
-pub fn frame_of(rt: &impl Abort, alloc: Global, posts: &[(TypeNo, i64)]) -> Frame {
+pub fn frame_of<V: Value>(rt: &impl Abort, alloc: Global, posts: &[(TypeNo, V)]) -> Frame<V> {
     Frame {
         posts: Items::from_vec(Vec::from_slice(alloc, posts).expect(rt, "posts")),
     }
@@ -102,45 +103,55 @@ fn workers(rt: &impl Abort, number: u32) -> Workers {
 }
 
 /// Runs one frame on `number` workers.
-pub fn run_frame<R: Threads + Sync + Abort, S: System, G: Gate>(
+pub fn run_frame<
+    R: Threads + Sync + Abort,
+    V: Value + Send + Sync,
+    S: SystemOf<Value = V> + Send,
+    G: Gate,
+>(
     rt: &R,
-    engine: &mut EngineOf<S>,
-    frame: &Frame,
+    engine: &mut EngineOf<S, V>,
+    frame: &Frame<V>,
     number: u32,
     gate: &G,
-) -> Result<Log, RunFault>
-    requires engine { IsEngine S.meaning engine.old }
-    ensures engine { IsEngine S.meaning engine.new }
+) -> Result<Log<V>, RunFault>
+    requires engine { IsEngine V.values S.meaning engine.old }
+    ensures engine { IsEngine V.values S.meaning engine.new }
 {
     assert!(rt; engine.fits(frame));
     engine.run_frame(rt, frame, workers(rt, number), gate)
 }
 
 /// Runs frames on `number` workers, and appends their logs.
-pub fn run_frames<R: Threads + Sync + Abort, S: System, G: Gate>(
+pub fn run_frames<
+    R: Threads + Sync + Abort,
+    V: Value + Send + Sync,
+    S: SystemOf<Value = V> + Send,
+    G: Gate,
+>(
     rt: &R,
-    engine: &mut EngineOf<S>,
-    frames: &[Frame],
+    engine: &mut EngineOf<S, V>,
+    frames: &[Frame<V>],
     number: u32,
     gate: &G,
-    logs: &mut Vec<Log>,
+    logs: &mut Vec<Log<V>>,
 ) -> Result<(), RunFault>
-    requires engine { IsEngine S.meaning engine.old }
-    ensures engine { IsEngine S.meaning engine.new }
+    requires engine { IsEngine V.values S.meaning engine.old }
+    ensures engine { IsEngine V.values S.meaning engine.new }
 {
     assert!(rt; engine.all_fit(frames));
     engine.run_frames(rt, frames, workers(rt, number), gate, logs)
 }
 
 /// Replays a frame on this thread, in this order.
-pub fn replay<S: System>(
+pub fn replay<V: Value, S: SystemOf<Value = V>>(
     rt: &impl Abort,
-    engine: &mut EngineOf<S>,
-    frame: &Frame,
+    engine: &mut EngineOf<S, V>,
+    frame: &Frame<V>,
     order: &[u32],
-) -> Result<Log, RunFault>
-    requires engine { IsEngine S.meaning engine.old }
-    ensures engine { IsEngine S.meaning engine.new }
+) -> Result<Log<V>, RunFault>
+    requires engine { IsEngine V.values S.meaning engine.old }
+    ensures engine { IsEngine V.values S.meaning engine.new }
 {
     assert!(rt; engine.fits(frame));
     engine.replay_frame(frame, order)

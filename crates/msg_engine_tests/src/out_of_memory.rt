@@ -1,7 +1,7 @@
 // What refused requests for ordinary memory leave of engines. Each test prints `refused` where
 // the call that it tests answered want of memory, and `ample` where it gave its whole answer.
 ghost use Rattle.std.specs.Prelude.{◌≡◌, IfOk, Ok};
-ghost use Rattle.msg_world.specs.Prelude.{IsWhole};
+ghost use Rattle.msg_world.specs.Prelude.{IsWhole, i64_values};
 ghost use Rattle.msg_exec.specs.Prelude.{IsEngine};
 
 use crate::expecting::{by, expect_log, read, wrote};
@@ -13,7 +13,7 @@ use msg_exec::{
 use msg_order::Rule;
 use msg_part_tests::numbers::type_no;
 use msg_part_tests::outcome::tell;
-use msg_system::{Op, Scripted, System};
+use msg_system::{Op, Scripted, SystemOf};
 use msg_world::World;
 use std::alloc::Global;
 use std::process::Abort;
@@ -33,7 +33,7 @@ fn made<T: Drop>(rt: &impl Abort, made: Result<T, BuildError>) -> Result<T, NoMe
 
 /// A reader, and after it a writer: what is written is read a frame later.
 fn lagging(rt: &impl Abort, alloc: Global) -> Result<EngineOf<Scripted>, NoMemory>
-    ensures engine { IfOk result (IsEngine ⟦<Scripted as System>⟧.meaning) }
+    ensures engine { IfOk result (IsEngine i64_values ⟦<Scripted as SystemOf>⟧.meaning) }
 {
     let t = type_no(0);
     let ops = [Op::Read(t, None), Op::Write(t, 5)];
@@ -58,7 +58,7 @@ fn is_refused<R: Threads + Sync + Abort>(
     frames_run: u32,
     came: Result<(), RunFault>,
 ) -> bool
-    requires engine { IsEngine ⟦<Scripted as System>⟧.meaning engine.old }
+    requires engine { IsEngine i64_values ⟦<Scripted as SystemOf>⟧.meaning engine.old }
 {
     match came {
         Ok(()) => {
@@ -81,7 +81,7 @@ fn run_two<R: Threads + Sync + Abort>(
     engine: &mut EngineOf<Scripted>,
     number: u32,
 ) -> (Vec<Log>, bool)
-    requires engine { IsEngine ⟦<Scripted as System>⟧.meaning engine.old }
+    requires engine { IsEngine i64_values ⟦<Scripted as SystemOf>⟧.meaning engine.old }
 {
     let (frames, mut logs) = ([quiet(alloc), quiet(alloc)], Vec::new(alloc));
     let ran = run_frames(rt, engine, &frames, number, &NoGate, &mut logs);
@@ -120,7 +120,7 @@ fn frames_on_two_workers(rt: HostRuntime) -> Result<(), Fail> {
 
 /// A writer, and two readers that may run side by side: on two workers they draw from a board.
 fn readers_beside(rt: &impl Abort, alloc: Global) -> Result<EngineOf<Scripted>, NoMemory>
-    ensures engine { IfOk result (IsEngine ⟦<Scripted as System>⟧.meaning) }
+    ensures engine { IfOk result (IsEngine i64_values ⟦<Scripted as SystemOf>⟧.meaning) }
 {
     let t = type_no(0);
     let ops = [Op::Write(t, 5), Op::Read(t, None), Op::Read(t, None)];
@@ -156,8 +156,8 @@ fn replay_two(
     engine: &mut EngineOf<Scripted>,
     replayed: &mut u32,
 ) -> Result<(), RunFault>
-    requires engine { IsEngine ⟦<Scripted as System>⟧.meaning engine.old }
-    ensures engine { IsEngine ⟦<Scripted as System>⟧.meaning engine.new }
+    requires engine { IsEngine i64_values ⟦<Scripted as SystemOf>⟧.meaning engine.old }
+    ensures engine { IsEngine i64_values ⟦<Scripted as SystemOf>⟧.meaning engine.new }
 {
     let frame = quiet(alloc);
     expect_lag(rt, &replay(rt, engine, &frame, &[0, 1])?, 0);
@@ -201,7 +201,7 @@ fn expect_settled(
     alloc: Global,
     engine: &mut EngineOf<Scripted>,
 ) -> Result<(), RunFault>
-    requires engine { IsEngine ⟦<Scripted as System>⟧.meaning engine.old }
+    requires engine { IsEngine i64_values ⟦<Scripted as SystemOf>⟧.meaning engine.old }
 {
     let (frame, one) = (quiet(alloc), [by(0, 1)]);
     let as_added = replay(rt, engine, &frame, &[0, 1, 2, 3]).err();

@@ -1,10 +1,11 @@
 // Systems, and what is done before each of their runs.
 ghost use Rattle.msg_exec.specs.Prelude.{IsEngine};
+ghost use Rattle.msg_world.specs.Prelude.{i64_values};
 
 use crate::making::script;
 use msg_exec::{EngineBuilder, EngineOf};
 use msg_part_tests::numbers::type_no;
-use msg_system::{Access, NoMemory, Numbered, Op, Reply, Scripted, Start, System};
+use msg_system::{Access, NoMemory, Numbered, Op, Reply, Scripted, Start, SystemOf};
 use msg_world::{Counts, Lent, Taken, TypeNo, World};
 use std::alloc::Global;
 use std::panic::Expect;
@@ -46,12 +47,18 @@ impl Before {
 
 /// A system, and what is done before each of its runs.
 #[derive(Drop)]
-pub struct Prefaced<S: System> {
+pub struct Prefaced<S: SystemOf<Value = i64>> {
     pub system: S,
     pub before: Before,
 }
 
-impl<S: System> System for Prefaced<S> {
+impl<S: SystemOf<Value = i64>> SystemOf for Prefaced<S> {
+    type Value = i64;
+
+    ghost use Rattle.std.specs.Prelude.{IfOk};
+    ghost use Rattle.msg_world.specs.Prelude.{SameShape, i64_values, taken_of};
+    ghost use Rattle.msg_system.specs.Prelude.{Covers, Ran};
+
     ghost meaning = { λ s. S.meaning s.system };
 
     fn access(&self) -> Access {
@@ -70,13 +77,19 @@ impl<S: System> System for Prefaced<S> {
         self.system.start(counts);
     }
 
-    fn run(&mut self, alloc: Global, lent: Lent, out: &mut Vec<Reply>) -> Result<Taken, NoMemory> {
+    fn run(&mut self, alloc: Global, lent: Lent, out: &mut Vec<Reply>) -> Result<Taken, NoMemory>
+        requires covers { Covers (S.meaning self.old.system).needs lent }
+        ensures ran { IfOk result
+            (λ taken. Ran i64_values (S.meaning self.old.system) (S.meaning self.new.system)
+            lent.entry taken out.old.items out.new.items) }
+        ensures shape { IfOk result (λ taken. SameShape (taken_of lent.entry) taken) }
+    {
         self.before.run()?;
         self.system.run(alloc, lent, out)
     }
 }
 
-impl<S: Numbered> Numbered for Prefaced<S> {
+impl<S: Numbered + SystemOf<Value = i64>> Numbered for Prefaced<S> {
     fn set_number(&mut self, number: u32) {
         self.system.set_number(number);
     }
@@ -88,7 +101,7 @@ pub fn prefaced_readers(
     alloc: Global,
     all: Vec<Before>,
 ) -> EngineOf<Prefaced<Scripted>>
-    ensures engine { IsEngine ⟦<Prefaced<Scripted> as System>⟧.meaning result }
+    ensures engine { IsEngine i64_values ⟦<Prefaced<Scripted> as SystemOf>⟧.meaning result }
 {
     let mut systems = EngineBuilder::new(alloc);
     for before in all {
@@ -118,7 +131,7 @@ pub fn noting_engine(
     ops: Vec<(Op, Start)>,
     noted: &Arc<AtomicU64>,
 ) -> EngineOf<Prefaced<Scripted>>
-    ensures engine { IsEngine ⟦<Prefaced<Scripted> as System>⟧.meaning result }
+    ensures engine { IsEngine i64_values ⟦<Prefaced<Scripted> as SystemOf>⟧.meaning result }
 {
     let mut systems = EngineBuilder::new(alloc);
     let mut digit = 0;

@@ -1,5 +1,6 @@
 // Frames in a given order.
 ghost use Rattle.msg_exec.specs.Prelude.{IsEngine};
+ghost use Rattle.msg_world.specs.Prelude.{i64_values};
 
 use crate::expecting::{Step, by, expect_log, expect_replay, posted, read, wrote};
 use crate::making::{frame_of, quiet, replay, run_frame, run_frames};
@@ -7,7 +8,7 @@ use crate::prefaced::{Prefaced, noting_engine};
 use msg_buffer::MessageId;
 use msg_exec::{Account, EngineOf, Frame, Log, NoGate, RunFault};
 use msg_part_tests::numbers::type_no;
-use msg_system::{Op, Scripted, Start, System};
+use msg_system::{Op, Scripted, Start, SystemOf};
 use msg_world::{Record, TypeNo};
 use std::alloc::Global;
 use std::panic::Expect;
@@ -30,19 +31,23 @@ fn account(system: u32, place: u64) -> Account {
 }
 
 /// The numbers of the oldest message of this type and of the next.
-fn kept<S: System>(engine: &EngineOf<S>, t: TypeNo) -> Option<(u64, u64)> {
+fn kept<S: SystemOf<Value = i64>>(engine: &EngineOf<S>, t: TypeNo) -> Option<(u64, u64)> {
     let messages = engine.world()?.messages(t)?;
     Some((messages.oldest(), messages.count()))
 }
 
 /// The message of this type under this number.
-fn message<S: System>(engine: &EngineOf<S>, t: TypeNo, number: u64) -> Option<Record> {
+fn message<S: SystemOf<Value = i64>>(
+    engine: &EngineOf<S>,
+    t: TypeNo,
+    number: u64,
+) -> Option<Record> {
     engine.world()?.messages(t)?.get(MessageId(number)).copied()
 }
 
 /// After `frames` frames `numbers` are those of the oldest message and of the next one, and
 /// `accounts` are those of both readers.
-fn expect_after<S: System>(
+fn expect_after<S: SystemOf<Value = i64>>(
     rt: &impl Abort,
     engine: &EngineOf<S>,
     frames: u32,
@@ -56,14 +61,14 @@ fn expect_after<S: System>(
 }
 
 /// This order is refused.
-fn expect_unlawful<S: System>(
+fn expect_unlawful<S: SystemOf<Value = i64>>(
     rt: &impl Abort,
     engine: &mut EngineOf<S>,
     frame: &Frame,
     order: &[u32],
 )
-    requires engine { IsEngine S.meaning engine.old }
-    ensures engine { IsEngine S.meaning engine.new }
+    requires engine { IsEngine i64_values S.meaning engine.old }
+    ensures engine { IsEngine i64_values S.meaning engine.new }
 {
     let log = replay(rt, engine, frame, order);
     assert!(rt; matches!(log, Err(RunFault::BadOrder)));
@@ -75,7 +80,7 @@ fn writer_and_readers(
     alloc: Global,
     noted: &Arc<AtomicU64>,
 ) -> EngineOf<Prefaced<Scripted>>
-    ensures engine { IsEngine ⟦<Prefaced<Scripted> as System>⟧.meaning result }
+    ensures engine { IsEngine i64_values ⟦<Prefaced<Scripted> as SystemOf>⟧.meaning result }
 {
     let t = type_no(0);
     let ops = vec![in alloc;
@@ -87,12 +92,12 @@ fn writer_and_readers(
 }
 
 /// Runs two frames in one call, on two workers.
-fn run_both<R: Threads + Sync + Abort, S: System>(
+fn run_both<R: Threads + Sync + Abort, S: SystemOf<Value = i64> + Send>(
     rt: &R,
     alloc: Global,
     engine: &mut EngineOf<S>,
 ) -> Vec<Log>
-    requires engine { IsEngine S.meaning engine.old }
+    requires engine { IsEngine i64_values S.meaning engine.old }
 {
     let (frames, mut logs) = ([quiet(alloc), quiet(alloc)], Vec::new(alloc));
     let ran = run_frames(rt, engine, &frames, 2, &NoGate, &mut logs);
@@ -101,14 +106,14 @@ fn run_both<R: Threads + Sync + Abort, S: System>(
 }
 
 /// Refuses three orders of the second frame, in which nothing runs, and then takes one.
-fn replay_second<S: System>(
+fn replay_second<S: SystemOf<Value = i64>>(
     rt: &impl Abort,
     alloc: Global,
     engine: &mut EngineOf<S>,
     noted: &AtomicU64,
 ) -> Log
-    requires engine { IsEngine S.meaning engine.old }
-    ensures engine { IsEngine S.meaning engine.new }
+    requires engine { IsEngine i64_values S.meaning engine.old }
+    ensures engine { IsEngine i64_values S.meaning engine.new }
 {
     let frame = quiet(alloc);
     noted.store(0, Ordering::SeqCst);
@@ -137,7 +142,7 @@ fn expect_same_turns(rt: &impl Abort, ran: &Log, replayed: &Log) {
 }
 
 /// Both engines have the same messages of the first type, and tell the same accounts.
-fn expect_alike<S: System>(rt: &impl Abort, one: &EngineOf<S>, other: &EngineOf<S>) {
+fn expect_alike<S: SystemOf<Value = i64>>(rt: &impl Abort, one: &EngineOf<S>, other: &EngineOf<S>) {
     let t = type_no(0);
     assert_eq!(rt; kept(one, t), kept(other, t));
     for number in 0..2 {
@@ -173,15 +178,15 @@ fn a_replayed_frame(rt: HostRuntime) {
 }
 
 /// Replays a frame that no system has joined by: the post gets this number.
-fn expect_post_alone<S: System>(
+fn expect_post_alone<S: SystemOf<Value = i64>>(
     rt: &impl Abort,
     alloc: Global,
     engine: &mut EngineOf<S>,
     value: i64,
     number: u64,
 )
-    requires engine { IsEngine S.meaning engine.old }
-    ensures engine { IsEngine S.meaning engine.new }
+    requires engine { IsEngine i64_values S.meaning engine.old }
+    ensures engine { IsEngine i64_values S.meaning engine.new }
 {
     let frame = frame_of(rt, alloc, &[(type_no(0), value)]);
     expect_unlawful(rt, engine, &frame, &[0]);
@@ -215,8 +220,12 @@ fn late_systems(rt: HostRuntime) {
 }
 
 /// Both readers join in the third frame, whose replay lets the second run first.
-fn expect_they_join<S: System>(rt: &impl Abort, engine: &mut EngineOf<S>, third: &Frame)
-    requires engine { IsEngine S.meaning engine.old }
+fn expect_they_join<S: SystemOf<Value = i64>>(
+    rt: &impl Abort,
+    engine: &mut EngineOf<S>,
+    third: &Frame,
+)
+    requires engine { IsEngine i64_values S.meaning engine.old }
 {
     let both = [posted(2), posted(3)];
     let missing = Step {

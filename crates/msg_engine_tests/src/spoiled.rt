@@ -1,11 +1,12 @@
 // Engines that want of memory spoils, and what the other jobs of a batch do beside it.
 ghost use Rattle.msg_exec.specs.Prelude.{IsEngine};
+ghost use Rattle.msg_world.specs.Prelude.{i64_values};
 
 use crate::gates::HoldGate;
 use crate::making::{quiet, replay, run_frame, run_frames};
 use crate::prefaced::{Before, Prefaced, add_counts, prefaced_readers};
 use msg_exec::{EngineOf, NoGate, RunFault};
-use msg_system::{Scripted, System};
+use msg_system::{Scripted, SystemOf};
 use std::alloc::Global;
 use std::panic::Expect;
 use std::process::Abort;
@@ -15,13 +16,13 @@ use std::thread::Threads;
 
 /// The engine was spoiled after `frames_run` frames: each call that runs a frame answers `Spoiled`,
 /// and so does `accounts`; and there is no world.
-pub fn expect_spoiled<R: Threads + Sync + Abort, S: System>(
+pub fn expect_spoiled<R: Threads + Sync + Abort, S: SystemOf<Value = i64> + Send>(
     rt: &R,
     alloc: Global,
     engine: &mut EngineOf<S>,
     frames_run: u32,
 )
-    requires engine { IsEngine S.meaning engine.old }
+    requires engine { IsEngine i64_values S.meaning engine.old }
 {
     let (frames, mut logs) = ([quiet(alloc)], Vec::new(alloc));
     let one = run_frame(rt, engine, &frames[0], 1, &NoGate).err();
@@ -43,7 +44,7 @@ fn failing_engine(
     first_runs: u32,
     runs: &Arc<AtomicU64>,
 ) -> EngineOf<Prefaced<Scripted>>
-    ensures engine { IsEngine ⟦<Prefaced<Scripted> as System>⟧.meaning result }
+    ensures engine { IsEngine i64_values ⟦<Prefaced<Scripted> as SystemOf>⟧.meaning result }
 {
     let mut all = vec![in alloc; Before::FailAfter(first_runs)].expect(rt, "a list");
     add_counts(rt, &mut all, readers.saturating_sub(1), runs);

@@ -9,20 +9,22 @@ use Rattle.msg_frames.specs.Prelude.{after_turns_of, State}
 use Rattle.msg_frames.proofs.{BatchesSideBySide.turns_then_more, SystemsStay.turns_keep_systems, ElementsAndPairs.pairs_left, ElementsAndPairs.pairs_right}
 use Rattle.msg_world.specs.declared.access.Access.{Access}
 use Rattle.msg_order.specs.Prelude.{NoneConflict}
+use Rattle.msg_world.specs.Prelude.{Values}
 
-pub as_many_systems : (is : List ℕ) (s : State) → (after_turns_of is s).state.systems ≡ s.systems
-as_many_systems is s = (turns_keep_systems is s).systems
+module _ {V : Type 0} {values : Values V} where
+  pub as_many_systems : (is : List ℕ) (s : State values) → (after_turns_of is s).state.systems ≡ s.systems
+  as_many_systems is s = (turns_keep_systems is s).systems
 
-module _ {S : Type 0} (meaning : S → Meaning) where
+module _ {S V : Type 0} {values : Values V} (meaning : S → Meaning V) where
   -- what holds after the turns of some systems
-  pub record HasTurned (is : List ℕ) (s : State) (lender : Lender S) (before after : List Turn) : Type 0 where
+  pub record HasTurned (is : List ℕ) (s : State values) (lender : Lender S V) (before after : List (Turn V)) : Type 0 where
     pub state : LenderStands meaning lender (after_turns_of is s).state
     pub turns : after ≡ before ++ (after_turns_of is s).turns
 
-  pub turned_more : (js : List ℕ) {is : List ℕ} {s : State} {g h : Lender S} {before between after : List Turn}
+  pub turned_more : (js : List ℕ) {is : List ℕ} {s : State values} {g h : Lender S V} {before between after : List (Turn V)}
       → HasTurned is s g before between
-      → ((s : State) → LenderStands meaning g s → LenderStands meaning h (after_turns_of js s).state)
-      → ((s : State) → LenderStands meaning g s → after ≡ between ++ (after_turns_of js s).turns)
+      → ((s : State values) → LenderStands meaning g s → LenderStands meaning h (after_turns_of js s).state)
+      → ((s : State values) → LenderStands meaning g s → after ≡ between ++ (after_turns_of js s).turns)
       → HasTurned (is ++ js) s h before after
   turned_more js {is} {s} far state turns = record {
     state = rw turns_then_more (state _ far.state);

@@ -3,7 +3,7 @@ use Rattle.std.proofs.Common.{◌≡◌, ◌≢◌, ℕ, ◌<◌, false, List, [
 use Rattle.std.proofs.lemmas.{Bool.cases_Bool, Bool.Decides.eqb_tells, List.append-nil, List.get_or-set_other, List.get_or-set_same, List.length-set, List.map-append, List.Elements.All-cons, List.Elements.All-contains, List.Elements.All-head, List.Elements.All-tail, List.Elements.Contains-append_right, Slice.Zip.AllZip-long, List.nil_from_length, Slice.Zip.AllZip-left, Option.get_or_from_slice_get, Option.slice_get_within, Result.IfOk-weaker}
 use Rattle.std.specs.List.{AllZip}
 use Rattle.msg_world.specs.declared.access.Access.{Access}
-use Rattle.msg_world.specs.Prelude.{HomeMerges, HomeWhereEither, IsApart, Part, PartsStand, SameShape, SameSize, slot, writes}
+use Rattle.msg_world.specs.Prelude.{HomeMerges, HomeWhereEither, IsApart, Part, PartsStand, SameShape, SameSize, slot, writes, Values}
 use Rattle.msg_order.specs.Prelude.{access_of}
 use Rattle.msg_system.specs.Prelude.{Job as JobState, Meaning, after_job}
 use Rattle.msg_exec.specs.Prelude.{IsAfterJob, IsDone, JobView, Lender, LenderStands, TotalsStand, job_state, system_at}
@@ -20,43 +20,44 @@ first_beside : {X Y : Type 0} (R : X → Y → Type 0) (xs : List X) (y : Y) (ys
 first_beside R [] y ys all = absurd all
 first_beside R (x ∷ rest) y ys all = (x, rest, refl, all.0, all.1)
 
-pub all_home_more : (accesses : List Access) (start : State) (come : List ℕ) (i : ℕ) (s : State)
-    → all_home accesses start (come ++ i ∷ []) s ≡ home accesses start i (all_home accesses start come s)
-all_home_more accesses start [] i s = refl
-all_home_more accesses start (x ∷ come) i s = all_home_more accesses start come i (home accesses start x s)
+module _ {V : Type 0} {values : Values V} where
+  pub all_home_more : (accesses : List Access) (start : State values) (come : List ℕ) (i : ℕ) (s : State values)
+      → all_home accesses start (come ++ i ∷ []) s ≡ home accesses start i (all_home accesses start come s)
+  all_home_more accesses start [] i s = refl
+  all_home_more accesses start (x ∷ come) i s = all_home_more accesses start come i (home accesses start x s)
 
-module _ {S : Type 0} where
+module _ {S V : Type 0} where
   -- a system may come home
-  pub record MayCome (now : Lender S) (d : JobView S) : Type 0 where
+  pub record MayCome (now : Lender S V) (d : JobView S V) : Type 0 where
     pub systems : d.number < length now.systems.items
     pub totals : d.number < length now.totals.items
     pub apart : IsApart d.taken now.world
     pub few : HasFewReplies d.outcome
 
-module _ {S : Type 0} (meaning : S → Meaning) where
+module _ {S V : Type 0} {values : Values V} (meaning : S → Meaning V) where
   -- ---- what the jobs of a batch give
 
   -- What system i gives back: all that its access writes, as its turn on the state s leaves that.
-  pub record IsBack (whole : Lender S) (s : State) (i : ℕ) (d : JobView S) : Type 0 where
+  pub record IsBack (whole : Lender S V) (s : State values) (i : ℕ) (d : JobView S V) : Type 0 where
     pub number : d.number ≡ i
     pub size : SameSize whole.world d.taken
     pub there : (p : Part) → is_some (slot p d.taken) ≡ writes (access_of whole.accesses.items i) p
     pub after : IsAfterJob meaning (after_job (s.members i).job s.world) d.guarded d.taken d.outcome
 
-  pub is_back : {whole : Lender S} (left : Lender S) {s : State} (i : ℕ) {j : JobView S} {d : JobView S}
+  pub is_back : {whole : Lender S V} (left : Lender S V) {s : State values} (i : ℕ) {j : JobView S V} {d : JobView S V}
       → LenderStands meaning whole s → i < s.systems → PartsStand left.world s.world → IsOut whole i j
-      → IsDone meaning left.world j d → IsBack whole s i d
+      → IsDone values meaning left.world j d → IsBack whole s i d
   is_back left {s} i {j} stands lt world out done =
       let taken : PartsStand j.taken s.world = λ p. grind (arith, cases_Bool) in
       grind (arith, has_written, taken)
 
   -- the same, where no memory was refused to it
-  abbrev pub IsResultBack : {E : Type 0} → Lender S → State → ℕ → Result (JobView S) E → Type 0
+  abbrev pub IsResultBack : {E : Type 0} → Lender S V → State values → ℕ → Result (JobView S V) E → Type 0
   IsResultBack whole s i r = IfOk r (IsBack whole s i)
 
-  pub all_back : {E : Type 0} {whole left : Lender S} {s : State} {batch : List ℕ} {js : List (JobView S)}
-      {rs : List (Result (JobView S) E)}
-      → IsBatch meaning whole s batch → AreOut whole batch js left → AreResults meaning left.world js rs
+  pub all_back : {E : Type 0} {whole left : Lender S V} {s : State values} {batch : List ℕ} {js : List (JobView S V)}
+      {rs : List (Result (JobView S V) E)}
+      → IsBatch meaning whole s batch → AreOut whole batch js left → AreResults values meaning left.world js rs
       → AllZip (IsResultBack whole s) batch rs
   all_back {whole = whole} {left} {s} {batch} {js} {rs} of out run =
       let many = run.as_many ∙ AllZip-long (IsOut whole) batch js out.each in
@@ -70,7 +71,7 @@ module _ {S : Type 0} (meaning : S → Meaning) where
   -- ---- some have come home, and the rest is still out
 
   -- What stands while the rest is out: u is the state s after what the others wrote has come home.
-  pub record Halfway (whole : Lender S) (s u : State) (rest : List ℕ) (now : Lender S) : Type 0 where
+  pub record Halfway (whole : Lender S V) (s u : State values) (rest : List ℕ) (now : Lender S V) : Type 0 where
     pub systems : length now.systems.items ≡ s.systems
     pub accesses : now.accesses.items ≡ whole.accesses.items
     pub as_many : length now.totals.items ≡ s.systems
@@ -84,7 +85,7 @@ module _ {S : Type 0} (meaning : S → Meaning) where
     pub there : (p : Part) → is_some (slot p now.world)
         ≡ (if any_writes whole.accesses.items rest p then false else is_some (slot p whole.world))
 
-  module _ (whole now : Lender S) (s u : State) (i : ℕ) (rest : List ℕ) (d : JobView S)
+  module _ (whole now : Lender S V) (s u : State values) (i : ℕ) (rest : List ℕ) (d : JobView S V)
       (stands : LenderStands meaning whole s) (lt : i < s.systems)
       (half : Halfway whole s u (i ∷ rest) now) (back : IsBack whole s i d) where
     -- what it gives back is out of the world
@@ -94,9 +95,9 @@ module _ {S : Type 0} (meaning : S → Meaning) where
     pub may_come : MayCome now d
     may_come = grind (arith, few_replies, out_of_world)
 
-    module _ (new : Lender S) (comes : ComesHome meaning now d new) (fresh : ¬ Contains rest i)
+    module _ (new : Lender S V) (comes : ComesHome meaning now d new) (fresh : ¬ Contains rest i)
         (free : All (Free whole.accesses.items i) rest)
-        (merges : HomeMerges) (either : HomeWhereEither) where
+        (merges : HomeMerges values) (either : HomeWhereEither V) where
       totals_back : IsSomeAnd (slice_get new.totals.items i)
           (λ v. TotalsStand s.types v.items (member_after (turn_of s i) (s.members i)).totals)
       totals_back =
@@ -104,7 +105,7 @@ module _ {S : Type 0} (meaning : S → Meaning) where
           let old = some_of (slice_get now.totals.items i) there in
           let entered = comes.totals.2 old.0 (rw back.number old.1.0) in
           let after = totals_after s.types (s.members i) s.world old.0.items comes.totals.0.items _ d.outcome
-          (ap (λ (j : JobState). j.system.last) back.after.job) back.after.outcome old.1.1 entered.as_many
+          (ap (λ (j : JobState V). j.system.last) back.after.job) back.after.outcome old.1.1 entered.as_many
           entered.entered in
           grind (arith, after, get_same)
 
@@ -137,7 +138,7 @@ module _ {S : Type 0} (meaning : S → Meaning) where
       }
 
   -- all are home
-  stands_again : (whole now : Lender S) (s u : State) → LenderStands meaning whole s → SameSystems s u
+  stands_again : (whole now : Lender S V) (s u : State values) → LenderStands meaning whole s → SameSystems s u
       → Halfway whole s u [] now → LenderStands meaning now u
   stands_again whole now s u stands same half =
       let shape : SameShape whole.world now.world = record { size = half.size; there = half.there } in
@@ -145,8 +146,8 @@ module _ {S : Type 0} (meaning : S → Meaning) where
 
   -- ---- the batch, from its first system that comes home to its last
 
-  pub record ComingHome {E : Type 0} (whole : Lender S) (batch : List ℕ) (s : State)
-      (rs : List (Result (JobView S) E)) (now : Lender S) (before turns : List Turn) : Type 0 where
+  pub record ComingHome {E : Type 0} (whole : Lender S V) (batch : List ℕ) (s : State values)
+      (rs : List (Result (JobView S V) E)) (now : Lender S V) (before turns : List (Turn V)) : Type 0 where
     pub of : IsBatch meaning whole s batch
     pub come : List ℕ
     pub rest : List ℕ
@@ -155,8 +156,8 @@ module _ {S : Type 0} (meaning : S → Meaning) where
     pub half : Halfway whole s (all_home whole.accesses.items s come s) rest now
     pub logged_so_far : turns ≡ before ++ map (logged_turn s) come
 
-  pub begin_home : {E : Type 0} {whole left : Lender S} {s : State} {batch : List ℕ} {js : List (JobView S)}
-      {rs : List (Result (JobView S) E)} {turns : List Turn} → IsBatch meaning whole s batch
+  pub begin_home : {E : Type 0} {whole left : Lender S V} {s : State values} {batch : List ℕ} {js : List (JobView S V)}
+      {rs : List (Result (JobView S V) E)} {turns : List (Turn V)} → IsBatch meaning whole s batch
       → AreOut whole batch js left → AllZip (IsResultBack whole s) batch rs
       → ComingHome whole batch s rs left turns turns
   begin_home {whole = whole} {left} {s} {batch} {js} {turns = turns} of out back = record {
@@ -169,8 +170,8 @@ module _ {S : Type 0} (meaning : S → Meaning) where
     logged_so_far = sym (append-nil turns);
   }
 
-  module _ {E : Type 0} {whole now : Lender S} {batch : List ℕ} {s : State} {d : JobView S}
-      {left rs : List (Result (JobView S) E)} {before turns : List Turn} (is : left ≡ Ok d ∷ rs)
+  module _ {E : Type 0} {whole now : Lender S V} {batch : List ℕ} {s : State values} {d : JobView S V}
+      {left rs : List (Result (JobView S V) E)} {before turns : List (Turn V)} (is : left ≡ Ok d ∷ rs)
       (far : ComingHome whole batch s left now before turns) where
     in_batch : (rest : List ℕ) (i : ℕ) → far.come ++ i ∷ rest ≡ batch → i < s.systems
     in_batch rest i all = All-contains (λ i. i < s.systems) batch i far.of.below
@@ -181,8 +182,8 @@ module _ {S : Type 0} (meaning : S → Meaning) where
         let (i, rest, at, back, _) = first_beside (IsResultBack whole s) far.rest (Ok d) rs (rw is at far.back) in
         may_come whole now s _ i rest d far.of.stands (in_batch rest i (rw at at far.all)) (rw at at far.half) back
 
-    pub next_comes : {new : Lender S} {turn : Turn} → ComesHome meaning now d new
-        → turn ≡ record { system = d.number; outcome = d.outcome } → HomeMerges → HomeWhereEither
+    pub next_comes : {new : Lender S V} {turn : Turn V} → ComesHome meaning now d new
+        → turn ≡ record { system = d.number; outcome = d.outcome } → HomeMerges values → HomeWhereEither V
         → ComingHome whole batch s rs new before (turns ++ turn ∷ [])
     next_comes {new} {turn} comes tells merges either =
         let (i, rest, at, back, others_back) =
@@ -206,9 +207,9 @@ module _ {S : Type 0} (meaning : S → Meaning) where
         }
 
   -- it is one turn after the other
-  pub all_came : {E : Type 0} {whole now : Lender S} {batch : List ℕ} {s : State} {left : List (Result (JobView S) E)}
-      {before turns : List Turn}
-      → BatchesRunSideBySide → length left ≡ 0 → ComingHome whole batch s left now before turns
+  pub all_came : {E : Type 0} {whole now : Lender S V} {batch : List ℕ} {s : State values} {left : List (Result (JobView S V) E)}
+      {before turns : List (Turn V)}
+      → BatchesRunSideBySide values → length left ≡ 0 → ComingHome whole batch s left now before turns
       → LenderStands meaning now (after_turns_of batch s).state × (turns ≡ before ++ (after_turns_of batch s).turns)
   all_came {whole = whole} {now} {batch} {s} law nobody far =
       let are : AreAccessesOf s whole.accesses.items = grind (arith, far.of.stands) in
@@ -220,12 +221,12 @@ module _ {S : Type 0} (meaning : S → Meaning) where
         rw (come, ← side.0) at far.logged_so_far,
       )
 
-module _ {S : Type 0} (P : ℕ → Type 0) (whole : Lender S) where
+module _ {S V : Type 0} (P : ℕ → Type 0) (whole : Lender S V) where
   -- the jobs that are out are those of the batch
-  pub of_batch : (batch : List ℕ) (jobs : List (JobView S)) → AllZip (IsOut whole) batch jobs
-      → All (λ (j : JobView S). P j.number) jobs → All P batch
+  pub of_batch : (batch : List ℕ) (jobs : List (JobView S V)) → AllZip (IsOut whole) batch jobs
+      → All (λ (j : JobView S V). P j.number) jobs → All P batch
   of_batch [] jobs out told = λ k d lt. absurd (omega (arith, lt))
   of_batch (i ∷ batch) [] out told = absurd out
   of_batch (i ∷ batch) (j ∷ jobs) out told =
-      All-cons P i batch (subst P out.0.number (All-head (λ (j : JobView S). P j.number) j jobs told))
-      (of_batch batch jobs out.1 (All-tail (λ (j : JobView S). P j.number) j jobs told))
+      All-cons P i batch (subst P out.0.number (All-head (λ (j : JobView S V). P j.number) j jobs told))
+      (of_batch batch jobs out.1 (All-tail (λ (j : JobView S V). P j.number) j jobs told))

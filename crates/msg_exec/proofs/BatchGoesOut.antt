@@ -2,7 +2,7 @@
 use Rattle.std.proofs.Common.{◌≡◌, ℕ, ◌<◌, true, List, [], ◌∷◌, ◌++◌, length, refl, ap, ◌∙◌, arith, All, Contains, IsSome, is_some, slice_get, ◌≢◌, ◌+◌, AllPairs, get_or, sym, take}
 use Rattle.std.proofs.lemmas.{Bool.cases_Bool, Bool.cases_eq, Bool.or_left, List.get_or-set_other, List.length-set, Slice.Zip.AllZip-right, Option.get_or_from_slice_get, Option.slice_get_within, List.Elements.Contains-get_or, List.Elements.Contains-append_left, List.Elements.All-contains, List.Elements.Contains-push, Slice.Zip.all_zipped_more, List.take_more}
 use Rattle.msg_exec.proofs.{ItemsOfLists.some_of, BatchWritesApart.any_more, BatchWritesApart.earlier_write_not, BatchWritesApart.others_write_not, BatchWritesApart.written_is_used, BatchWritesApart.each_before, BatchWritesApart.Free}
-use Rattle.msg_world.specs.Prelude.{IsHome, Part, PartsStand, slot, writes}
+use Rattle.msg_world.specs.Prelude.{IsHome, Part, PartsStand, slot, writes, Values}
 use Rattle.msg_order.specs.Prelude.{NoneConflict, access_of}
 use Rattle.msg_system.specs.Prelude.{Meaning}
 use Rattle.msg_exec.specs.Prelude.{JobView, Lender, LenderStands, MayRun, system_at}
@@ -12,24 +12,24 @@ use Rattle.msg_exec.specs.inner.SystemsOut.{AreOut, GoesOut, IsOut}
 
 -- ---- a batch, and one more of its systems goes out
 
-module _ {S : Type 0} where
+module _ {S V : Type 0} where
   -- a system of the batch may go out after the others
-  pub record MayGo (g : Lender S) (i : ℕ) : Type 0 where
+  pub record MayGo (g : Lender S V) (i : ℕ) : Type 0 where
     pub number : i < length g.accesses.items
     pub there : IsSome (system_at g i)
     pub home : IsHome (access_of g.accesses.items i) g.world
 
-module _ {S : Type 0} (meaning : S → Meaning) where
+module _ {S V : Type 0} {values : Values V} (meaning : S → Meaning V) where
   -- The lender stands for the state, and the batch is of its systems, each once, of which no two conflict.
-  pub record IsBatch (whole : Lender S) (s : State) (batch : List ℕ) : Type 0 where
+  pub record IsBatch (whole : Lender S V) (s : State values) (batch : List ℕ) : Type 0 where
     pub stands : LenderStands meaning whole s
     pub below : All (λ i. i < s.systems) batch
     pub once : AllPairs (λ i j. i ≢ j) batch
     pub apart : NoneConflict whole.accesses.items batch
 
   -- whichever state the lender stands for, it is of as many systems
-  pub is_batch : {whole : Lender S} {u : State} {batch : List ℕ}
-      → (s : State) × (LenderStands meaning whole s × All (λ i. i < s.systems) batch)
+  pub is_batch : {whole : Lender S V} {u : State values} {batch : List ℕ}
+      → (s : State values) × (LenderStands meaning whole s × All (λ i. i < s.systems) batch)
       → AllPairs (λ i j. i ≢ j) batch → NoneConflict whole.accesses.items batch → LenderStands meaning whole u
       → IsBatch whole u batch
   is_batch was once apart there = record {
@@ -39,7 +39,7 @@ module _ {S : Type 0} (meaning : S → Meaning) where
     apart = apart;
   }
 
-  module _ {whole old : Lender S} {s : State} {batch : List ℕ} {js : List (JobView S)} {k : ℕ}
+  module _ {whole old : Lender S V} {s : State values} {batch : List ℕ} {js : List (JobView S V)} {k : ℕ}
       (is : IsBatch whole s batch) (lt : k < length batch) (out : AreOut whole (take k batch) js old) where
     abbrev next : ℕ
     next = get_or batch k 0
@@ -57,7 +57,7 @@ module _ {S : Type 0} (meaning : S → Meaning) where
         let unwritten = λ (p : Part). earlier_write_not whole.accesses.items (take k batch) next p free in
         grind (arith, fresh, its, unwritten)
 
-    module _ {new : Lender S} {j : JobView S} (goes : GoesOut old next j new) where
+    module _ {new : Lender S V} {j : JobView S V} (goes : GoesOut old next j new) where
       its : j.access ≡ access_of whole.accesses.items next
       its = goes.access ∙ ap (λ xs. access_of xs next) out.accesses
 
@@ -87,12 +87,12 @@ module _ {S : Type 0} (meaning : S → Meaning) where
   -- ---- what is out
 
   -- a job has all that its access writes
-  pub has_written : (whole : Lender S) (s : State) (i : ℕ) (j : JobView S) → LenderStands meaning whole s
+  pub has_written : (whole : Lender S V) (s : State values) (i : ℕ) (j : JobView S V) → LenderStands meaning whole s
       → i < s.systems → IsOut whole i j
       → (p : Part) → is_some (slot p j.taken) ≡ writes j.access p
   has_written whole s i j stands lt out p = grind (arith, cases_Bool, written_is_used)
 
-  pub all_may_run : {whole left : Lender S} {s : State} {batch : List ℕ} {js : List (JobView S)} → IsBatch whole s batch
+  pub all_may_run : {whole left : Lender S V} {s : State values} {batch : List ℕ} {js : List (JobView S V)} → IsBatch whole s batch
       → AreOut whole batch js left → EachMay (MayRun meaning left.world) js
   all_may_run {whole} {s = s} {batch} {js} is out k j at =
       let (i, (found, its)) = some_of (slice_get batch k) (rw at at (AllZip-right (IsOut whole) batch js out.each k)) in
@@ -104,6 +104,6 @@ module _ {S : Type 0} (meaning : S → Meaning) where
   -- ---- what they stand for
 
   -- what is left stands for what stood there
-  pub left_stands : (whole left : Lender S) (s : State) (is : List ℕ) (js : List (JobView S))
+  pub left_stands : (whole left : Lender S V) (s : State values) (is : List ℕ) (js : List (JobView S V))
       → PartsStand whole.world s.world → AreOut whole is js left → PartsStand left.world s.world
   left_stands whole left s is js stands out p = grind (arith, cases_Bool)

@@ -3,7 +3,7 @@ use Rattle.std.proofs.Common.{◌≡◌, ◌≢◌, ℕ, ◌<◌, [], ◌∷◌,
 use Rattle.std.proofs.Math.Bool.{or-false}
 use Rattle.std.specs.{Bool.⊤, Global.Box}
 use Rattle.msg_world.specs.declared.access.Access.{Access}
-use Rattle.msg_world.specs.Prelude.{HomeMerges, HomeWhereEither, LendsOut, Parts}
+use Rattle.msg_world.specs.Prelude.{HomeMerges, HomeWhereEither, LendsOut, Parts, Values}
 use Rattle.msg_system.specs.Prelude.{Meaning}
 use Rattle.msg_exec.specs.Prelude.{GuardedSystem, HasTakenTurn, JobView, Lender, LenderStands, MayRun}
 use Rattle.msg_frames.specs.declared.log.Outcome.{Outcome}
@@ -16,7 +16,7 @@ use Rattle.std.proofs.lemmas.List.{get_or_read}
 no_pairs : (R : ℕ → ℕ → Type 0) (i : ℕ) → AllPairs R (i ∷ [])
 no_pairs R i = λ a b d lt l. absurd (omega arith)
 
-module _ {S : Type 0} (meaning : S → Meaning) {g : Lender S} {s : State} (i : ℕ) (stands : LenderStands meaning g s)
+module _ {S V : Type 0} {values : Values V} (meaning : S → Meaning V) {g : Lender S V} {s : State values} (i : ℕ) (stands : LenderStands meaning g s)
     (lt : i < s.systems) where
   one : IsBatch meaning g s (i ∷ [])
   one = record {
@@ -27,14 +27,14 @@ module _ {S : Type 0} (meaning : S → Meaning) {g : Lender S} {s : State} (i : 
   }
 
   -- What its access writes is out, and the system is where it was.
-  module _ {left taken : Parts} {a : Access} {held : Option (Box (GuardedSystem S))} {boxed : Box (GuardedSystem S)}
+  module _ {left taken : Parts V} {a : Access} {held : Option (Box (GuardedSystem S V))} {boxed : Box (GuardedSystem S V)}
       (is_its : a ≡ get_or g.accesses.items i a)
       (is_there : held ≡ get_or g.systems.items i held) (is_some : held ≡ Some boxed)
       (lent : LendsOut a g.world left taken) where
-    abbrev its_job : JobView S
+    abbrev its_job : JobView S V
     its_job = record { number = i; guarded = boxed.value; access = a; taken = taken; replies = []; outcome = Skipped }
 
-    abbrev pub mid : Lender S
+    abbrev pub mid : Lender S V
     mid = record g { world = left }
 
     out : AreOut g (i ∷ []) (its_job ∷ []) mid
@@ -43,9 +43,9 @@ module _ {S : Type 0} (meaning : S → Meaning) {g : Lender S} {s : State} (i : 
     pub may_take_turn : MayRun meaning left its_job
     may_take_turn = all_may_run meaning one out 0 its_job refl
 
-    module _ {later : Parts} {came : Outcome} {after : GuardedSystem S}
-        (took : HasTakenTurn meaning left taken boxed.value later came after) where
-      abbrev pub its_done : JobView S
+    module _ {later : Parts V} {came : Outcome V} {after : GuardedSystem S V}
+        (took : HasTakenTurn values meaning left taken boxed.value later came after) where
+      abbrev pub its_done : JobView S V
       its_done = record { number = i; guarded = after; access = a; taken = later; replies = []; outcome = came }
 
       back : IsBack meaning g s i its_done
@@ -54,7 +54,7 @@ module _ {S : Type 0} (meaning : S → Meaning) {g : Lender S} {s : State} (i : 
           (left_stands meaning g mid s (i ∷ []) (its_job ∷ []) stands.world out) out.each.0
           (record { number = refl; turn = took })
 
-      abbrev result : Result (JobView S) ⊤
+      abbrev result : Result (JobView S V) ⊤
       result = Ok its_done
 
       begun : ComingHome meaning g (i ∷ []) s (result ∷ []) mid [] []
@@ -63,8 +63,8 @@ module _ {S : Type 0} (meaning : S → Meaning) {g : Lender S} {s : State} (i : 
       pub may_come_home : MayCome mid its_done
       may_come_home = next_may_come meaning refl begun
 
-      pub turn_taken : {new : Lender S} → ComesHome meaning mid its_done new → HomeMerges → HomeWhereEither
-          → BatchesRunSideBySide → LenderStands meaning new (after_turn_of i s)
+      pub turn_taken : {new : Lender S V} → ComesHome meaning mid its_done new → HomeMerges values → HomeWhereEither V
+          → BatchesRunSideBySide values → LenderStands meaning new (after_turn_of i s)
       turn_taken comes merges either law =
           (all_came meaning law refl (next_comes meaning refl begun comes refl merges either)).0
 

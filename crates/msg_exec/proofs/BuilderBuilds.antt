@@ -9,26 +9,28 @@ use Rattle.msg_exec.proofs.ItemsOfLists.{item_at}
 
 -- ---- what a world has
 
--- the world has what is home
-pub has_part : (w : Parts) (p : Part) → IsSome (slot p w) → Has w p
-has_part w (OfType t) some = grind (arith, cases_lt, false≢true, get_or_past)
-has_part w (OfResource r) some = grind (arith, cases_lt, false≢true, get_or_past)
-has_part w Registry some = tt
+module _ {V : Type 0} where
+  -- the world has what is home
+  pub has_part : (w : Parts V) (p : Part) → IsSome (slot p w) → Has w p
+  has_part w (OfType t) some = grind (arith, cases_lt, false≢true, get_or_past)
+  has_part w (OfResource r) some = grind (arith, cases_lt, false≢true, get_or_past)
+  has_part w Registry some = tt
 
 -- ---- systems with their numbers
 
--- it writes as n, and has read nothing
-abbrev as_number : ℕ → Meaning → Meaning
-as_number n m = record m { writer = n; places = λ t. 0 }
+module _ {V : Type 0} where
+  -- it writes as n, and has read nothing
+  abbrev as_number : ℕ → Meaning V → Meaning V
+  as_number n m = record m { writer = n; places = λ t. 0 }
 
-pub numbered_more : (n : ℕ) (ms : List Meaning) (m : Meaning) → numbered_from n (ms ++ m ∷ []) ≡ numbered_from n ms
-    ++ record m { writer = n + length ms; places = λ t. 0 } ∷ []
-numbered_more n [] m = ap (λ k. as_number k m ∷ []) (omega arith)
-numbered_more n (x ∷ ms) m =
-    let number : n + suc (length ms) ≡ n + 1 + length ms = omega arith in
-    rw (number, numbered_more (n + 1) ms m) refl
+  pub numbered_more : (n : ℕ) (ms : List (Meaning V)) (m : Meaning V) → numbered_from n (ms ++ m ∷ []) ≡ numbered_from n ms
+      ++ record m { writer = n + length ms; places = λ t. 0 } ∷ []
+  numbered_more n [] m = ap (λ k. as_number k m ∷ []) (omega arith)
+  numbered_more n (x ∷ ms) m =
+      let number : n + suc (length ms) ≡ n + 1 + length ms = omega arith in
+      rw (number, numbered_more (n + 1) ms m) refl
 
-module _ {S : Type 0} (meaning : S → Meaning) where
+module _ {S V : Type 0} (meaning : S → Meaning V) where
   -- system i of the numbered list is system i of the old list, with its number
   was : (n : ℕ) (new old : List S) → map meaning new ≡ numbered_from n (map meaning old) → (i : ℕ) (x : S)
       → slice_get new i ≡ Some x → (y : S) × ((slice_get old i ≡ Some y) × (meaning x ≡ as_number (n + i) (meaning y)))

@@ -12,62 +12,67 @@ use Rattle.msg_frames.specs.Prelude.{FrameStaysSound, IsLawfulFor, IsSoundState,
 use Rattle.msg_frames.specs.Frames.{turn_order}
 use Rattle.msg_frames.proofs.{Functions.plan_order, Functions.plan_turns, SystemsStay.uses_stay}
 use Rattle.msg_frames.proofs.{SystemsStay.accesses_stay, SystemsStay.before_keeps, SystemsStay.joined_stay, SystemsStay.joining_keeps, SystemsStay.joining_makes_no_frame, SystemsStay.turns_keep_systems, SystemsStay.turns_make_no_frame}
+use Rattle.msg_world.specs.Prelude.{Values}
 
 -- ---- the schedule
 
--- the schedule of a core is that of a later core and state with the same joins, rules and systems
-pub schedule_along : {S : Type 0} {c d : Core S} {s u : State} → d.joins ≡ c.joins → d.rules ≡ c.rules
-    → SameSystems s u → Schedule c s → Schedule d u
-schedule_along {s = s} {u} joins rules same has = record {
-  joins = rw joins (grind (arith, has.joins, same.members));
-  rules = rw (rules, same.rules) has.rules;
-  few = rw same.systems has.few;
-  early = grind (arith, has.early, same.members);
-  named = rw (same.rules, same.systems) has.named;
-}
+module _ {V : Type 0} {values : Values V} where
+  -- the schedule of a core is that of a later core and state with the same joins, rules and systems
+  pub schedule_along : {S : Type 0} {c d : Core S V} {s u : State values} → d.joins ≡ c.joins → d.rules ≡ c.rules
+      → SameSystems s u → Schedule c s → Schedule d u
+  schedule_along {s = s} {u} joins rules same has = record {
+    joins = rw joins (grind (arith, has.joins, same.members));
+    rules = rw (rules, same.rules) has.rules;
+    few = rw same.systems has.few;
+    early = grind (arith, has.early, same.members);
+    named = rw (same.rules, same.systems) has.named;
+  }
 
 -- ---- who has joined
 
--- the flags of the systems that have joined, computed from the frames that they join with
-pub joined_by_frame : (js : List ℕ) (s : State) (frame : ℕ) → AreJoins js s → max 1 s.frames ≡ frame
-    → map (λ j. nat_le j frame) js ≡ join_flags s
-joined_by_frame js s frame are is =
-    fill_by_all (has_begun s) (map (λ j. nat_le j frame) js) s.systems false
-    (length-map js (λ j. nat_le j frame) ∙ are.as_many) (λ k lt. grind (arith, are.each k lt, get_or-map))
+module _ {V : Type 0} {values : Values V} where
+  -- the flags of the systems that have joined, computed from the frames that they join with
+  pub joined_by_frame : (js : List ℕ) (s : State values) (frame : ℕ) → AreJoins js s → max 1 s.frames ≡ frame
+      → map (λ j. nat_le j frame) js ≡ join_flags s
+  joined_by_frame js s frame are is =
+      fill_by_all (has_begun s) (map (λ j. nat_le j frame) js) s.systems false
+      (length-map js (λ j. nat_le j frame) ∙ are.as_many) (λ k lt. grind (arith, are.each k lt, get_or-map))
 
--- where none joins with the next frame, the same have joined by it
-pub nobody_more : (s : State) → NobodyJoins s → join_flags (one_frame_more (after_joining s)) ≡ join_flags s
-nobody_more s none =
-    joined_stay (one_frame_more s) (one_frame_more (after_joining s)) (grind (arith, joining_keeps))
-    (ap suc (joining_makes_no_frame s))
-    ∙ fill_by_all (has_begun s) (join_flags (one_frame_more s)) s.systems false
-    (length-map-range_with_len (has_begun (one_frame_more s)) 0 s.systems) (λ k lt.
-    get_or-map-range_with_len (has_begun (one_frame_more s)) 0 s.systems k k false lt (omega arith)
-    ∙ grind (arith, nat_tests, none k lt))
+  -- where none joins with the next frame, the same have joined by it
+  pub nobody_more : (s : State values) → NobodyJoins s → join_flags (one_frame_more (after_joining s)) ≡ join_flags s
+  nobody_more s none =
+      joined_stay (one_frame_more s) (one_frame_more (after_joining s)) (grind (arith, joining_keeps))
+      (ap suc (joining_makes_no_frame s))
+      ∙ fill_by_all (has_begun s) (join_flags (one_frame_more s)) s.systems false
+      (length-map-range_with_len (has_begun (one_frame_more s)) 0 s.systems) (λ k lt.
+      get_or-map-range_with_len (has_begun (one_frame_more s)) 0 s.systems k k false lt (omega arith)
+      ∙ grind (arith, nat_tests, none k lt))
 
 -- ---- the frame begins
 
--- those that are about to join were given nothing
-pub about_to_join : (s : State) → IsSoundState s → 0 < s.frames → HaveReadNothing (suc s.frames) s
-about_to_join s sound some i t joins = grind (arith, lt-leb, sound.waiting i t)
+module _ {V : Type 0} {values : Values V} where
+  -- those that are about to join were given nothing
+  pub about_to_join : (s : State values) → IsSoundState s → 0 < s.frames → HaveReadNothing (suc s.frames) s
+  about_to_join s sound some i t joins = grind (arith, lt-leb, sound.waiting i t)
 
 -- ---- the frame opens, and its turns are taken
 
-module _ {S : Type 0} (meaning : S → Meaning) where
-  module _ {b : Core S} {s : State} {f : Frame} {replies : List Reply}
+module _ {S V : Type 0} {values : Values V} (meaning : S → Meaning V) where
+  module _ {b : Core S V} {s : State values} {f : Frame V} {replies : List (Reply V)}
       (has : HasOpened meaning f s b replies) where
     -- batch by batch, those that have joined take their turns in the settled order
     pub in_turn : IsSoundState s → concat b.plan.batches ≡ turn_order (before_turns f.posts s)
     in_turn sound =
-        let bt : State = before_turns f.posts s in
+        let bt : State values = before_turns f.posts s in
         plan_turns bt b.lender.accesses.items has.plan.order (concat b.plan.batches)
-        (uses_stay s bt (before_keeps f.posts s) sound.uses) (grind (arith, has.lender)) has.plan.settled has.plan.turns
+        (uses_stay s bt (before_keeps f.posts s) sound.uses) (grind (arith, has.lender)) has.plan.settled
+        (ap concat has.plan.computed)
 
-    pub frame_ran : {new : Lender S} {Told : Type 0} → IsSoundState s → FrameStaysSound
+    pub frame_ran : {new : Lender S V} {Told : Type 0} → IsSoundState s → FrameStaysSound values
         → LenderStands meaning new (frame f s).state → Told → new.accesses.items ≡ b.lender.accesses.items
         → HasLeft meaning Told f s (record b { lender = new })
     frame_ran sound stays lender told accesses =
-        let bt : State = before_turns f.posts s in
+        let bt : State values = before_turns f.posts s in
         let order : List ℕ = turn_order bt in
         let same = turns_keep_systems order bt in
         record {
@@ -84,12 +89,12 @@ module _ {S : Type 0} (meaning : S → Meaning) where
   -- ---- which orders are lawful
 
   -- an order is lawful for a frame just where the plan of those that will have joined accepts it
-  pub accepted : {accepts : Bool} {c : Core S} {s : State} {plan : PlanView} (f : Frame) (order : List ℕ)
+  pub accepted : {accepts : Bool} {c : Core S V} {s : State values} {plan : PlanView} (f : Frame V) (order : List ℕ)
       → CoreStands meaning c s → (is : PlansNext c s plan)
       → (IsTrue accepts ↔ IsLawfulOrder is.order (join_flags (one_frame_more (after_joining s))) order)
       → IsTrue accepts ↔ IsLawfulFor f s order
   accepted {c = c} {s} f order stands is tells =
-      let b : State = before_turns f.posts s in
+      let b : State values = before_turns f.posts s in
       let keeps = before_keeps f.posts s in
       let same = plan_order b c.lender.accesses.items is.order (uses_stay s b keeps stands.sound.uses)
       (accesses_stay s b c.lender.accesses.items keeps (grind (arith, stands.lender))) (rw keeps.rules is.settled) in (

@@ -1,30 +1,54 @@
 -- An engine that stands for a state has a core that does. A run and one frame after it are a run.
-use Rattle.std.proofs.Common.{◌≡◌, ℕ, List, ◌++◌, take, Some, sym, ◌∙◌, inl, inr, IsSome}
+use Rattle.std.proofs.Common.{◌≡◌, ℕ, ◌<◌, ◌↔◌, All, List, ◌++◌, ap, is_some, take, Some, sym, ◌∙◌, inl, inr, IsSome}
 use Rattle.std.proofs.lemmas.Bool.{false≢true}
 use Rattle.msg_system.specs.Prelude.{Meaning}
-use Rattle.msg_exec.specs.Prelude.{Core, CoreStands, EngineOf, IsEngine, EngineStands}
+use Rattle.msg_exec.specs.Prelude.{Core, CoreStands, EngineOf, IsEngine, IsSpoiled, PostsFit, EngineStands, frame_count, frame_number}
 use Rattle.msg_frames.specs.{declared.frame.Frame.Frame, declared.log.Log.Log}
 use Rattle.msg_frames.specs.Prelude.{AreAccessesOf, State, run}
 use Rattle.msg_exec.proofs.ItemsOfLists.{some_of}
+use Rattle.msg_world.specs.Prelude.{Values}
 
-module _ {S : Type 0} (meaning : S → Meaning) where
+module _ {S V : Type 0} {values : Values V} (meaning : S → Meaning V) where
   -- an engine that stands for a state has a core, which stands for it
-  pub core_of : (e : EngineOf S) (s : State) → EngineStands meaning e s → (c : Core S)
+  pub core_of : (e : EngineOf S V) (s : State values) → EngineStands meaning e s → (c : Core S V)
       × ((e.core ≡ Some c) × CoreStands meaning c s)
   core_of e s stands = some_of e.core stands.core
 
   -- its accesses are those of the systems
-  pub accesses_of : {c : Core S} {s : State} → CoreStands meaning c s → AreAccessesOf s c.lender.accesses.items
+  pub accesses_of : {c : Core S V} {s : State values} → CoreStands meaning c s → AreAccessesOf s c.lender.accesses.items
   accesses_of core = record { each = core.lender.accesses; of_needs = λ i lt. (core.lender.members i lt).access }
 
   -- it wasn't spoiled, so it stood for a state
-  pub stood : (e : EngineOf S) → IsSome e.core → IsEngine meaning e → (s : State) × EngineStands meaning e s
+  pub stood : (e : EngineOf S V) → IsSome e.core → IsEngine values meaning e → (s : State values) × EngineStands meaning e s
   stood e some (inl spoiled) = absurd (false≢true (sym spoiled ∙ some))
   stood e some (inr stands) = stands
 
-module _ {S : Type 0} (meaning : S → Meaning) where
+  -- and so does its core
+  pub its_core : (e : EngineOf S V) (core : Core S V) → e.core ≡ Some core → IsEngine values meaning e
+      → (s : State values) × (CoreStands meaning core s × (frame_number e ≡ frame_count s))
+  its_core e core is (inl spoiled) = absurd (false≢true (sym spoiled ∙ ap is_some is))
+  its_core e core is (inr stands) = (stands.0, (rw is at stands.1.core, stands.1.frames))
+
+  -- so it isn't spoiled
+  pub is_alive : (e : EngineOf S V) (s : State values) → EngineStands meaning e s → ¬ IsSpoiled e
+  is_alive e s stands spoiled =
+      let core = core_of e s stands in absurd (false≢true (sym spoiled ∙ ap is_some core.1.0))
+
+  -- and posts fit if they are to types of the state
+  pub takes_posts : (e : EngineOf S V) (s : State values) → EngineStands meaning e s → (f : Frame V)
+      → PostsFit e f ↔ All (λ p. p.0 < s.types) f.posts
+  takes_posts e s stands f =
+      let core = core_of e s stands in rw (core.1.0, core.1.1.lender.types) ((λ h. h), (λ h. h))
+
+  -- what fitted fits an engine of as many types
+  pub still_fit : (e o : EngineOf S V) (s u : State values) → EngineStands meaning e s → EngineStands meaning o u
+      → u.types ≡ s.types → (f : Frame V) → PostsFit e f → PostsFit o f
+  still_fit e o s u one other same f fit =
+      (takes_posts o u other f).1 (rw same ((takes_posts e s one f).0 fit))
+
+module _ {S V : Type 0} {values : Values V} (meaning : S → Meaning V) where
   -- what stands after the first k frames
-  pub record RunSoFar (frames : List Frame) (k : ℕ) (s : State) (before after : List Log)
-      (e : EngineOf S) : Type 0 where
+  pub record RunSoFar (frames : List (Frame V)) (k : ℕ) (s : State values) (before after : List (Log V))
+      (e : EngineOf S V) : Type 0 where
     pub appended : after ≡ before ++ (run (take k frames) s).logs
     pub stands : EngineStands meaning e (run (take k frames) s).state

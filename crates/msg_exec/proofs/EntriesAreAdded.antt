@@ -13,28 +13,30 @@ use Rattle.msg_exec.specs.{inner.SystemsOut.HaveEntered, inner.Totals.entry_at}
 pub kept_alike : {x y t : Totals} → x ≡ y → t ≡ capped_totals y → t ≡ capped_totals x
 kept_alike same is = is ∙ ap capped_totals (sym same)
 
--- the entries from op k on are that of op k and those after it
-pub entries_from : (t : ℕ) (ops : List Op) (replies : List Reply) (k : ℕ) (reply : Reply) → slice_get replies k
-    ≡ Some reply
-    → entries_for t (drop k ops) (drop k replies) ≡ entry_at t ops k reply
-    ++ entries_for t (drop (suc k) ops) (drop (suc k) replies)
-entries_from t ops [] k reply here = absurd (none-some reply here)
-entries_from t [] (r ∷ replies) zero reply here = refl
-entries_from t (op ∷ ops) (r ∷ replies) zero reply here = grind (arith, same_Some)
-entries_from t [] (r ∷ replies) (suc k) reply here = refl
-entries_from t (op ∷ ops) (r ∷ replies) (suc k) reply here = entries_from t ops replies k reply here
+module _ {V : Type 0} where
+  -- the entries from op k on are that of op k and those after it
+  pub entries_from : (t : ℕ) (ops : List (Op V)) (replies : List (Reply V)) (k : ℕ) (reply : Reply V) → slice_get replies k
+      ≡ Some reply
+      → entries_for t (drop k ops) (drop k replies) ≡ entry_at t ops k reply
+      ++ entries_for t (drop (suc k) ops) (drop (suc k) replies)
+  entries_from t ops [] k reply here = absurd (none-some reply here)
+  entries_from t [] (r ∷ replies) zero reply here = refl
+  entries_from t (op ∷ ops) (r ∷ replies) zero reply here = grind (arith, same_Some)
+  entries_from t [] (r ∷ replies) (suc k) reply here = refl
+  entries_from t (op ∷ ops) (r ∷ replies) (suc k) reply here = entries_from t ops replies k reply here
 
-pub without_replies : (t : ℕ) (ops : List Op) → entries_for t ops [] ≡ []
-without_replies t [] = refl
-without_replies t (op ∷ ops) = refl
+  pub without_replies : (t : ℕ) (ops : List (Op V)) → entries_for t ops [] ≡ []
+  without_replies t [] = refl
+  without_replies t (op ∷ ops) = refl
 
 -- ---- the totals of a system, among those of all
 
--- what its turn told is entered in its totals where they stand
-pub entered_there : {S : Type 0} (meaning : S → Meaning) (d : JobView S) (all : List (Vec Totals)) {x : Vec Totals}
-    {was now : List Totals}
-    → x ≡ get_or all d.number x → was ≡ x.items → length now ≡ x.len → HaveEntered meaning d was now
-    → (u : Vec Totals) → slice_get all d.number ≡ Some u → HaveEntered meaning d u.items (with_items x now).items
-entered_there meaning d all {x} {was} {now} at there size entered u is =
-    let same : u ≡ x = sym (get_or_from_slice_get all d.number u x is) ∙ sym at in
-    rw (same, with_items_is x now size, ← there) entered
+module _ {V : Type 0} where
+  -- what its turn told is entered in its totals where they stand
+  pub entered_there : {S : Type 0} (meaning : S → Meaning V) (d : JobView S V) (all : List (Vec Totals)) {x : Vec Totals}
+      {was now : List Totals}
+      → x ≡ get_or all d.number x → was ≡ x.items → length now ≡ x.len → HaveEntered meaning d was now
+      → (u : Vec Totals) → slice_get all d.number ≡ Some u → HaveEntered meaning d u.items (with_items x now).items
+  entered_there meaning d all {x} {was} {now} at there size entered u is =
+      let same : u ≡ x = sym (get_or_from_slice_get all d.number u x is) ∙ sym at in
+      rw (same, with_items_is x now size, ← there) entered

@@ -3,7 +3,7 @@ use Rattle.std.proofs.Common.{◌≡◌, ℕ, ◌<◌, ◌≤◌, Bool, true, fa
 use Rattle.std.proofs.lemmas.{Bool.cases_lt, Bool.false≢true, List.get_or-map, List.get_or-replicate, List.get_or_past, List.get_or-take, List.length-map, Option.get_or_from_slice_get, Option.slice_get-get_or, Option.slice_get_within, List.map-id, Simd.map-map}
 use Rattle.std.specs.Global.{Box, Vec}
 use Rattle.msg_world.specs.declared.access.Access.{Access}
-use Rattle.msg_world.specs.Prelude.{Has, HasPart, IsWhole, OfResource, OfType, Part, Parts, PartsStand, Registry, WorldState}
+use Rattle.msg_world.specs.Prelude.{Has, HasPart, IsWhole, OfResource, OfType, Part, Parts, PartsStand, Registry, WorldState, Values}
 use Rattle.msg_order.specs.declared.rule.Rule.{Rule}
 use Rattle.msg_order.specs.Prelude.{FewerSystemsMakeNoCycle, IsAcyclic, NameSystemsBelow, access_of, edges_of, rules_among}
 use Rattle.msg_system.specs.Prelude.{HasClash, Meaning, new_asked}
@@ -16,16 +16,17 @@ use Rattle.msg_frames.specs.Prelude.{AreNew, nobody, nowhere, before_joining, St
 use Rattle.msg_exec.proofs.ItemsOfLists.{item_at}
 use Rattle.msg_system.specs.declared.condition.Condition.{Condition}
 
-conditions_new : (cs : List Condition) → map (λ a. a.condition) (map new_asked cs) ≡ cs
-conditions_new cs = simp (map-map, map-id)
+module _ {V : Type 0} where
+  conditions_new : (cs : List (Condition V)) → map (λ a. a.condition) (map new_asked cs) ≡ cs
+  conditions_new cs = simp (map-map, map-id)
 
-module _ {S : Type 0} (meaning : S → Meaning) where
-  module _ (world : Parts) (systems : List S) (places : List Place) (whole : IsWhole world)
+module _ {S V : Type 0} (meaning : S → Meaning V) where
+  module _ (world : Parts V) (systems : List S) (places : List (Place V)) (whole : IsWhole world)
       (as_many : length places ≡ length systems) (each : EachIs (MayBeAdded meaning world places) systems) where
     -- system i with its place, as it is found in the lists
     record Found (i : ℕ) : Type 0 where
       x : S
-      place : Place
+      place : Place V
       sx : slice_get systems i ≡ Some x
       sp : slice_get places i ≡ Some place
       is : slice_index_or (map meaning systems) i nobody ≡ meaning x
@@ -47,18 +48,18 @@ module _ {S : Type 0} (meaning : S → Meaning) where
         }
 
     -- the state before any has joined
-    abbrev first : List Rule → WorldState → State
+    abbrev first : {values : Values V} → List Rule → WorldState values → State values
     first rules w = before_joining (map meaning systems) places rules (length world.types) w
 
     module _ (rules : List Rule) (made : Prepared)
         (prepared : IsPreparedFor meaning (length world.types) systems places rules made)
-        (guarded : Vec (Option (Box (GuardedSystem S)))) (one_each : length guarded.items ≡ length systems)
+        (guarded : Vec (Option (Box (GuardedSystem S V)))) (one_each : length guarded.items ≡ length systems)
         (are_guarded : EachIs (IsGuardedAt meaning systems places) guarded.items) where
       -- what lends out the systems, before any has joined
-      abbrev pub lender_of : Lender S
+      abbrev pub lender_of : Lender S V
       lender_of = record { world = world; systems = guarded; accesses = made.accesses; totals = made.totals }
 
-      pub parts_stand : (w : WorldState) → PartsStand world w
+      pub parts_stand : {values : Values V} (w : WorldState values) → PartsStand world w
           → LenderStands meaning lender_of (first rules w) × AreJoins made.joins.items (first rules w)
           × HaveReadNothing 1 (first rules w)
       parts_stand w stands =
@@ -84,8 +85,8 @@ module _ {S : Type 0} (meaning : S → Meaning) where
             },
             (let joins = prepared.joins in grind (arith, joins, get_or-map, length-map)),
             λ i t joins. elim (cases_lt i (length systems)) [
-              | inl lt ↦ (let f = found i lt in ap (λ (m : Meaning). m.places t) f.is ∙ f.may.new.places t)
-              | inr past ↦ ap (λ (m : Meaning). m.places t)
+              | inl lt ↦ (let f = found i lt in ap (λ (m : Meaning V). m.places t) f.is ∙ f.may.new.places t)
+              | inr past ↦ ap (λ (m : Meaning V). m.places t)
                   (get_or_past (map meaning systems) i nobody (omega (arith, past, n)))
             ],
           )
@@ -96,7 +97,7 @@ module _ {S : Type 0} (meaning : S → Meaning) where
     part_of (OfResource r) few has = omega (arith, few, has)
     part_of Registry few has = has
 
-    pub are_new : (rules : List Rule) (w : WorldState) → PartsStand world w
+    pub are_new : {values : Values V} (rules : List Rule) (w : WorldState values) → PartsStand world w
         → (length world.types ≤ 64) × (length world.resources ≤ 64)
         → ((joined : List Bool) → length joined ≡ length systems → IsAcyclic (rules_among joined rules))
         → AreNew (map meaning systems) places rules (length world.types) w
@@ -113,7 +114,7 @@ module _ {S : Type 0} (meaning : S → Meaning) where
     }
 
     -- the schedule of a new engine
-    pub schedule_first : (c : Core S) (rules : List Rule) (w : WorldState) → length systems ≤ 256
+    pub schedule_first : {values : Values V} (c : Core S V) (rules : List Rule) (w : WorldState values) → length systems ≤ 256
         → NameSystemsBelow (length systems) rules → c.rules.items ≡ rules → AreJoins c.joins.items (first rules w) → Schedule c (first rules w)
     schedule_first c rules w few named same joins =
         let n : length (map meaning systems) ≡ length systems = length-map systems meaning in
@@ -134,8 +135,8 @@ none_more law n rules below none joined size =
     get_or-take n (replicate n true) i false lt ∙ get_or-replicate n i true false lt)
     (rw (all_rules n n rules (le_refl n) below) none)
 
-module _ {S : Type 0} (meaning : S → Meaning) where
-  pub none_clashes : (systems : List S) (places : List Place) (xs : List Access) → length xs ≡ length systems
+module _ {S V : Type 0} (meaning : S → Meaning V) where
+  pub none_clashes : (systems : List S) (places : List (Place V)) (xs : List Access) → length xs ≡ length systems
       → EachIs (IsAccessAt meaning systems places) xs → EachIs (λ i x. ¬ HasClash (meaning x).needs) systems
   none_clashes systems places xs size each i x there = let a =
       item_at xs i (omega (arith, size, slice_get_within systems i x there)) in (each i a.0 a.1).no_clash x there

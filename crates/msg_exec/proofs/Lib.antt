@@ -20,3 +20,4 @@ mod BuilderBuilds
 pub mod EngineRunsFrames
 mod AccountsTell
 mod SinceThen
+mod HostsGive

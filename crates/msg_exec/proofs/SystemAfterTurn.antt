@@ -2,7 +2,7 @@
 use Rattle.std.proofs.Common.{sym, ap, ◌∙◌, get_or, ◌≡◌, ◌≢◌, zero, suc, Option, append-nil, length-append, ℕ, ◌<◌, ◌≤◌, List, length, refl, arith, slice_get}
 use Rattle.std.specs.Global.{Vec}
 use Rattle.std.proofs.lemmas.{Option.slice_get_read, Bool.cases_Bool, Bool.eq-eqb, Bool.ne_eqb}
-use Rattle.msg_world.specs.Prelude.{SameShape, WorldState}
+use Rattle.msg_world.specs.Prelude.{SameShape, WorldState, Values}
 use Rattle.msg_system.specs.{declared.op.Op.Op, declared.reply.Reply.Reply}
 use Rattle.msg_system.specs.Prelude.{Job as JobState, Meaning, after_at_most, after_job, next_op, turn}
 use Rattle.msg_frames.specs.{declared.log.Outcome.Outcome, declared.totals.Totals.Totals}
@@ -13,43 +13,46 @@ use Rattle.msg_exec.specs.inner.Totals.{HasFewReplies, entries_by}
 
 -- ---- what came of it
 
--- the entries of its last ops are those of its turn
-last_entries : (t : ℕ) (j : JobState) (w : WorldState)
-    → entries_by t (after_job j w).job.system.last (outcome_of (after_job j w).replies)
-    ≡ entries_at t (after_job j w).steps
-last_entries t j w = grind (arith, append-nil, cases_Bool, job_logged t j w)
+module _ {V : Type 0} {values : Values V} where
+  -- the entries of its last ops are those of its turn
+  last_entries : (t : ℕ) (j : JobState V) (w : WorldState values)
+      → entries_by t (after_job j w).job.system.last (outcome_of (after_job j w).replies)
+      ≡ entries_at t (after_job j w).steps
+  last_entries t j w = grind (arith, append-nil, cases_Bool, job_logged t j w)
 
-at_most_replies : (n : ℕ) (next : List Reply → Option Op) (writer : ℕ) (places : ℕ → ℕ) (w : WorldState)
-    → length (after_at_most n next writer places w).replies ≤ n
-at_most_replies zero next writer places w = omega arith
-at_most_replies (suc n) next writer places w =
-    let far = at_most_replies n next writer places w in
-    grind (arith, far, length-append)
+  at_most_replies : (n : ℕ) (next : List (Reply V) → Option (Op V)) (writer : ℕ) (places : ℕ → ℕ) (w : WorldState values)
+      → length (after_at_most n next writer places w).replies ≤ n
+  at_most_replies zero next writer places w = omega arith
+  at_most_replies (suc n) next writer places w =
+      let far = at_most_replies n next writer places w in
+      grind (arith, far, length-append)
 
-pub few_replies : (j : JobState) (w : WorldState) → HasFewReplies (outcome_of (after_job j w).replies)
-unfolding turn
-few_replies j w =
-    let few = at_most_replies 64 (next_op j.system) j.system.writer j.system.places w in
-    grind (arith, cases_Bool, few)
+  pub few_replies : (j : JobState V) (w : WorldState values) → HasFewReplies (outcome_of (after_job j w).replies)
+  unfolding turn
+  few_replies j w =
+      let few = at_most_replies 64 (next_op j.system) j.system.writer j.system.places w in
+      grind (arith, cases_Bool, few)
 
 -- ---- the lender
 
-pub its_own : (i : ℕ) (m : Member) (members : ℕ → Member) → with_member members i m i ≡ m
-its_own i m members = rw (eq-eqb i i refl)
+module _ {V : Type 0} where
+  pub its_own : (i : ℕ) (m : Member V) (members : ℕ → Member V) → with_member members i m i ≡ m
+  its_own i m members = rw (eq-eqb i i refl)
 
-pub of_another : (i k : ℕ) (m : Member) (members : ℕ → Member) → k ≢ i → with_member members i m k ≡ members k
-of_another i k m members other = rw (ne_eqb k i other)
+  pub of_another : (i k : ℕ) (m : Member V) (members : ℕ → Member V) → k ≢ i → with_member members i m k ≡ members k
+  of_another i k m members other = rw (ne_eqb k i other)
 
-module _ {S : Type 0} (meaning : S → Meaning) where
+module _ {S V : Type 0} (meaning : S → Meaning V) where
   -- a member that is kept as it was stands for what it stood for
-  pub member_stays : (g h : Lender S) (types k : ℕ) (m : Member) → system_at h k ≡ system_at g k → h.accesses.items
+  pub member_stays : (g h : Lender S V) (types k : ℕ) (m : Member V) → system_at h k ≡ system_at g k → h.accesses.items
       ≡ g.accesses.items
       → slice_get h.totals.items k ≡ slice_get g.totals.items k → SameShape g.world h.world
       → MemberStands meaning g types k m → MemberStands meaning h types k m
   member_stays g h types k m guarded accesses totals shape stands = grind arith
 
+module _ {S V : Type 0} {values : Values V} (meaning : S → Meaning V) where
   -- the totals of a system, as they are read
-  pub totals_there : {g : Lender S} {s : State} {i : ℕ} {v : Vec Totals} → LenderStands meaning g s
+  pub totals_there : {g : Lender S V} {s : State values} {i : ℕ} {v : Vec Totals} → LenderStands meaning g s
       → v ≡ get_or g.totals.items i v → i < s.systems → TotalsStand s.types v.items (s.members i).totals
   totals_there {g} {s} {i} {v} stands is lt =
       rw (slice_get_read g.totals.items s.systems i v (sym stands.totals) lt is) at (stands.members i lt).totals
@@ -62,14 +65,15 @@ totals_are : (types : ℕ) (a b : ℕ → Totals) (old new : List Totals) → To
     → TotalsStand types new b
 totals_are types a b old new stands as_many each = grind arith
 
-pub totals_after : (types : ℕ) (m : Member) (w : WorldState) (old new : List Totals) (ops : List Op) (o : Outcome)
-    → ops ≡ (after_job m.job w).job.system.last → o ≡ outcome_of (after_job m.job w).replies
-    → TotalsStand types old m.totals → length new ≡ length old
-    → ((t : ℕ) (x : Totals) → t < length old → totals_at old t ≡ capped_totals x → totals_at new t
-    ≡ capped_totals (with_entries (entries_by t ops o) x))
-    → TotalsStand types new (member_after (after_job m.job w) m).totals
-totals_after types m w old new ops o its came stands as_many entered =
-    let same : (t : ℕ) → entries_by t ops o ≡ entries_at t (after_job m.job w).steps =
-    λ t. rw (its, came) (last_entries t m.job w) in
-    totals_are types m.totals (member_after (after_job m.job w) m).totals old new stands as_many
-    (λ t lt is. entered t (m.totals t) lt is ∙ ap (λ (es : List ReadEntry). capped_totals (with_entries es (m.totals t))) (same t))
+module _ {V : Type 0} {values : Values V} where
+  pub totals_after : (types : ℕ) (m : Member V) (w : WorldState values) (old new : List Totals) (ops : List (Op V)) (o : Outcome V)
+      → ops ≡ (after_job m.job w).job.system.last → o ≡ outcome_of (after_job m.job w).replies
+      → TotalsStand types old m.totals → length new ≡ length old
+      → ((t : ℕ) (x : Totals) → t < length old → totals_at old t ≡ capped_totals x → totals_at new t
+      ≡ capped_totals (with_entries (entries_by t ops o) x))
+      → TotalsStand types new (member_after (after_job m.job w) m).totals
+  totals_after types m w old new ops o its came stands as_many entered =
+      let same : (t : ℕ) → entries_by t ops o ≡ entries_at t (after_job m.job w).steps =
+      λ t. rw (its, came) (last_entries t m.job w) in
+      totals_are types m.totals (member_after (after_job m.job w) m).totals old new stands as_many
+      (λ t lt is. entered t (m.totals t) lt is ∙ ap (λ (es : List (ReadEntry V)). capped_totals (with_entries es (m.totals t))) (same t))

@@ -17,20 +17,21 @@ module _ {X : Type 0} where
 abbrev pub IsJoin : ℕ → Type 0
 IsJoin join = (1 ≤ join) × (join ≤ 10000)
 
--- the world has what a system and its conditions read and write
-abbrev pub FitsWorld : Parts → Meaning → Place → Type 0
-FitsWorld world m place = (p : Part)
-    → IsTrue (needs_any (with_conditions m.needs place.conditions) p) → Has world p
+module _ {V : Type 0} where
+  -- the world has what a system and its conditions read and write
+  abbrev pub FitsWorld : Parts V → Meaning V → Place V → Type 0
+  FitsWorld world m place = (p : Part)
+      → IsTrue (needs_any (with_conditions m.needs place.conditions) p) → Has world p
 
-module _ {S : Type 0} (meaning : S → Meaning) where
+module _ {S V : Type 0} (meaning : S → Meaning V) where
   -- system i, in its place, may be added to an engine over a world of these parts
-  pub record MayBeAdded (world : Parts) (places : List Place) (i : ℕ) (x : S) : Type 0 where
+  pub record MayBeAdded (world : Parts V) (places : List (Place V)) (i : ℕ) (x : S) : Type 0 where
     -- it writes as its number, and was given nothing
     pub new : IsNew i (meaning x)
     -- the world has what it and its conditions read and write
-    pub fits : (place : Place) → slice_get places i ≡ Some place
+    pub fits : (place : Place V) → slice_get places i ≡ Some place
         → FitsWorld world (meaning x) place
-    pub joins : (place : Place) → slice_get places i ≡ Some place → IsJoin place.join
+    pub joins : (place : Place V) → slice_get places i ≡ Some place → IsJoin place.join
 
   -- s is the lowest system that reads and writes one part
   pub record IsLowestClash (systems : List S) (s : ℕ) : Type 0 where
@@ -51,15 +52,16 @@ module _ {S : Type 0} (meaning : S → Meaning) where
 -- ---- a builder
 
 -- What was added to a builder: systems, a place for each, and rules.
-pub record Added (S : Type 0) : Type 0 where
+pub record Added (S V : Type 0) : Type 0 where
   pub systems : List S
-  pub places : List Place
+  pub places : List (Place V)
   pub rules : List Rule
 
--- each writes as its number, from n on, and has read nothing
-abbrev pub numbered_from : ℕ → List Meaning → List Meaning
-numbered_from n [] = []
-numbered_from n (m ∷ ms) = record m { writer = n; places = λ t. 0 } ∷ numbered_from (n + 1) ms
+module _ {V : Type 0} where
+  -- each writes as its number, from n on, and has read nothing
+  abbrev pub numbered_from : ℕ → List (Meaning V) → List (Meaning V)
+  numbered_from n [] = []
+  numbered_from n (m ∷ ms) = record m { writer = n; places = λ t. 0 } ∷ numbered_from (n + 1) ms
 
 -- why a system isn't added to so many, to join with this frame: there are too many; else it can't
 -- join with that frame; and only where it might be added there is no memory
@@ -77,22 +79,22 @@ pub record IsFirstUnknown (n : ℕ) (rules : List Rule) (rule : Rule) : Type 0 w
   pub first : (k : ℕ) (r : Rule) → k < index → slice_get rules k ≡ Some r → (r.earlier < n)
       × (r.later < n)
 
-module _ {S : Type 0} (meaning : S → Meaning) where
+module _ {S V : Type 0} (meaning : S → Meaning V) where
   -- the systems below n fit the world in their places
-  abbrev pub FitBelow : ℕ → Parts → List S → List Place → Type 0
-  FitBelow n world systems places = (i : ℕ) (x : S) (place : Place) → i < n → slice_get systems i
+  abbrev pub FitBelow : ℕ → Parts V → List S → List (Place V) → Type 0
+  FitBelow n world systems places = (i : ℕ) (x : S) (place : Place V) → i < n → slice_get systems i
       ≡ Some x → slice_get places i ≡ Some place
       → FitsWorld world (meaning x) place
 
   -- all systems fit the world in their places
-  abbrev pub AllFit : Parts → List S → List Place → Type 0
+  abbrev pub AllFit : Parts V → List S → List (Place V) → Type 0
   AllFit world systems places = FitBelow (length systems) world systems places
 
   -- s is the lowest system that doesn't fit the world in its place
-  pub record IsLowestMisfit (world : Parts) (systems : List S) (places : List Place)
+  pub record IsLowestMisfit (world : Parts V) (systems : List S) (places : List (Place V))
       (s : ℕ) : Type 0 where
     pub system : S
-    pub place : Place
+    pub place : Place V
     pub is : slice_get systems s ≡ Some system
     pub placed : slice_get places s ≡ Some place
     pub misfit : ¬ FitsWorld world (meaning system) place
@@ -100,7 +102,7 @@ module _ {S : Type 0} (meaning : S → Meaning) where
 
   -- Why no engine is made: a system that doesn't fit; else a rule without its system; else what
   -- `EngineOf::new` refuses.
-  abbrev pub RefusesToBuild : Parts → Added S → BuildError → Type 0
+  abbrev pub RefusesToBuild : Parts V → Added S V → BuildError → Type 0
   RefusesToBuild world a (Misfit s) = IsLowestMisfit world a.systems a.places s
   RefusesToBuild world a (UnknownSystem rule) = AllFit world a.systems a.places
       × IsFirstUnknown (length a.systems) a.rules rule

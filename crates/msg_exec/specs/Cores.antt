@@ -4,24 +4,26 @@ use Rattle.msg_order.specs.Prelude.{IsPlanOf, NameSystemsBelow}
 use Rattle.msg_system.specs.Prelude.{Meaning}
 use Rattle.msg_exec.specs.{declared.engine_core.Core.Core, Lender.AreJoins, Lender.LenderStands}
 use Rattle.msg_frames.specs.Prelude.{IsSoundState, State, join_flags}
+use Rattle.msg_world.specs.Prelude.{Values}
 
--- how many frames were run, as an engine counts them: it stays at the greatest number of its type
-abbrev pub frame_count : State → ℕ
-frame_count s = min s.frames (2 ^ 32 - 1)
+module _ {V : Type 0} {values : Values V} where
+  -- how many frames were run, as an engine counts them: it stays at the greatest number of its type
+  abbrev pub frame_count : State values → ℕ
+  frame_count s = min s.frames (2 ^ 32 - 1)
 
-module _ {S : Type 0} where
+module _ {S V : Type 0} {values : Values V} where
   -- The parts of a core that no frame changes are what the state says, and keep to the bounds of an
   -- engine.
-  pub record Schedule (c : Core S) (s : State) : Type 0 where
+  pub record Schedule (c : Core S V) (s : State values) : Type 0 where
     pub joins : AreJoins c.joins.items s
     pub rules : c.rules.items ≡ s.rules
     pub few : s.systems ≤ 256
     pub early : (i : ℕ) → i < s.systems → (s.members i).join ≤ 10000
     pub named : NameSystemsBelow s.systems s.rules
 
-module _ {S : Type 0} (meaning : S → Meaning) where
+module _ {S V : Type 0} {values : Values V} (meaning : S → Meaning V) where
   -- Part by part, the core is what the state says, and the state is sound.
-  pub record CoreStands (c : Core S) (s : State) : Type 0 where
+  pub record CoreStands (c : Core S V) (s : State values) : Type 0 where
     pub lender : LenderStands meaning c.lender s
     pub schedule : Schedule c s
     pub plan : IsPlanOf c.lender.accesses.items s.rules (join_flags s) c.plan

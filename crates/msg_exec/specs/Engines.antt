@@ -1,80 +1,86 @@
 -- When an engine stands for a state, and what its calls do.
 use Rattle.std.specs.Prelude.{◌≡◌, ◌⊎◌, ℕ, ◌<◌, ◌≤◌, [], ◌∷◌, ◌++◌, All, List, length, take, Option, option_map, IsNone, IsSomeAnd, IfSome}
 use Rattle.std.specs.List.{AllZip}
-use Rattle.msg_world.specs.Prelude.{Parts}
+use Rattle.msg_world.specs.Prelude.{Parts, Values}
 use Rattle.msg_system.specs.Prelude.{Meaning}
 use Rattle.msg_exec.specs.{declared.engine.EngineOf.EngineOf, Cores.CoreStands, Cores.frame_count}
 use Rattle.msg_frames.specs.{declared.frame.Frame.Frame, declared.log.Log.Log}
 use Rattle.msg_frames.specs.Prelude.{IsCompleteRun, IsLawfulFor, State, TellsTheSame, answers_in, frame, run, turn_order_in}
 
-module _ {S : Type 0} where
+module _ {S V : Type 0} where
   -- A call that runs a frame ended for want of memory: the world and the systems are gone.
-  abbrev pub IsSpoiled : EngineOf S → Type 0
+  abbrev pub IsSpoiled : EngineOf S V → Type 0
   IsSpoiled e = IsNone e.core
 
   -- how many frames it has counted
-  abbrev pub frame_number : EngineOf S → ℕ
+  abbrev pub frame_number : EngineOf S V → ℕ
   frame_number e = e.frames
 
   -- its world; none where it is spoiled
-  abbrev pub world_of : EngineOf S → Option Parts
+  abbrev pub world_of : EngineOf S V → Option (Parts V)
   world_of e = option_map (λ c. c.lender.world) e.core
 
   -- each post is to a type of its world
-  abbrev pub PostsFit : EngineOf S → Frame → Type 0
+  abbrev pub PostsFit : EngineOf S V → Frame V → Type 0
   PostsFit e frame = IfSome e.core (λ c. All (λ p. p.0 < length c.lender.world.types) frame.posts)
 
-module _ {S : Type 0} (meaning : S → Meaning) where
+module _ {S V : Type 0} {values : Values V} (meaning : S → Meaning V) where
   -- Part by part, the engine is what the state says.
-  pub record EngineStands (e : EngineOf S) (s : State) : Type 0 where
+  pub record EngineStands (e : EngineOf S V) (s : State values) : Type 0 where
     pub core : IsSomeAnd e.core (λ c. CoreStands meaning c s)
     pub frames : frame_number e ≡ frame_count s
 
+module _ {S V : Type 0} (values : Values V) (meaning : S → Meaning V) where
   -- An engine as `new` makes it, and as its calls leave it: it stands for a state, or it is
   -- spoiled.
-  abbrev pub IsEngine : EngineOf S → Type 0
-  IsEngine e = IsSpoiled e ⊎ ((s : State) × EngineStands e s)
+  abbrev pub IsEngine : EngineOf S V → Type 0
+  IsEngine e = IsSpoiled e ⊎ ((s : State values) × EngineStands meaning e s)
 
+module _ {S V : Type 0} {values : Values V} (meaning : S → Meaning V) where
   -- From the state s the engine ran a frame: the log is the frame's on one thread, with all that a
   -- run comes to, and the engine stands for the state that the frame leaves.
-  pub record HasRunFrame (f : Frame) (s : State) (log : Log) (e : EngineOf S) : Type 0 where
+  pub record HasRunFrame (f : Frame V) (s : State values) (log : Log V)
+      (e : EngineOf S V) : Type 0 where
     pub tells : log ≡ (frame f s).log
     pub complete : IsCompleteRun (f ∷ []) s
-    pub stands : EngineStands e (frame f s).state
+    pub stands : EngineStands meaning e (frame f s).state
 
   -- From the state s the engine replayed a frame in this order, which is lawful: the log tells the
   -- same as the frame's, and each system what the frame tells it, with all that a run comes to, and
   -- the engine stands for the state that the frame leaves.
-  pub record HasReplayed (f : Frame) (order : List ℕ) (s : State) (log : Log)
-      (e : EngineOf S) : Type 0 where
+  pub record HasReplayed (f : Frame V) (order : List ℕ) (s : State values) (log : Log V)
+      (e : EngineOf S V) : Type 0 where
     pub lawful : IsLawfulFor f s order
     pub tells : TellsTheSame log (frame f s).log
     pub in_order : turn_order_in log ≡ order
     pub alike : (i : ℕ) → answers_in i (log ∷ []) ≡ answers_in i ((frame f s).log ∷ [])
     pub complete : IsCompleteRun (f ∷ []) s
-    pub stands : EngineStands e (frame f s).state
+    pub stands : EngineStands meaning e (frame f s).state
 
   -- From the state s the engine ran frames: it appended their logs, with all that a run comes to,
   -- and stands for the state that is left.
-  pub record HasRunFrames (frames : List Frame) (s : State) (before after : List Log)
-      (e : EngineOf S) : Type 0 where
+  pub record HasRunFrames (frames : List (Frame V)) (s : State values) (before after : List (Log V))
+      (e : EngineOf S V) : Type 0 where
     pub appended : after ≡ before ++ (run frames s).logs
     pub complete : IsCompleteRun frames s
-    pub stands : EngineStands e (run frames s).state
+    pub stands : EngineStands meaning e (run frames s).state
 
   -- From the state s the engine ran the first of the frames, `ran` of them, and then there was no
   -- memory: their logs were appended, and it counted them.
-  pub record HasRunSome (frames : List Frame) (s : State) (before after : List Log)
-      (e : EngineOf S) : Type 0 where
+  pub record HasRunSome (frames : List (Frame V)) (s : State values) (before after : List (Log V))
+      (e : EngineOf S V) : Type 0 where
     pub ran : ℕ
     pub few : ran ≤ length frames
     pub appended : after ≡ before ++ (run (take ran frames) s).logs
     pub counted : frame_number e ≡ frame_count (run (take ran frames) s).state
     pub spoiled : IsSpoiled e
 
-  -- Since the state s the engine ran or replayed these frames: it stands for the state that they
-  -- leave, and the logs tell the same as theirs.
-  pub record HasRunSince (s : State) (frames : List Frame) (logs : List Log)
-      (e : EngineOf S) : Type 0 where
+  -- Since the state s the engine ran or replayed these frames, in one call or in many.
+  pub record HasRunSince (s : State values) (frames : List (Frame V)) (logs : List (Log V))
+      (e : EngineOf S V) : Type 0 where
+    -- the logs tell the same as theirs on one thread
     pub tell : AllZip TellsTheSame logs (run frames s).logs
-    pub stands : EngineStands e (run frames s).state
+    -- with all that a run comes to, whatever the frames
+    pub complete : (these : List (Frame V)) → IsCompleteRun these s
+    -- and the engine stands for the state that they leave
+    pub stands : EngineStands meaning e (run frames s).state

@@ -4,5 +4,6 @@ pub mod Keeping
 pub mod Lender
 pub mod Cores
 pub mod Engines
+pub mod Hosts
 pub mod Building
 pub mod inner

@@ -8,14 +8,14 @@ ghost use Rattle.msg_exec.specs.Prelude.{CoreStands, capped_totals};
 
 use crate::engine_core::Core;
 use crate::{Account, EngineOf, NoMemory, RunFault, Totals};
-use msg_system::System;
-use msg_world::{TypeNo, World};
+use msg_system::SystemOf;
+use msg_world::{TypeNo, Value, World};
 use std::alloc::Global;
 
 /// A law: no type has more messages than its count can tell.
-fn count_is_told(world: &World, t: TypeNo)
+fn count_is_told<V: Value>(world: &World<V>, t: TypeNo)
     ensures told { IfSome (slot (OfType t) world.now)
-        (λ k. (h : History Record) → BufferStandsFor k h → count h < 2 ^ 64) }
+        (λ k. (h : History (Record V)) → BufferStandsFor k h → count h < 2 ^ 64) }
 {
     if let Some(messages) = world.messages(t) {
         messages.count();
@@ -23,8 +23,13 @@ fn count_is_told(world: &World, t: TypeNo)
 }
 
 /// The account of a reader with these totals.
-fn account<S: System>(core: &Core<S>, system: u32, of_type: TypeNo, totals: &Totals) -> Account
-    ensures account { (s : State) → CoreStands S.meaning core.now s → of_type < s.types
+fn account<V: Value, S: SystemOf<Value = V>>(
+    core: &Core<S, V>,
+    system: u32,
+    of_type: TypeNo,
+    totals: &Totals,
+) -> Account
+    ensures account { (s : State V.values) → CoreStands S.meaning core.now s → of_type < s.types
         → totals.now ≡ capped_totals ((s.members system).totals of_type)
         → result ≡ account_of s system of_type }
 {
@@ -52,13 +57,13 @@ fn account<S: System>(core: &Core<S>, system: u32, of_type: TypeNo, totals: &Tot
 }
 
 /// Appends the accounts of system i.
-fn add_accounts<S: System>(
-    core: &Core<S>,
+fn add_accounts<V: Value, S: SystemOf<Value = V>>(
+    core: &Core<S, V>,
     i: usize,
     accounts: &mut Vec<Account>,
 ) -> Result<(), NoMemory>
     requires there { i < length core.now.lender.systems.items }
-    ensures added { OnOk result ((s : State) → CoreStands S.meaning core.now s
+    ensures added { OnOk result ((s : State V.values) → CoreStands S.meaning core.now s
         → accounts.new.items ≡ accounts.old.items ++ accounts_of_system s i) }
 {
     let (Some(guarded), Some(totals)) = (&core.lender.systems[i], core.lender.totals.get(i)) else {
@@ -80,8 +85,11 @@ fn add_accounts<S: System>(
 }
 
 /// The accounts of all systems.
-fn accounts_in<S: System>(alloc: Global, core: &Core<S>) -> Result<Vec<Account>, NoMemory>
-    ensures accounts { IfOk result (λ v. (s : State) → CoreStands S.meaning core.now s
+fn accounts_in<V: Value, S: SystemOf<Value = V>>(
+    alloc: Global,
+    core: &Core<S, V>,
+) -> Result<Vec<Account>, NoMemory>
+    ensures accounts { IfOk result (λ v. (s : State V.values) → CoreStands S.meaning core.now s
         → v.items ≡ accounts_of s) }
 {
     let mut accounts = Vec::new(alloc);
@@ -91,7 +99,7 @@ fn accounts_in<S: System>(alloc: Global, core: &Core<S>) -> Result<Vec<Account>,
     Ok(accounts)
 }
 
-impl<S: System> EngineOf<S> {
+impl<V: Value, S: SystemOf<Value = V>> EngineOf<S, V> {
     ghost use Rattle.std.specs.Prelude.{◌↔◌, All, Err};
     ghost use Rattle.msg_world.specs.declared.run_fault.RunFault.TheVariants.{BadOrder, Spoiled};
     ghost use Rattle.msg_frames.specs.Prelude.{AddsUp};
@@ -104,9 +112,11 @@ impl<S: System> EngineOf<S> {
     ///
     /// `Spoiled`, and `NoMemory`.
     pub fn accounts(&self) -> Result<Vec<Account>, RunFault>
-        ensures accounts { IfOk result (λ v. (s : State) → EngineStands S.meaning self.now s
+        ensures accounts { IfOk result
+            (λ v. (s : State V.values) → EngineStands S.meaning self.now s
             → v.items ≡ accounts_of s) }
-        ensures add_up { IfOk result (λ v. IsEngine S.meaning self.now → All AddsUp v.items) }
+        ensures add_up { IfOk result
+            (λ v. IsEngine V.values S.meaning self.now → All AddsUp v.items) }
         ensures spoiled { (result ≡ Err Spoiled) ↔ IsSpoiled self.now }
         ensures no_bad_order { ¬ (result ≡ Err BadOrder) }
     {

@@ -14,19 +14,20 @@ use crate::size::size_of_turns;
 use crate::spares::Spares;
 use crate::{Gate, NoMemory, Turn, Workers};
 use msg_frames::laws::batches_run_side_by_side;
-use msg_system::System;
+use msg_system::SystemOf;
+use msg_world::Value;
 use msg_world::laws::written_parts_come_home;
 use std::alloc::Global;
 use std::thread::Threads;
 
 /// Takes the systems of a batch out for their turns.
-fn lend_out_all<S: System>(
+fn lend_out_all<V: Value, S: SystemOf<Value = V>>(
     alloc: Global,
-    lender: &mut Lender<S>,
+    lender: &mut Lender<S, V>,
     batch: &[u32],
-    spares: &mut Spares,
-) -> Result<Vec<Job<S>>, NoMemory>
-    requires stands { (s : State) × (LenderStands S.meaning lender.old s
+    spares: &mut Spares<V>,
+) -> Result<Vec<Job<S, V>>, NoMemory>
+    requires stands { (s : State V.values) × (LenderStands S.meaning lender.old s
         × All (λ i. i < s.systems) batch.now) }
     requires once { AllPairs (λ i j. i ≢ j) batch.now }
     requires apart { NoneConflict lender.old.accesses.items batch.now }
@@ -40,30 +41,30 @@ fn lend_out_all<S: System>(
 }
 
 /// Runs the jobs of a batch over the workers, and appends their turns, by order of addition.
-fn run_many<R: Threads + Sync, S: System, G: Gate>(
+fn run_many<R: Threads + Sync, V: Value + Send + Sync, S: SystemOf<Value = V> + Send, G: Gate>(
     rt: &R,
     alloc: Global,
-    lender: &mut Lender<S>,
+    lender: &mut Lender<S, V>,
     batch: &[u32],
     workers: Workers,
     gate: &G,
-    spares: &mut Spares,
-    turns: &mut Vec<Turn>,
+    spares: &mut Spares<V>,
+    turns: &mut Vec<Turn<V>>,
 ) -> Result<(), NoMemory>
-    requires stands { (s : State) × (LenderStands S.meaning lender.old s
+    requires stands { (s : State V.values) × (LenderStands S.meaning lender.old s
         × All (λ i. i < s.systems) batch.now) }
     requires few { length lender.old.accesses.items ≤ 256 }
     requires once { AllPairs (λ i j. i ≢ j) batch.now }
     requires apart { NoneConflict lender.old.accesses.items batch.now }
-    ensures state { OnOk result ((s : State) → LenderStands S.meaning lender.old s
+    ensures state { OnOk result ((s : State V.values) → LenderStands S.meaning lender.old s
         → LenderStands S.meaning lender.new (after_turns_of batch.now s).state) }
-    ensures turns { OnOk result ((s : State) → LenderStands S.meaning lender.old s
+    ensures turns { OnOk result ((s : State V.values) → LenderStands S.meaning lender.old s
         → turns.new.items ≡ turns.old.items ++ (after_turns_of batch.now s).turns) }
     ensures accesses { OnOk result (lender.new.accesses.items ≡ lender.old.accesses.items) }
     ensures gate_passed { OnOk result (EachPassedGate (G.passed gate.now) workers batch.now) }
 {
-    batches_run_side_by_side();
-    written_parts_come_home();
+    batches_run_side_by_side::<V>();
+    written_parts_come_home::<V>();
     let jobs = lend_out_all(alloc, lender, batch, spares)?;
     let habit = spares.habit()?;
     let results = run_side_by_side(rt, alloc, &lender.world, gate, workers, jobs, habit)?;
@@ -75,19 +76,19 @@ fn run_many<R: Threads + Sync, S: System, G: Gate>(
 }
 
 /// Runs the turns of these systems one after the other, in place and as worker 0, and appends them.
-pub(crate) fn run_turns<S: System, G: Gate>(
+pub(crate) fn run_turns<V: Value, S: SystemOf<Value = V>, G: Gate>(
     alloc: Global,
-    lender: &mut Lender<S>,
+    lender: &mut Lender<S, V>,
     systems: &[u32],
     gate: &G,
-    spares: &mut Spares,
-    turns: &mut Vec<Turn>,
+    spares: &mut Spares<V>,
+    turns: &mut Vec<Turn<V>>,
 ) -> Result<(), NoMemory>
-    requires stands { (s : State) × (LenderStands S.meaning lender.old s
+    requires stands { (s : State V.values) × (LenderStands S.meaning lender.old s
         × All (λ i. i < s.systems) systems.now) }
-    ensures state { OnOk result ((s : State) → LenderStands S.meaning lender.old s
+    ensures state { OnOk result ((s : State V.values) → LenderStands S.meaning lender.old s
         → LenderStands S.meaning lender.new (after_turns_of systems.now s).state) }
-    ensures turns { OnOk result ((s : State) → LenderStands S.meaning lender.old s
+    ensures turns { OnOk result ((s : State V.values) → LenderStands S.meaning lender.old s
         → turns.new.items ≡ turns.old.items ++ (after_turns_of systems.now s).turns) }
     ensures accesses { OnOk result (lender.new.accesses.items ≡ lender.old.accesses.items) }
     ensures gate_passed { OnOk result (All (G.passed gate.now 0) systems.now) }
@@ -100,7 +101,11 @@ pub(crate) fn run_turns<S: System, G: Gate>(
 }
 
 /// Whether the next batch, of so many jobs, goes over workers.
-fn goes_over_workers(workers: Workers, jobs: usize, spares: &mut Spares) -> Result<bool, NoMemory> {
+fn goes_over_workers<V: Value>(
+    workers: Workers,
+    jobs: usize,
+    spares: &mut Spares<V>,
+) -> Result<bool, NoMemory> {
     if workers.number() == 1 || jobs <= 1 {
         return Ok(false);
     }
@@ -109,12 +114,12 @@ fn goes_over_workers(workers: Workers, jobs: usize, spares: &mut Spares) -> Resu
 
 /// Tells the habit of its place how much a batch in place did, whose turns begin with `first`. One
 /// that can't go over workers has no habit.
-fn tell_in_place(
+fn tell_in_place<V: Value>(
     workers: Workers,
     jobs: usize,
-    turns: &[Turn],
+    turns: &[Turn<V>],
     first: usize,
-    spares: &mut Spares,
+    spares: &mut Spares<V>,
 ) -> Result<(), NoMemory> {
     if workers.number() == 1 || jobs <= 1 {
         return Ok(());
@@ -126,24 +131,24 @@ fn tell_in_place(
 /// Runs the jobs of one batch, and appends their turns, by order of addition: in place if one
 /// worker runs them all, if there is at most one, and if workers didn't pay lately for the batches
 /// in this place of a frame.
-fn run_batch<R: Threads + Sync, S: System, G: Gate>(
+fn run_batch<R: Threads + Sync, V: Value + Send + Sync, S: SystemOf<Value = V> + Send, G: Gate>(
     rt: &R,
     alloc: Global,
-    lender: &mut Lender<S>,
+    lender: &mut Lender<S, V>,
     batch: &[u32],
     workers: Workers,
     gate: &G,
-    spares: &mut Spares,
-    turns: &mut Vec<Turn>,
+    spares: &mut Spares<V>,
+    turns: &mut Vec<Turn<V>>,
 ) -> Result<(), NoMemory>
-    requires stands { (s : State) × (LenderStands S.meaning lender.old s
+    requires stands { (s : State V.values) × (LenderStands S.meaning lender.old s
         × All (λ i. i < s.systems) batch.now) }
     requires few { length lender.old.accesses.items ≤ 256 }
     requires once { AllPairs (λ i j. i ≢ j) batch.now }
     requires apart { NoneConflict lender.old.accesses.items batch.now }
-    ensures state { OnOk result ((s : State) → LenderStands S.meaning lender.old s
+    ensures state { OnOk result ((s : State V.values) → LenderStands S.meaning lender.old s
         → LenderStands S.meaning lender.new (after_turns_of batch.now s).state) }
-    ensures turns { OnOk result ((s : State) → LenderStands S.meaning lender.old s
+    ensures turns { OnOk result ((s : State V.values) → LenderStands S.meaning lender.old s
         → turns.new.items ≡ turns.old.items ++ (after_turns_of batch.now s).turns) }
     ensures accesses { OnOk result (lender.new.accesses.items ≡ lender.old.accesses.items) }
     ensures gate_passed { OnOk result (EachPassedGate (G.passed gate.now) workers batch.now) }
@@ -161,25 +166,30 @@ fn run_batch<R: Threads + Sync, S: System, G: Gate>(
 }
 
 /// Runs the batches one after the other.
-pub(crate) fn run_batches<R: Threads + Sync, S: System, G: Gate>(
+pub(crate) fn run_batches<
+    R: Threads + Sync,
+    V: Value + Send + Sync,
+    S: SystemOf<Value = V> + Send,
+    G: Gate,
+>(
     rt: &R,
     alloc: Global,
-    lender: &mut Lender<S>,
+    lender: &mut Lender<S, V>,
     batches: &[Vec<u32>],
     workers: Workers,
     gate: &G,
-    spares: &mut Spares,
-) -> Result<Vec<Turn>, NoMemory>
-    requires stands { (s : State) × (LenderStands S.meaning lender.old s
+    spares: &mut Spares<V>,
+) -> Result<Vec<Turn<V>>, NoMemory>
+    requires stands { (s : State V.values) × (LenderStands S.meaning lender.old s
         × All (λ batch. All (λ i. i < s.systems) batch.items) batches.now) }
     requires few { length lender.old.accesses.items ≤ 256 }
     requires once { AllPairs (λ i j. i ≢ j) (concat (map (λ batch. batch.items) batches.now)) }
     requires apart { All (NoneConflict lender.old.accesses.items)
         (map (λ batch. batch.items) batches.now) }
-    ensures state { IfOk result (λ turns. (s : State) → LenderStands S.meaning lender.old s
+    ensures state { IfOk result (λ turns. (s : State V.values) → LenderStands S.meaning lender.old s
         → LenderStands S.meaning lender.new (after_turns_of
         (concat (map (λ batch. batch.items) batches.now)) s).state) }
-    ensures turns { IfOk result (λ turns. (s : State) → LenderStands S.meaning lender.old s
+    ensures turns { IfOk result (λ turns. (s : State V.values) → LenderStands S.meaning lender.old s
         → turns.items
         ≡ (after_turns_of (concat (map (λ batch. batch.items) batches.now)) s).turns) }
     ensures accesses { OnOk result (lender.new.accesses.items ≡ lender.old.accesses.items) }

@@ -5,12 +5,12 @@ ghost use Rattle.msg_order.specs.Prelude.{IsAcyclic, NameSystemsBelow, edges_of}
 ghost use Rattle.msg_order.specs.declared.rule.Rule.{Rule as RuleView};
 ghost use Rattle.msg_system.specs.Prelude.{HasClash};
 ghost use Rattle.msg_frames.specs.Prelude.{first_state};
-ghost use Rattle.msg_exec.specs.Prelude.{AllFit, EachIs, FitsWorld, IsEngine, IsFirstUnknown, IsLowestMisfit, IsSpoiled, Misfit, RefusesToAdd, RefusesToBuild, EngineStands, UnknownSystem, numbered_from};
+ghost use Rattle.msg_exec.specs.Prelude.{AllFit, EachIs, FitsWorld, IsEngine, IsFirstUnknown, IsLowestMisfit, HasRunSince, IsSpoiled, Misfit, RefusesToAdd, RefusesToBuild, UnknownSystem, numbered_from};
 
 use crate::{BuildError, EngineOf, Items, NoMemory, Place};
 use msg_order::Rule;
-use msg_system::{Condition, Numbered, System, job_access};
-use msg_world::World;
+use msg_system::{Condition, Numbered, SystemOf, job_access};
+use msg_world::{Value, World};
 use std::alloc::Global;
 use std::marker::Model;
 
@@ -25,18 +25,18 @@ use std::marker::Model;
 /// let mut engine = systems.build(World::new(alloc, &[100], &[0])?)?;
 /// ```
 #[derive(Drop)]
-pub struct EngineBuilder<S> {
+pub struct EngineBuilder<S, V = i64> {
     alloc: Global,
     systems: Vec<S>,
-    places: Vec<Place>,
+    places: Vec<Place<V>>,
     rules: Vec<Rule>,
 }
 
-impl<S> Model for EngineBuilder<S> {
+impl<S, V> Model for EngineBuilder<S, V> {
     ghost use Rattle.std.specs.Prelude.{◌≡◌, ◌≤◌, All, length};
     ghost use Rattle.msg_exec.specs.Building.{Added, IsJoin};
 
-    ghost Value = { Added S };
+    ghost Value = { Added S V };
 
     ghost view = { λ b. record {
       systems = b.systems.items;
@@ -50,7 +50,7 @@ impl<S> Model for EngineBuilder<S> {
 }
 
 /// Whether the world has what the system and its conditions read and write.
-fn fits<S: System>(world: &World, system: &S, place: &Place) -> bool
+fn fits<V: Value, S: SystemOf<Value = V>>(world: &World<V>, system: &S, place: &Place<V>) -> bool
     requires whole { IsWhole world.now }
     ensures fit { IsTrue result ↔ FitsWorld world.now (S.meaning system.now) place.now }
 {
@@ -58,10 +58,10 @@ fn fits<S: System>(world: &World, system: &S, place: &Place) -> bool
 }
 
 /// Refuses the lowest system that doesn't fit the world.
-fn check_systems<S: System>(
-    world: &World,
+fn check_systems<V: Value, S: SystemOf<Value = V>>(
+    world: &World<V>,
     systems: &[S],
-    places: &[Place],
+    places: &[Place<V>],
 ) -> Result<(), BuildError>
     requires whole { IsWhole world.now }
     requires few { length systems.now ≤ 256 }
@@ -94,7 +94,10 @@ fn check_names<S>(rules: &[Rule], systems: &[S]) -> Result<(), BuildError>
 }
 
 /// The systems, each with its number.
-fn numbered<S: Numbered>(alloc: Global, systems: Vec<S>) -> Result<Vec<S>, NoMemory>
+fn numbered<V: Value, S: Numbered + SystemOf<Value = V>>(
+    alloc: Global,
+    systems: Vec<S>,
+) -> Result<Vec<S>, NoMemory>
     requires few { length systems.items ≤ 256 }
     ensures as_many { IfOk result (λ v. length v.items ≡ length systems.items) }
     ensures numbered { IfOk result (λ v.
@@ -109,9 +112,9 @@ fn numbered<S: Numbered>(alloc: Global, systems: Vec<S>) -> Result<Vec<S>, NoMem
     Ok(numbered)
 }
 
-impl<S: Numbered> EngineBuilder<S> {
+impl<V: Value, S: Numbered + SystemOf<Value = V>> EngineBuilder<S, V> {
     /// Nothing is added yet. It takes no memory.
-    pub fn new(alloc: Global) -> EngineBuilder<S>
+    pub fn new(alloc: Global) -> EngineBuilder<S, V>
         ensures new { result ≡ record { systems = []; places = []; rules = [] } }
     {
         EngineBuilder {
@@ -132,7 +135,7 @@ impl<S: Numbered> EngineBuilder<S> {
     pub fn add_system(
         &mut self,
         system: S,
-        conditions: Vec<Condition>,
+        conditions: Vec<Condition<V>>,
         join: u32,
     ) -> Result<u32, BuildError>
         ensures added { OnOk result (self.new ≡ record self.old {
@@ -184,12 +187,12 @@ impl<S: Numbered> EngineBuilder<S> {
     /// `Misfit` with the lowest system that the world lacks something for; else `UnknownSystem`
     /// with the first rule without its systems; else what `EngineOf::new` refuses. The world and
     /// the systems are dropped then.
-    pub fn build(self, world: World) -> Result<EngineOf<S>, BuildError>
+    pub fn build(self, world: World<V>) -> Result<EngineOf<S, V>, BuildError>
         requires whole { IsWhole world }
-        ensures meaning { IfOk result (λ e. (w : WorldState) → PartsStand world w
-            → EngineStands S.meaning e (first_state (numbered_from 0 (map S.meaning self.systems))
-            self.places self.rules (length world.types) w)) }
-        ensures engine { IfOk result (IsEngine S.meaning) }
+        ensures since { IfOk result (λ e. (w : WorldState V.values) → PartsStand world w
+            → HasRunSince S.meaning (first_state (numbered_from 0 (map S.meaning self.systems))
+            self.places self.rules (length world.types) w) [] [] e) }
+        ensures engine { IfOk result (IsEngine V.values S.meaning) }
         ensures fresh { IfOk result (λ e. ¬ IsSpoiled e) }
         ensures fit { OnOk result (AllFit S.meaning world self.systems self.places) }
         ensures named { OnOk result (NameSystemsBelow (length self.systems) self.rules) }

@@ -10,8 +10,8 @@ use crate::job::GuardedSystem;
 use crate::{BuildRefusal, NoMemory, Place, Totals};
 use msg_order::laws::fewer_systems_make_no_cycle;
 use msg_order::{Plan, Rule, lowest_on_cycle};
-use msg_system::{Condition, Guard, System, job_access};
-use msg_world::Access;
+use msg_system::{Condition, Guard, SystemOf, job_access};
+use msg_world::{Access, Value};
 use std::alloc::Global;
 
 /// What is reckoned of the systems of a new engine and its rules.
@@ -23,7 +23,7 @@ pub(crate) struct Prepared {
 }
 
 /// The access of a system without its conditions, and whether it reads and writes one part.
-fn own_access<S: System>(system: &S) -> (Access, bool)
+fn own_access<V: Value, S: SystemOf<Value = V>>(system: &S) -> (Access, bool)
     ensures access { IsAccessOf (S.meaning system.now).needs result.0 }
     ensures clash { IsTrue result.1 ↔ HasClash (S.meaning system.now).needs }
 {
@@ -33,10 +33,10 @@ fn own_access<S: System>(system: &S) -> (Access, bool)
 }
 
 /// The access of each system's job, unless a system's own access is a clash.
-fn accesses_of<S: System>(
+fn accesses_of<V: Value, S: SystemOf<Value = V>>(
     alloc: Global,
     systems: &[S],
-    places: &[Place],
+    places: &[Place<V>],
 ) -> Result<Vec<Access>, BuildRefusal>
     requires few { length systems.now ≤ 256 }
     requires one_place_each { length places.now ≡ length systems.now }
@@ -60,7 +60,7 @@ fn accesses_of<S: System>(
 }
 
 /// The frame with which each system joins.
-fn joins_of(alloc: Global, places: &[Place]) -> Result<Vec<u32>, NoMemory>
+fn joins_of<V: Value>(alloc: Global, places: &[Place<V>]) -> Result<Vec<u32>, NoMemory>
     ensures joins { IfOk result (λ v. v.items ≡ map (λ place. place.join) places.now) }
 {
     let mut joins = Vec::new(alloc);
@@ -71,7 +71,10 @@ fn joins_of(alloc: Global, places: &[Place]) -> Result<Vec<u32>, NoMemory>
 }
 
 /// The conditions as guards, which were asked nothing yet.
-fn guards_of(alloc: Global, conditions: &[Condition]) -> Result<Vec<Guard>, NoMemory>
+fn guards_of<V: Value>(
+    alloc: Global,
+    conditions: &[Condition<V>],
+) -> Result<Vec<Guard<V>>, NoMemory>
     ensures guards { IfOk result (λ v. v.items ≡ map new_asked conditions.now) }
 {
     let mut guards = Vec::new(alloc);
@@ -82,11 +85,11 @@ fn guards_of(alloc: Global, conditions: &[Condition]) -> Result<Vec<Guard>, NoMe
 }
 
 /// Each system with the conditions of its place.
-pub(crate) fn guarded_systems<S: System>(
+pub(crate) fn guarded_systems<V: Value, S: SystemOf<Value = V>>(
     alloc: Global,
     systems: Vec<S>,
-    places: &[Place],
-) -> Result<Vec<Option<Box<GuardedSystem<S>>>>, NoMemory>
+    places: &[Place<V>],
+) -> Result<Vec<Option<Box<GuardedSystem<S, V>>>>, NoMemory>
     requires one_place_each { length places.now ≡ length systems.items }
     ensures as_many { IfOk result (λ v. length v.items ≡ length systems.items) }
     ensures guarded { IfOk result (λ v. EachIs (IsGuardedAt S.meaning systems.items places.now)
@@ -129,17 +132,18 @@ fn check_rules(alloc: Global, systems: usize, rules: &[Rule]) -> Result<(), Buil
 
 /// The access, the join and the totals of each system, and the plan of the first frame, over a
 /// world of so many types. Refuses a system that is a clash, and rules that make a cycle.
-pub(crate) fn prepare<S: System>(
+pub(crate) fn prepare<V: Value, S: SystemOf<Value = V>>(
     alloc: Global,
     types: usize,
     systems: &[S],
-    places: &[Place],
+    places: &[Place<V>],
     rules: &[Rule],
 ) -> Result<Prepared, BuildRefusal>
     requires few { length systems.now ≤ 256 }
     requires one_place_each { length places.now ≡ length systems.now }
     requires in_range { NameSystemsBelow (length systems.now) rules.now }
-    ensures prepared { IfOk result (IsPreparedFor S.meaning types systems.now places.now rules.now) }
+    ensures prepared { IfOk result
+        (IsPreparedFor S.meaning types systems.now places.now rules.now) }
     ensures refusal { IfErr result (RefusesFor S.meaning systems.now rules.now) }
 {
     fewer_systems_make_no_cycle();

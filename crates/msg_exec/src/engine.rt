@@ -8,8 +8,8 @@ use crate::{BuildRefusal, Frame, Gate, Log, Place, RunFault, Workers};
 use msg_frames::reader_laws::{first_states_are_sound, replays_tell_the_same, runs_are_complete};
 use msg_order::Rule;
 use msg_order::laws::fewer_systems_make_no_cycle;
-use msg_system::System;
-use msg_world::World;
+use msg_system::{System, SystemOf};
+use msg_world::{Value, World};
 use std::alloc::Global;
 use std::thread::Threads;
 
@@ -26,17 +26,17 @@ use std::thread::Threads;
 /// }
 /// ```
 #[derive(Drop)]
-pub struct EngineOf<S> {
+pub struct EngineOf<S, V = i64> {
     pub(crate) alloc: Global,
-    pub(crate) core: Option<Core<S>>,
+    pub(crate) core: Option<Core<S, V>>,
     pub(crate) frames: u32,
-    spares: Spares,
+    spares: Spares<V>,
 }
 
 /// An engine of boxed systems.
 pub type Engine = EngineOf<Box<dyn System>>;
 
-impl<S: System> EngineOf<S> {
+impl<V: Value, S: SystemOf<Value = V>> EngineOf<S, V> {
     ghost use Rattle.std.specs.Prelude.{◌≡◌, ◌<◌, ◌++◌, ◌∷◌, [], ◌-◌, ◌^◌, ◌+◌, ◌↔◌, ℕ, All, drop, min, IfOk, OnOk, Err, ◌≤◌, IfErr, IfSome, IsNone, IsTrue, List, None, Some, length, map};
     ghost use Rattle.std.specs.Option.{option_copied};
     ghost use Rattle.msg_system.specs.Needs.{HasClash};
@@ -59,28 +59,29 @@ impl<S: System> EngineOf<S> {
     /// dropped then.
     pub fn new(
         alloc: Global,
-        world: World,
+        world: World<V>,
         systems: Vec<S>,
-        places: Vec<Place>,
+        places: Vec<Place<V>>,
         rules: Vec<Rule>,
-    ) -> Result<EngineOf<S>, BuildRefusal>
+    ) -> Result<EngineOf<S, V>, BuildRefusal>
         requires whole { IsWhole world }
         requires few { length systems.items ≤ 256 }
         requires one_place_each { length places.items ≡ length systems.items }
         requires in_range { NameSystemsBelow (length systems.items) rules.items }
         requires each { EachIs (MayBeAdded S.meaning world places.items) systems.items }
-        ensures meaning { IfOk result (λ e. (w : WorldState) → PartsStand world w
-            → EngineStands S.meaning e
+        ensures since { IfOk result (λ e. (w : WorldState V.values) → PartsStand world w
+            → HasRunSince S.meaning
             (first_state (map S.meaning systems.items) places.items rules.items
-            (length world.types) w)) }
-        ensures engine { IfOk result (IsEngine S.meaning) }
+            (length world.types) w) [] [] e) }
+        ensures engine { IfOk result (IsEngine V.values S.meaning) }
         ensures fresh { IfOk result (λ e. ¬ IsSpoiled e) }
         ensures no_clash { OnOk result
             (EachIs (λ i x. ¬ HasClash (S.meaning x).needs) systems.items) }
         ensures no_cycle { OnOk result (IsAcyclic (edges_of rules.items)) }
         ensures refusal { IfErr result (RefusesFor S.meaning systems.items rules.items) }
     {
-        first_states_are_sound();
+        first_states_are_sound::<V>();
+        runs_are_complete::<V>();
         fewer_systems_make_no_cycle();
         world.stands_for_some();
         let Prepared {
@@ -119,7 +120,7 @@ impl<S: System> EngineOf<S> {
     }
 
     /// Takes its core back after a frame, and counts the frame.
-    fn end_frame(&mut self, core: Core<S>)
+    fn end_frame(&mut self, core: Core<S, V>)
         ensures core { self.new.core ≡ Some core }
         ensures counted { frame_number self.new ≡ min (frame_number self.old + 1) (2 ^ 32 - 1) }
     {
@@ -127,130 +128,22 @@ impl<S: System> EngineOf<S> {
         self.frames = self.frames.saturating_add(1);
     }
 
-    /// Runs one frame: those that join do so, the types are updated, the host's posts are written,
-    /// and all that have joined take their turns.
-    ///
-    /// # Errors
-    ///
-    /// `Spoiled`, and then nothing has changed; `NoMemory`, and then the engine is spoiled.
-    pub fn run_frame<R: Threads + Sync, G: Gate>(
-        &mut self,
-        rt: &R,
-        frame: &Frame,
-        workers: Workers,
-        gate: &G,
-    ) -> Result<Log, RunFault>
-        requires engine { IsEngine S.meaning self.old }
-        requires posts { PostsFit self.old frame.now }
-
-        // Whatever the workers and the gate: the log is that of one thread over lists of messages
-        // that only grow, and each reader is given every message once.
-        ensures ran { IfOk result (λ log. (s : State) → EngineStands S.meaning self.old s
-            → HasRunFrame S.meaning frame.now s log self.new) }
-        ensures since { IfOk result (λ log.
-            (s : State) (frames : List FrameView) (logs : List LogView)
-            → HasRunSince S.meaning s frames logs self.old
-            → HasRunSince S.meaning s (frames ++ frame.now ∷ []) (logs ++ log ∷ []) self.new) }
-
-        // For each turn one of the workers passed the gate, with its own number, which is below the
-        // number of turns too, and the system's.
-        ensures gate_passed { IfOk result
-            (λ log. EachPassedGate (G.passed gate.now) workers (turn_order_in log)) }
-        ensures counted { OnOk result
-            (frame_number self.new ≡ min (frame_number self.old + 1) (2 ^ 32 - 1)) }
-        ensures spoiled { (result ≡ Err Spoiled) ↔ IsSpoiled self.old }
-        ensures unchanged { result ≡ Err Spoiled → self.new ≡ self.old }
-        ensures no_memory { result ≡ Err NoMemory → IsSpoiled self.new }
-        ensures not_counted { result ≡ Err NoMemory
-            → frame_number self.new ≡ frame_number self.old }
-        ensures no_bad_order { ¬ (result ≡ Err BadOrder) }
-        ensures engine { IsEngine S.meaning self.new }
-    {
-        runs_are_complete();
-        let Some(core) = self.core.take() else {
-            return Err(RunFault::Spoiled);
-        };
-        let Ok((core, log)) = run_one(
-            rt,
-            self.alloc,
-            core,
-            self.frames,
-            frame,
-            workers,
-            gate,
-            &mut self.spares,
-        ) else {
-            return Err(RunFault::NoMemory);
-        };
-        self.end_frame(core);
-        Ok(log)
-    }
-
     /// Takes the lists of turns and replies of a log that is no longer needed, for the logs of
     /// frames to come: a loop that gives each log back asks for less memory.
-    pub fn recycle(&mut self, log: Log)
-        ensures meaning { (s : State) → EngineStands S.meaning self.old s
+    pub fn recycle(&mut self, log: Log<V>)
+        ensures meaning { (s : State V.values) → EngineStands S.meaning self.old s
             → EngineStands S.meaning self.new s }
+        ensures since { (s : State V.values) (frames : List (FrameView V)) (logs : List (LogView V))
+            → HasRunSince S.meaning s frames logs self.old
+            → HasRunSince S.meaning s frames logs self.new }
         ensures counted { frame_number self.new ≡ frame_number self.old }
+        ensures fits { (f : FrameView V) → PostsFit self.old f → PostsFit self.new f }
         ensures world { world_of self.new ≡ world_of self.old }
         ensures spoiled { IsSpoiled self.new ↔ IsSpoiled self.old }
-        ensures engine { IsEngine S.meaning self.old → IsEngine S.meaning self.new }
+        ensures engine { IsEngine V.values S.meaning self.old
+            → IsEngine V.values S.meaning self.new }
     {
         self.spares.keep(log);
-    }
-
-    /// Runs frames one after the other, and appends the log of each whole one.
-    ///
-    /// # Errors
-    ///
-    /// As for `run_frame`. After `NoMemory` the logs of the frames that were run before stand in
-    /// `out`.
-    pub fn run_frames<R: Threads + Sync, G: Gate>(
-        &mut self,
-        rt: &R,
-        frames: &[Frame],
-        workers: Workers,
-        gate: &G,
-        out: &mut Vec<Log>,
-    ) -> Result<(), RunFault>
-        requires engine { IsEngine S.meaning self.old }
-        requires posts { All (PostsFit self.old) frames.now }
-
-        // Whatever the workers and the gate: the logs are those of one thread over lists of
-        // messages that only grow, and each reader is given every message once.
-        ensures ran { OnOk result ((s : State) → EngineStands S.meaning self.old s
-            → HasRunFrames S.meaning frames.now s out.old.items out.new.items self.new) }
-        ensures since { OnOk result ((s : State) (before : List FrameView)
-            → HasRunSince S.meaning s before out.old.items self.old
-            → HasRunSince S.meaning s (before ++ frames.now) out.new.items self.new) }
-
-        // For each turn in the logs that were appended, as in `run_frame`.
-        ensures gate_passed { All (λ log. EachPassedGate (G.passed gate.now) workers
-            (turn_order_in log))
-            (drop (length out.old.items) out.new.items) }
-        ensures spoiled { (result ≡ Err Spoiled) ↔ IsSpoiled self.old }
-        ensures unchanged { result ≡ Err Spoiled → self.new ≡ self.old }
-        ensures nothing_appended { result ≡ Err Spoiled → out.new ≡ out.old }
-        ensures no_memory { result ≡ Err NoMemory → (s : State) → EngineStands S.meaning self.old s
-            → HasRunSome S.meaning frames.now s out.old.items out.new.items self.new }
-        ensures no_bad_order { ¬ (result ≡ Err BadOrder) }
-        ensures engine { IsEngine S.meaning self.new }
-    {
-        runs_are_complete();
-        if self.core.is_none() {
-            return Err(RunFault::Spoiled);
-        }
-        for frame in frames {
-            if out.reserve(1).is_err() {
-                self.spoil();
-                return Err(RunFault::NoMemory);
-            }
-            let log = self.run_frame(rt, frame, workers, gate)?;
-            let Ok(()) = out.push(log) else {
-                unreachable!()
-            };
-        }
-        Ok(())
     }
 
     /// Runs one frame on the calling thread, in an order that the caller gives; the log has the
@@ -261,22 +154,26 @@ impl<S: System> EngineOf<S> {
     /// `Spoiled`; `BadOrder` where the order isn't lawful for those that will have joined by this
     /// frame: each of them once, and each after those that the settled order puts before it. Then
     /// nothing has changed: nobody has joined. `NoMemory`, and then the engine is spoiled.
-    pub fn replay_frame(&mut self, frame: &Frame, order: &[u32]) -> Result<Log, RunFault>
-        requires engine { IsEngine S.meaning self.old }
+    pub fn replay_frame(&mut self, frame: &Frame<V>, order: &[u32]) -> Result<Log<V>, RunFault>
+        requires engine { IsEngine V.values S.meaning self.old }
         requires posts { PostsFit self.old frame.now }
 
         // The order is lawful; the log has the frame's posts and each system's turn as it came out
         // in the frame, which gave each reader every message once, and the engine stands for the
         // state that the frame leaves.
-        ensures replayed { IfOk result (λ log. (s : State) → EngineStands S.meaning self.old s
+        ensures replayed { IfOk result
+            (λ log. (s : State V.values) → EngineStands S.meaning self.old s
             → HasReplayed S.meaning frame.now order.now s log self.new) }
         ensures since { IfOk result (λ log.
-            (s : State) (frames : List FrameView) (logs : List LogView)
+            (s : State V.values) (frames : List (FrameView V)) (logs : List (LogView V))
             → HasRunSince S.meaning s frames logs self.old
             → HasRunSince S.meaning s (frames ++ frame.now ∷ []) (logs ++ log ∷ []) self.new) }
         ensures counted { OnOk result
             (frame_number self.new ≡ min (frame_number self.old + 1) (2 ^ 32 - 1)) }
-        ensures bad_order { (s : State) → EngineStands S.meaning self.old s
+        ensures alive { OnOk result (¬ IsSpoiled self.new) }
+        ensures fits { OnOk result
+            ((f : FrameView V) → PostsFit self.old f → PostsFit self.new f) }
+        ensures bad_order { (s : State V.values) → EngineStands S.meaning self.old s
             → ¬ (result ≡ Err NoMemory)
             → (result ≡ Err BadOrder) ↔ (¬ IsLawfulFor frame.now s order.now) }
         ensures nothing_done { result ≡ Err BadOrder → self.new ≡ self.old }
@@ -285,10 +182,10 @@ impl<S: System> EngineOf<S> {
         ensures no_memory { result ≡ Err NoMemory → IsSpoiled self.new }
         ensures not_counted { result ≡ Err NoMemory
             → frame_number self.new ≡ frame_number self.old }
-        ensures engine { IsEngine S.meaning self.new }
+        ensures engine { IsEngine V.values S.meaning self.new }
     {
-        replays_tell_the_same();
-        runs_are_complete();
+        replays_tell_the_same::<V>();
+        runs_are_complete::<V>();
         let Some(core) = &self.core else {
             return Err(RunFault::Spoiled);
         };
@@ -316,30 +213,15 @@ impl<S: System> EngineOf<S> {
         Ok(log)
     }
 
-    /// A law: from each state that it stands for, all that a run comes to holds of each run. The
-    /// state is sound, as the laws of frames and of readers ask, and nothing was run since.
-    pub fn runs_completely(&self)
-        ensures complete { (s : State) → EngineStands S.meaning self.now s
-            → (frames : List FrameView) → IsCompleteRun frames s }
-        ensures sound { (s : State) → EngineStands S.meaning self.now s → IsSoundState s }
-        ensures since { (s : State) → EngineStands S.meaning self.now s
-            → HasRunSince S.meaning s [] [] self.now }
-    {
-        runs_are_complete();
-    }
-
-    /// A law: each of its systems writes as its number, and none as the host.
-    pub fn systems_write_as_themselves(&self)
-        ensures writers { (s : State) → EngineStands S.meaning self.now s → (i : ℕ) → i < s.systems
-            → ((s.members i).job.system.writer ≡ i) × (i < HOST) }
-    {}
-
     /// Its world; None where it is spoiled.
-    pub fn world(&self) -> Option<&World>
+    pub fn world(&self) -> Option<&World<V>>
         ensures world { option_copied result ≡ world_of self.now }
         ensures spoiled { IsNone result ↔ IsSpoiled self.now }
-        ensures meaning { (s : State) → EngineStands S.meaning self.now s
+        ensures meaning { (s : State V.values) → EngineStands S.meaning self.now s
             → IfSome result (λ w. PartsStand w.now s.world) }
+        ensures whole { IsEngine V.values S.meaning self.now → IfSome result (λ w. IsWhole w.now) }
+        ensures types { (s : State V.values) → EngineStands S.meaning self.now s
+            → IfSome result (λ w. length w.now.types ≡ s.types) }
     {
         match &self.core {
             Some(core) => Some(&core.lender.world),
@@ -349,7 +231,7 @@ impl<S: System> EngineOf<S> {
 
     /// Whether each post of the frame is to a type of its world, as the calls that run it ask.
     /// Every frame fits an engine that is spoiled.
-    pub fn fits(&self, frame: &Frame) -> bool
+    pub fn fits(&self, frame: &Frame<V>) -> bool
         ensures fits { IsTrue result ↔ PostsFit self.now frame.now }
     {
         let Some(world) = self.world() else {
@@ -364,7 +246,7 @@ impl<S: System> EngineOf<S> {
     }
 
     /// Whether each of the frames fits.
-    pub fn all_fit(&self, frames: &[Frame]) -> bool
+    pub fn all_fit(&self, frames: &[Frame<V>]) -> bool
         ensures fit { IsTrue result ↔ All (PostsFit self.now) frames.now }
     {
         for frame in frames {
@@ -378,8 +260,148 @@ impl<S: System> EngineOf<S> {
     /// How many whole frames were run. It stays at the greatest number.
     pub fn frames_run(&self) -> u32
         ensures frames { result ≡ frame_number self.now }
-        ensures meaning { (s : State) → EngineStands S.meaning self.now s → result ≡ frame_count s }
+        ensures meaning { (s : State V.values) → EngineStands S.meaning self.now s
+            → result ≡ frame_count s }
     {
         self.frames
+    }
+}
+
+// Frames over workers, to which values and systems may be sent.
+impl<V: Value + Send + Sync, S: SystemOf<Value = V> + Send> EngineOf<S, V> {
+    ghost use Rattle.std.specs.Prelude.{◌≡◌, ◌<◌, ◌++◌, ◌∷◌, [], ◌-◌, ◌^◌, ◌+◌, ◌↔◌, ℕ, All, drop, min, IfOk, OnOk, Err, ◌≤◌, IfErr, IfSome, IsNone, IsTrue, List, None, Some, length, map};
+    ghost use Rattle.std.specs.Option.{option_copied};
+    ghost use Rattle.msg_system.specs.Needs.{HasClash};
+    ghost use Rattle.msg_world.specs.declared.run_fault.RunFault.TheVariants.{BadOrder, NoMemory, Spoiled};
+    ghost use Rattle.msg_world.specs.declared.record.TheConstants.{HOST};
+    ghost use Rattle.msg_world.specs.Prelude.{IsWhole, PartsStand, WorldState};
+    ghost use Rattle.msg_order.specs.Prelude.{IsAcyclic, NameSystemsBelow, edges_of};
+    ghost use Rattle.msg_exec.specs.{Building.EachIs, Building.MayBeAdded, Building.RefusesFor, Cores.frame_count, Engines.HasReplayed, Engines.HasRunFrame, Engines.HasRunFrames, Engines.HasRunSince, Engines.HasRunSome, Engines.IsEngine, Engines.IsSpoiled, Engines.PostsFit, Engines.EngineStands, Engines.frame_number, Engines.world_of};
+    ghost use Rattle.msg_workers.specs.Prelude.{EachPassedGate};
+    ghost use Rattle.msg_frames.specs.Prelude.{IsCompleteRun, IsLawfulFor, IsSoundState, State, first_state, turn_order_in};
+    ghost use Rattle.msg_frames.specs.{declared.frame.Frame.Frame as FrameView, declared.log.Log.Log as LogView};
+
+    /// Runs one frame: those that join do so, the types are updated, the host's posts are written,
+    /// and all that have joined take their turns.
+    ///
+    /// # Errors
+    ///
+    /// `Spoiled`, and then nothing has changed; `NoMemory`, and then the engine is spoiled.
+    pub fn run_frame<R: Threads + Sync, G: Gate>(
+        &mut self,
+        rt: &R,
+        frame: &Frame<V>,
+        workers: Workers,
+        gate: &G,
+    ) -> Result<Log<V>, RunFault>
+        requires engine { IsEngine V.values S.meaning self.old }
+        requires posts { PostsFit self.old frame.now }
+
+        // Whatever the workers and the gate: the log is that of one thread over lists of messages
+        // that only grow, and each reader is given every message once.
+        ensures ran { IfOk result (λ log. (s : State V.values) → EngineStands S.meaning self.old s
+            → HasRunFrame S.meaning frame.now s log self.new) }
+        ensures since { IfOk result (λ log.
+            (s : State V.values) (frames : List (FrameView V)) (logs : List (LogView V))
+            → HasRunSince S.meaning s frames logs self.old
+            → HasRunSince S.meaning s (frames ++ frame.now ∷ []) (logs ++ log ∷ []) self.new) }
+
+        // For each turn one of the workers passed the gate, with its own number, which is below the
+        // number of turns too, and the system's.
+        ensures gate_passed { IfOk result
+            (λ log. EachPassedGate (G.passed gate.now) workers (turn_order_in log)) }
+        ensures counted { OnOk result
+            (frame_number self.new ≡ min (frame_number self.old + 1) (2 ^ 32 - 1)) }
+        ensures alive { OnOk result (¬ IsSpoiled self.new) }
+        ensures fits { OnOk result
+            ((f : FrameView V) → PostsFit self.old f → PostsFit self.new f) }
+        ensures spoiled { (result ≡ Err Spoiled) ↔ IsSpoiled self.old }
+        ensures unchanged { result ≡ Err Spoiled → self.new ≡ self.old }
+        ensures no_memory { result ≡ Err NoMemory → IsSpoiled self.new }
+        ensures not_counted { result ≡ Err NoMemory
+            → frame_number self.new ≡ frame_number self.old }
+        ensures no_bad_order { ¬ (result ≡ Err BadOrder) }
+        ensures engine { IsEngine V.values S.meaning self.new }
+    {
+        runs_are_complete::<V>();
+        let Some(core) = self.core.take() else {
+            return Err(RunFault::Spoiled);
+        };
+        let Ok((core, log)) = run_one(
+            rt,
+            self.alloc,
+            core,
+            self.frames,
+            frame,
+            workers,
+            gate,
+            &mut self.spares,
+        ) else {
+            return Err(RunFault::NoMemory);
+        };
+        self.end_frame(core);
+        Ok(log)
+    }
+
+    /// Runs frames one after the other, and appends the log of each whole one.
+    ///
+    /// # Errors
+    ///
+    /// As for `run_frame`. After `NoMemory` the logs of the frames that were run before stand in
+    /// `out`.
+    pub fn run_frames<R: Threads + Sync, G: Gate>(
+        &mut self,
+        rt: &R,
+        frames: &[Frame<V>],
+        workers: Workers,
+        gate: &G,
+        out: &mut Vec<Log<V>>,
+    ) -> Result<(), RunFault>
+        requires engine { IsEngine V.values S.meaning self.old }
+        requires posts { All (PostsFit self.old) frames.now }
+
+        // Whatever the workers and the gate: the logs are those of one thread over lists of
+        // messages that only grow, and each reader is given every message once.
+        ensures ran { OnOk result ((s : State V.values) → EngineStands S.meaning self.old s
+            → HasRunFrames S.meaning frames.now s out.old.items out.new.items self.new) }
+        ensures since { OnOk result ((s : State V.values) (before : List (FrameView V))
+            → HasRunSince S.meaning s before out.old.items self.old
+            → HasRunSince S.meaning s (before ++ frames.now) out.new.items self.new) }
+
+        ensures counted { OnOk result
+            (frame_number self.new
+            ≡ min (frame_number self.old + length frames.now) (2 ^ 32 - 1)) }
+        ensures alive { OnOk result (¬ IsSpoiled self.new) }
+        ensures fits { OnOk result
+            ((f : FrameView V) → PostsFit self.old f → PostsFit self.new f) }
+
+        // For each turn in the logs that were appended, as in `run_frame`.
+        ensures gate_passed { All (λ log. EachPassedGate (G.passed gate.now) workers
+            (turn_order_in log))
+            (drop (length out.old.items) out.new.items) }
+        ensures spoiled { (result ≡ Err Spoiled) ↔ IsSpoiled self.old }
+        ensures unchanged { result ≡ Err Spoiled → self.new ≡ self.old }
+        ensures nothing_appended { result ≡ Err Spoiled → out.new ≡ out.old }
+        ensures no_memory { result ≡ Err NoMemory → (s : State V.values)
+            → EngineStands S.meaning self.old s
+            → HasRunSome S.meaning frames.now s out.old.items out.new.items self.new }
+        ensures no_bad_order { ¬ (result ≡ Err BadOrder) }
+        ensures engine { IsEngine V.values S.meaning self.new }
+    {
+        runs_are_complete::<V>();
+        if self.core.is_none() {
+            return Err(RunFault::Spoiled);
+        }
+        for frame in frames {
+            if out.reserve(1).is_err() {
+                self.spoil();
+                return Err(RunFault::NoMemory);
+            }
+            let log = self.run_frame(rt, frame, workers, gate)?;
+            let Ok(()) = out.push(log) else {
+                unreachable!()
+            };
+        }
+        Ok(())
     }
 }

@@ -14,16 +14,16 @@ use crate::spares::Spares;
 use crate::{Frame, Gate, Items, Log, NoMemory, Workers};
 use msg_frames::reader_laws::states_stay_sound;
 use msg_order::{Plan, PlanRefusal, Rule};
-use msg_system::{Reply, System};
-use msg_world::Access;
+use msg_system::{Reply, SystemOf};
+use msg_world::{Access, Value};
 use std::alloc::Global;
 use std::thread::Threads;
 
 /// The systems and the world with what lends them out, the rules, and the plan of those that have
 /// joined.
 #[derive(Drop)]
-pub struct Core<S> {
-    pub lender: Lender<S>,
+pub struct Core<S, V = i64> {
+    pub lender: Lender<S, V>,
     /// The frame with which each system joins.
     pub joins: Vec<u32>,
     pub rules: Vec<Rule>,
@@ -67,13 +67,14 @@ pub(crate) fn plan_by(
 
 /// The number of the next frame and its plan, where some join with it. Where nobody does there is
 /// none, and the plan stays.
-pub(crate) fn next_plan<S: System>(
+pub(crate) fn next_plan<V: Value, S: SystemOf<Value = V>>(
     alloc: Global,
-    core: &Core<S>,
+    core: &Core<S, V>,
     frames: u32,
 ) -> Result<Option<(u32, Plan)>, NoMemory>
-    requires stands { (s : State) × (CoreStands S.meaning core.now s × (frames ≡ frame_count s)) }
-    ensures plan { IfOk result (λ next. (s : State) → CoreStands S.meaning core.now s
+    requires stands { (s : State V.values)
+        × (CoreStands S.meaning core.now s × (frames ≡ frame_count s)) }
+    ensures plan { IfOk result (λ next. (s : State V.values) → CoreStands S.meaning core.now s
         → frames ≡ frame_count s → IsNextPlan core.now s next) }
 {
     let Some(next) = frames.checked_add(1) else {
@@ -91,9 +92,14 @@ pub(crate) fn next_plan<S: System>(
 }
 
 /// Starts those that join with the next frame, and takes the plan of it.
-fn begin<S: System>(alloc: Global, core: Core<S>, frames: u32) -> Result<Core<S>, NoMemory>
-    requires stands { (s : State) × (CoreStands S.meaning core s × (frames ≡ frame_count s)) }
-    ensures begun { IfOk result (λ begun. (s : State) → CoreStands S.meaning core s
+fn begin<V: Value, S: SystemOf<Value = V>>(
+    alloc: Global,
+    core: Core<S, V>,
+    frames: u32,
+) -> Result<Core<S, V>, NoMemory>
+    requires stands { (s : State V.values)
+        × (CoreStands S.meaning core s × (frames ≡ frame_count s)) }
+    ensures begun { IfOk result (λ begun. (s : State V.values) → CoreStands S.meaning core s
         → frames ≡ frame_count s → HasBegunFrame S.meaning begun s) }
     ensures types { IfOk result (λ begun. begun.lender.world ≡ core.lender.world) }
 {
@@ -108,15 +114,16 @@ fn begin<S: System>(alloc: Global, core: Core<S>, frames: u32) -> Result<Core<S>
 
 /// Opens the next frame: those that join do so, the types are updated, and the host's posts are
 /// written. Gives what they were answered.
-pub(crate) fn open<S: System>(
+pub(crate) fn open<V: Value, S: SystemOf<Value = V>>(
     alloc: Global,
-    core: Core<S>,
+    core: Core<S, V>,
     frames: u32,
-    frame: &Frame,
-) -> Result<(Core<S>, Vec<Reply>), NoMemory>
-    requires stands { (s : State) × (CoreStands S.meaning core s × (frames ≡ frame_count s)) }
+    frame: &Frame<V>,
+) -> Result<(Core<S, V>, Vec<Reply<V>>), NoMemory>
+    requires stands { (s : State V.values)
+        × (CoreStands S.meaning core s × (frames ≡ frame_count s)) }
     requires posts { All (λ p. p.0 < length core.lender.world.types) frame.now.posts }
-    ensures opened { IfOk result (λ r. (s : State) → CoreStands S.meaning core s
+    ensures opened { IfOk result (λ r. (s : State V.values) → CoreStands S.meaning core s
         → frames ≡ frame_count s → HasOpened S.meaning frame.now s r.0 r.1.items) }
 {
     let mut core = begin(alloc, core, frames)?;
@@ -128,25 +135,31 @@ pub(crate) fn open<S: System>(
 }
 
 /// Runs one frame, where so many were run before it.
-pub(crate) fn run_one<R: Threads + Sync, S: System, G: Gate>(
+pub(crate) fn run_one<
+    R: Threads + Sync,
+    V: Value + Send + Sync,
+    S: SystemOf<Value = V> + Send,
+    G: Gate,
+>(
     rt: &R,
     alloc: Global,
-    core: Core<S>,
+    core: Core<S, V>,
     frames: u32,
-    frame: &Frame,
+    frame: &Frame<V>,
     workers: Workers,
     gate: &G,
-    spares: &mut Spares,
-) -> Result<(Core<S>, Log), NoMemory>
-    requires stands { (s : State) × (CoreStands S.meaning core s × (frames ≡ frame_count s)) }
+    spares: &mut Spares<V>,
+) -> Result<(Core<S, V>, Log<V>), NoMemory>
+    requires stands { (s : State V.values)
+        × (CoreStands S.meaning core s × (frames ≡ frame_count s)) }
     requires posts { All (λ p. p.0 < length core.lender.world.types) frame.now.posts }
-    ensures ran { IfOk result (λ r. (s : State) → CoreStands S.meaning core s
+    ensures ran { IfOk result (λ r. (s : State V.values) → CoreStands S.meaning core s
         → frames ≡ frame_count s
         → HasLeft S.meaning (r.1 ≡ (frame_of frame.now s).log) frame.now s r.0) }
     ensures gate_passed { IfOk result
         (λ r. EachPassedGate (G.passed gate.now) workers (turn_order_in r.1)) }
 {
-    states_stay_sound();
+    states_stay_sound::<V>();
     let (mut core, posts) = open(alloc, core, frames, frame)?;
     let batches = core.plan.batches();
     let turns = run_batches(rt, alloc, &mut core.lender, batches, workers, gate, spares)?;

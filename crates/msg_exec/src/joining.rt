@@ -8,11 +8,11 @@ ghost use Rattle.msg_exec.specs.{inner.Totals.first_place, inner.SystemsOut.Have
 use crate::Totals;
 use crate::job::GuardedSystem;
 use crate::lender::Lender;
-use msg_system::{Guard, Start, System};
-use msg_world::{Counts, TypeNo};
+use msg_system::{Guard, Start, SystemOf};
+use msg_world::{Counts, TypeNo, Value};
 
 /// Sets the cursors of conditions to where they start.
-fn start_guards(guards: &mut [Guard], counts: &Counts, start: Start)
+fn start_guards<V: Value>(guards: &mut [Guard<V>], counts: &Counts, start: Start)
     ensures started { guards.new ≡ map (asked_started start counts.now) guards.old }
 {
     for guard in guards.iter_mut() {
@@ -21,7 +21,7 @@ fn start_guards(guards: &mut [Guard], counts: &Counts, start: Start)
 }
 
 /// Sets the cursors of a system and of its conditions to where they start.
-fn start<S: System>(guarded: &mut GuardedSystem<S>, counts: &Counts)
+fn start<V: Value, S: SystemOf<Value = V>>(guarded: &mut GuardedSystem<S, V>, counts: &Counts)
     ensures begun { job_state S.meaning guarded.new
         ≡ job_begun counts.now (job_state S.meaning guarded.old) }
 {
@@ -41,7 +41,7 @@ fn place_of(start: Start, counts: &Counts, t: TypeNo) -> u64
 }
 
 /// Where a system that was given nothing starts in the type of this number.
-fn first_place<S: System>(system: &S, counts: &Counts, t: usize) -> u64
+fn first_place<V: Value, S: SystemOf<Value = V>>(system: &S, counts: &Counts, t: usize) -> u64
     requires type_number { t < 64 }
     ensures place { result ≡ first_place (S.meaning system.now) counts.now t }
 {
@@ -56,7 +56,7 @@ fn first_place<S: System>(system: &S, counts: &Counts, t: usize) -> u64
 }
 
 /// Opens the accounts of a system where its cursors start.
-fn open<S: System>(system: &S, counts: &Counts, totals: &mut [Totals])
+fn open<V: Value, S: SystemOf<Value = V>>(system: &S, counts: &Counts, totals: &mut [Totals])
     requires few { length totals.old ≤ 64 }
     ensures as_many { length totals.new ≡ length totals.old }
     ensures opened { (t : ℕ) → t < length totals.old → totals_at totals.new t
@@ -71,8 +71,8 @@ fn open<S: System>(system: &S, counts: &Counts, totals: &mut [Totals])
 }
 
 /// Starts a system, and opens its accounts.
-fn begin<S: System>(
-    slot: &mut Option<Box<GuardedSystem<S>>>,
+fn begin<V: Value, S: SystemOf<Value = V>>(
+    slot: &mut Option<Box<GuardedSystem<S, V>>>,
     counts: &Counts,
     totals: &mut [Totals],
 )
@@ -91,10 +91,16 @@ fn begin<S: System>(
 }
 
 /// Starts each system that joins with this frame, and opens its accounts.
-pub(crate) fn join_those<S: System>(lender: &mut Lender<S>, joins: &[u32], frame: u32)
-    requires stands { (s : State) × (LenderStands S.meaning lender.old s × AreJoins joins.now s
+pub(crate) fn join_those<V: Value, S: SystemOf<Value = V>>(
+    lender: &mut Lender<S, V>,
+    joins: &[u32],
+    frame: u32,
+)
+    requires stands { (s : State V.values)
+        × (LenderStands S.meaning lender.old s × AreJoins joins.now s
         × HaveReadNothing frame s) }
-    ensures joined { (s : State) → LenderStands S.meaning lender.old s → AreJoins joins.now s
+    ensures joined { (s : State V.values) → LenderStands S.meaning lender.old s
+        → AreJoins joins.now s
         → HaveReadNothing frame s → LenderStands S.meaning lender.new (with_joining frame s) }
     ensures accesses { lender.new.accesses ≡ lender.old.accesses }
     ensures world { lender.new.world ≡ lender.old.world }

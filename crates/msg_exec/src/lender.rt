@@ -3,30 +3,30 @@ ghost use Rattle.std.specs.Prelude.{◌≡◌, ◌<◌, [], IfOk, OnOk};
 ghost use Rattle.msg_frames.specs.Prelude.{after_turn_of, logged_turn, State};
 ghost use Rattle.msg_exec.specs.Prelude.{LenderStands};
 
-use crate::job::{GuardedSystem, Job, JobContents, TakesTurns};
+use crate::job::{GuardedSystem, Job, JobContents, take_turn};
 use crate::spares::Spares;
 use crate::totals::enter;
 use crate::{NoMemory, Outcome, Totals, Turn};
 use msg_frames::laws::batches_run_side_by_side;
-use msg_system::System;
+use msg_system::SystemOf;
 use msg_world::laws::written_parts_come_home;
-use msg_world::{Access, Taken, World};
+use msg_world::{Access, Taken, Value, World};
 use std::alloc::Global;
 use std::mem::replace;
 
 /// What lends out systems, and the parts of the world that they write.
 #[derive(Drop)]
-pub struct Lender<S> {
-    pub world: World,
+pub struct Lender<S, V = i64> {
+    pub world: World<V>,
     /// Each system with its conditions, by number; None while it is out for its turn.
-    pub systems: Vec<Option<Box<GuardedSystem<S>>>>,
+    pub systems: Vec<Option<Box<GuardedSystem<S, V>>>>,
     /// What each system and its conditions read and write.
     pub accesses: Vec<Access>,
     /// For each system its totals, one for each type.
     pub totals: Vec<Vec<Totals>>,
 }
 
-impl<S: System> Lender<S> {
+impl<V: Value, S: SystemOf<Value = V>> Lender<S, V> {
     ghost use Rattle.std.specs.Prelude.{IsSome, length};
     ghost use Rattle.msg_world.specs.Prelude.{IsApart, IsHome};
     ghost use Rattle.msg_order.specs.Prelude.{access_of};
@@ -36,8 +36,8 @@ impl<S: System> Lender<S> {
     pub(crate) fn lend_out(
         &mut self,
         number: u32,
-        contents: Box<JobContents>,
-    ) -> Result<Job<S>, NoMemory>
+        contents: Box<JobContents<V>>,
+    ) -> Result<Job<S, V>, NoMemory>
         requires number { number < length self.old.accesses.items }
         requires there { IsSome (system_at self.old number) }
         requires home { IsHome (access_of self.old.accesses.items number) self.old.world }
@@ -57,7 +57,12 @@ impl<S: System> Lender<S> {
 
     /// Takes a system back after its turn, with what it gives back. What went with it is kept for
     /// later jobs.
-    pub(crate) fn take_back(&mut self, alloc: Global, done: Job<S>, spares: &mut Spares) -> Turn
+    pub(crate) fn take_back(
+        &mut self,
+        alloc: Global,
+        done: Job<S, V>,
+        spares: &mut Spares<V>,
+    ) -> Turn<V>
         requires systems { done.number < length self.old.systems.items }
         requires totals { done.number < length self.old.totals.items }
         requires apart { IsApart done.taken self.old.world }
@@ -85,21 +90,22 @@ impl<S: System> Lender<S> {
 }
 
 /// One system's turn, in place.
-pub(crate) fn run_turn<S: System>(
+pub(crate) fn run_turn<V: Value, S: SystemOf<Value = V>>(
     alloc: Global,
-    lender: &mut Lender<S>,
+    lender: &mut Lender<S, V>,
     number: u32,
-    spares: &mut Spares,
-) -> Result<Turn, NoMemory>
-    requires stands { (s : State) × (LenderStands S.meaning lender.old s × (number < s.systems)) }
-    ensures state { IfOk result (λ turn. (s : State) → LenderStands S.meaning lender.old s
+    spares: &mut Spares<V>,
+) -> Result<Turn<V>, NoMemory>
+    requires stands { (s : State V.values)
+        × (LenderStands S.meaning lender.old s × (number < s.systems)) }
+    ensures state { IfOk result (λ turn. (s : State V.values) → LenderStands S.meaning lender.old s
         → LenderStands S.meaning lender.new (after_turn_of number s)) }
-    ensures logged { IfOk result (λ turn. (s : State) → LenderStands S.meaning lender.old s
+    ensures logged { IfOk result (λ turn. (s : State V.values) → LenderStands S.meaning lender.old s
         → turn ≡ logged_turn s number) }
     ensures accesses { OnOk result (lender.new.accesses.items ≡ lender.old.accesses.items) }
 {
-    batches_run_side_by_side();
-    written_parts_come_home();
+    batches_run_side_by_side::<V>();
+    written_parts_come_home::<V>();
     let i = number as usize;
     let access = lender.accesses[i];
     let taken = lender.world.lend_out(&access)?;
@@ -107,7 +113,7 @@ pub(crate) fn run_turn<S: System>(
     let Some(mut guarded) = lender.systems[i].take() else {
         unreachable!()
     };
-    let (taken, outcome) = guarded.take_turn(alloc, &lender.world, &access, taken, replies)?;
+    let (taken, outcome) = take_turn(alloc, &mut guarded, &lender.world, &access, taken, replies)?;
     lender.world.take_back(taken);
     enter(&guarded.system, &mut lender.totals[i], &outcome);
     lender.systems[i] = Some(guarded);

@@ -11,20 +11,22 @@ use crate::spares::Spares;
 use crate::{Frame, Items, Log, NoGate, NoMemory};
 use msg_frames::laws::frames_agree_in_lawful_orders;
 use msg_frames::reader_laws::states_stay_sound;
-use msg_system::System;
+use msg_system::SystemOf;
+use msg_world::Value;
 use std::alloc::Global;
 
 /// Whether the order is lawful for the next frame, with those that will join in it.
-pub(crate) fn accepts_next<S: System>(
+pub(crate) fn accepts_next<V: Value, S: SystemOf<Value = V>>(
     alloc: Global,
-    core: &Core<S>,
+    core: &Core<S, V>,
     frames: u32,
     order: &[u32],
 ) -> Result<bool, NoMemory>
-    requires stands { (s : State) × (CoreStands S.meaning core.now s × (frames ≡ frame_count s)) }
-    ensures lawful { IfOk result (λ accepts. (s : State) → CoreStands S.meaning core.now s
+    requires stands { (s : State V.values)
+        × (CoreStands S.meaning core.now s × (frames ≡ frame_count s)) }
+    ensures lawful { IfOk result (λ accepts. (s : State V.values) → CoreStands S.meaning core.now s
         → frames ≡ frame_count s
-        → (frame : FrameView) → IsTrue accepts ↔ IsLawfulFor frame s order.now) }
+        → (frame : FrameView V) → IsTrue accepts ↔ IsLawfulFor frame s order.now) }
 {
     match next_plan(alloc, core, frames)? {
         Some((_, plan)) => Ok(plan.accepts(order)),
@@ -33,24 +35,25 @@ pub(crate) fn accepts_next<S: System>(
 }
 
 /// Runs one frame in an order that is lawful for it, where so many were run before it.
-pub(crate) fn replay_one<S: System>(
+pub(crate) fn replay_one<V: Value, S: SystemOf<Value = V>>(
     alloc: Global,
-    core: Core<S>,
+    core: Core<S, V>,
     frames: u32,
-    frame: &Frame,
+    frame: &Frame<V>,
     order: &[u32],
-    spares: &mut Spares,
-) -> Result<(Core<S>, Log), NoMemory>
-    requires stands { (s : State) × (CoreStands S.meaning core s × (frames ≡ frame_count s)) }
+    spares: &mut Spares<V>,
+) -> Result<(Core<S, V>, Log<V>), NoMemory>
+    requires stands { (s : State V.values)
+        × (CoreStands S.meaning core s × (frames ≡ frame_count s)) }
     requires posts { All (λ p. p.0 < length core.lender.world.types) frame.now.posts }
-    requires lawful { (s : State) → CoreStands S.meaning core s → frames ≡ frame_count s
+    requires lawful { (s : State V.values) → CoreStands S.meaning core s → frames ≡ frame_count s
         → IsLawfulFor frame.now s order.now }
-    ensures replayed { IfOk result (λ r. (s : State) → CoreStands S.meaning core s
+    ensures replayed { IfOk result (λ r. (s : State V.values) → CoreStands S.meaning core s
         → frames ≡ frame_count s
         → HasLeft S.meaning (IsReplay frame.now order.now s r.1) frame.now s r.0) }
 {
-    states_stay_sound();
-    frames_agree_in_lawful_orders();
+    states_stay_sound::<V>();
+    frames_agree_in_lawful_orders::<V>();
     let (mut core, posts) = open(alloc, core, frames, frame)?;
     let mut turns = spares.turns(alloc, order.len())?;
     run_turns(alloc, &mut core.lender, order, &NoGate, spares, &mut turns)?;

@@ -4,12 +4,12 @@ ghost use Rattle.std.specs.List.{AllZip};
 ghost use Rattle.msg_exec.specs.{Jobs.IsResult, Jobs.MayRun, inner.Batches.AreResults, inner.Batches.IsWithWorld};
 ghost use Rattle.msg_workers.specs.Prelude.{EachMay, PassedGate};
 
-use crate::job::{Job, TakesTurns};
+use crate::job::{Job, take_turn};
 use crate::{Gate, NoMemory, Runs, Workers};
 use msg_board::Work;
-use msg_system::System;
+use msg_system::SystemOf;
 use msg_workers::{Habit, run_jobs};
-use msg_world::{Taken, World};
+use msg_world::{Taken, Value, World};
 use std::alloc::Global;
 use std::marker::PhantomData;
 use std::mem::replace;
@@ -17,35 +17,35 @@ use std::thread::Threads;
 
 /// A job, and the world that it was lent from.
 #[derive(Drop)]
-pub struct BatchJob<'a, S> {
-    pub job: Job<S>,
-    pub world: &'a World,
+pub struct BatchJob<'a, S, V = i64> {
+    pub job: Job<S, V>,
+    pub world: &'a World<V>,
 }
 
 /// The work of a batch: what its jobs give is what they mean on the world as it stands while they
 /// are out, or the word that memory was refused.
-pub struct Batch<'a, S> {
-    jobs: PhantomData<(&'a World, S)>,
+pub struct Batch<'a, S, V = i64> {
+    jobs: PhantomData<(&'a World<V>, S)>,
 }
 
-impl<'a, S: System> Work for Batch<'a, S> {
-    type Job = BatchJob<'a, S>;
+impl<'a, V: Value + Send + Sync, S: SystemOf<Value = V> + Send> Work for Batch<'a, S, V> {
+    type Job = BatchJob<'a, S, V>;
 
-    type Done = Result<Job<S>, NoMemory>;
+    type Done = Result<Job<S, V>, NoMemory>;
 
-    ghost lawful = { λ j r. IsResult S.meaning j.world.now j.job r };
+    ghost lawful = { λ j r. IsResult V.values S.meaning j.world.now j.job r };
 }
 
-impl<'a, S: System> Runs for Batch<'a, S> {
+impl<'a, V: Value + Send + Sync, S: SystemOf<Value = V> + Send> Runs for Batch<'a, S, V> {
     ghost may = { λ j. MayRun S.meaning j.world.now j.job };
 
     ghost system_of = { λ j. j.job.number };
 
-    fn number(job: &BatchJob<'a, S>) -> u32 {
+    fn number(job: &BatchJob<'a, S, V>) -> u32 {
         job.job.number()
     }
 
-    fn run(alloc: Global, job: BatchJob<'a, S>) -> Result<Job<S>, NoMemory> {
+    fn run(alloc: Global, job: BatchJob<'a, S, V>) -> Result<Job<S, V>, NoMemory> {
         let BatchJob { job, world } = job;
         let Job {
             mut guarded,
@@ -53,7 +53,14 @@ impl<'a, S: System> Runs for Batch<'a, S> {
         } = job;
         let taken = replace(&mut contents.taken, Taken::none(alloc));
         let replies = replace(&mut contents.replies, Vec::new(alloc));
-        let (taken, outcome) = guarded.take_turn(alloc, world, &contents.access, taken, replies)?;
+        let (taken, outcome) = take_turn(
+            alloc,
+            &mut guarded,
+            world,
+            &contents.access,
+            taken,
+            replies,
+        )?;
         contents.taken = taken;
         contents.outcome = outcome;
         Ok(Job { guarded, contents })
@@ -61,11 +68,11 @@ impl<'a, S: System> Runs for Batch<'a, S> {
 }
 
 /// The jobs, each with the world.
-fn with_world<'a, S: System>(
+fn with_world<'a, V: Value, S: SystemOf<Value = V>>(
     alloc: Global,
-    world: &'a World,
-    jobs: Vec<Job<S>>,
-) -> Result<Vec<BatchJob<'a, S>>, NoMemory>
+    world: &'a World<V>,
+    jobs: Vec<Job<S, V>>,
+) -> Result<Vec<BatchJob<'a, S, V>>, NoMemory>
     ensures each { IfOk result (λ all. AllZip (IsWithWorld world.now) jobs.items all.items) }
 {
     let mut all = Vec::with_capacity(alloc, jobs.len())?;
@@ -77,22 +84,28 @@ fn with_world<'a, S: System>(
 
 /// Runs the jobs on the world that they were lent from, over workers that draw them from a board,
 /// and gives what came of each. Where memory is refused to one, the others are still run.
-pub(crate) fn run_side_by_side<R: Threads + Sync, S: System, G: Gate>(
+pub(crate) fn run_side_by_side<
+    R: Threads + Sync,
+    V: Value + Send + Sync,
+    S: SystemOf<Value = V> + Send,
+    G: Gate,
+>(
     rt: &R,
     alloc: Global,
-    world: &World,
+    world: &World<V>,
     gate: &G,
     workers: Workers,
-    jobs: Vec<Job<S>>,
+    jobs: Vec<Job<S, V>>,
     habit: &mut Habit,
-) -> Result<Vec<Result<Job<S>, NoMemory>>, NoMemory>
+) -> Result<Vec<Result<Job<S, V>, NoMemory>>, NoMemory>
     requires few { length jobs.items ≤ 256 }
     requires may { EachMay (MayRun S.meaning world.now) jobs.items }
-    ensures run { IfOk result (λ results. AreResults S.meaning world.now jobs.items results.items) }
+    ensures run { IfOk result
+        (λ results. AreResults V.values S.meaning world.now jobs.items results.items) }
     ensures gate_passed { OnOk result
         (All (λ job. PassedGate (G.passed gate.now) (min workers (length jobs.items)) job.number)
         jobs.items) }
 {
     let jobs = with_world(alloc, world, jobs)?;
-    run_jobs::<R, Batch<S>, G>(rt, alloc, gate, workers, jobs, habit)
+    run_jobs::<R, Batch<S, V>, G>(rt, alloc, gate, workers, jobs, habit)
 }

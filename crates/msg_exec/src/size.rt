@@ -1,9 +1,10 @@
 // How much turns did.
 use crate::{Outcome, Turn};
 use msg_system::Reply;
+use msg_world::Value;
 
 /// The messages that a reply tells of, and one for the reply.
-fn size_of_reply(reply: &Reply) -> u64 {
+fn size_of_reply<V: Value>(reply: &Reply<V>) -> u64 {
     let messages = match reply {
         Reply::Wrote(wrote) => wrote.n,
         Reply::Read(took) => took.items.as_slice().len() as u64,
@@ -17,7 +18,7 @@ fn size_of_reply(reply: &Reply) -> u64 {
 
 /// How much these turns did, from turn `from` on: their replies, and the messages that these tell
 /// of.
-pub(crate) fn size_of_turns(turns: &[Turn], from: usize) -> u64 {
+pub(crate) fn size_of_turns<V: Value>(turns: &[Turn<V>], from: usize) -> u64 {
     let mut size = 0u64;
     for i in from..turns.len() {
         if let Outcome::Ran(replies) = &turns[i].outcome {

@@ -5,7 +5,7 @@ use crate::job::JobContents;
 use crate::{Log, NoMemory, Outcome, Turn};
 use msg_system::Reply;
 use msg_workers::Habit;
-use msg_world::{Access, Taken};
+use msg_world::{Access, Taken, Value};
 use std::alloc::Global;
 use std::marker::Model;
 use std::mem::replace;
@@ -17,16 +17,16 @@ const MOST: usize = 256;
 /// with systems to their turns; and for each place of a batch in a frame, whether workers pay
 /// there. That stays where the plan changes. Contracts see nothing of it.
 #[derive(Drop)]
-pub(crate) struct Spares {
-    turns: Vec<Turn>,
-    replies: Vec<Vec<Reply>>,
-    contents: Vec<Box<JobContents>>,
+pub(crate) struct Spares<V = i64> {
+    turns: Vec<Turn<V>>,
+    replies: Vec<Vec<Reply<V>>>,
+    contents: Vec<Box<JobContents<V>>>,
     habits: Vec<Habit>,
     /// The place of the batch that runs.
     place: usize,
 }
 
-impl Model for Spares {
+impl<V> Model for Spares<V> {
     ghost use Rattle.std.specs.Prelude.{⊤};
 
     ghost Value = { ⊤ };
@@ -34,8 +34,8 @@ impl Model for Spares {
     ghost view = { λ _. tt };
 }
 
-impl Spares {
-    pub(crate) fn new(alloc: Global) -> Spares {
+impl<V: Value> Spares<V> {
+    pub(crate) fn new(alloc: Global) -> Spares<V> {
         Spares {
             turns: Vec::new(alloc),
             replies: Vec::new(alloc),
@@ -46,7 +46,7 @@ impl Spares {
     }
 
     /// An empty list with room for so many turns.
-    pub(crate) fn turns(&mut self, alloc: Global, room: usize) -> Result<Vec<Turn>, NoMemory>
+    pub(crate) fn turns(&mut self, alloc: Global, room: usize) -> Result<Vec<Turn<V>>, NoMemory>
         ensures empty { IfOk result (λ turns. turns.items ≡ []) }
     {
         let mut turns = replace(&mut self.turns, Vec::new(alloc));
@@ -56,7 +56,7 @@ impl Spares {
     }
 
     /// An empty list of replies.
-    pub(crate) fn replies(&mut self, alloc: Global) -> Vec<Reply>
+    pub(crate) fn replies(&mut self, alloc: Global) -> Vec<Reply<V>>
         ensures empty { result.items ≡ [] }
     {
         match self.replies.pop() {
@@ -71,7 +71,7 @@ impl Spares {
     }
 
     /// What goes with a system to its turn, with an empty list of replies.
-    pub(crate) fn contents(&mut self, alloc: Global) -> Result<Box<JobContents>, NoMemory>
+    pub(crate) fn contents(&mut self, alloc: Global) -> Result<Box<JobContents<V>>, NoMemory>
         ensures empty { IfOk result (λ contents. contents.value.replies.items ≡ []) }
     {
         let replies = self.replies(alloc);
@@ -109,7 +109,7 @@ impl Spares {
     }
 
     /// Keeps what went with a system, where there is room for it.
-    pub(crate) fn keep_contents(&mut self, contents: Box<JobContents>) {
+    pub(crate) fn keep_contents(&mut self, contents: Box<JobContents<V>>) {
         if self.contents.len() < MOST {
             let _kept = self.contents.push(contents);
         }
@@ -117,7 +117,7 @@ impl Spares {
 
     /// Keeps a log's list of turns, in place of the one that was kept, and the lists of their
     /// replies, where there is room for them.
-    pub(crate) fn keep(&mut self, log: Log) {
+    pub(crate) fn keep(&mut self, log: Log<V>) {
         let mut turns = log.turns.into_vec();
         while let Some(turn) = turns.pop() {
             if let Outcome::Ran(replies) = turn.outcome {
@@ -127,7 +127,7 @@ impl Spares {
         self.turns = turns;
     }
 
-    fn keep_replies(&mut self, replies: Vec<Reply>) {
+    fn keep_replies(&mut self, replies: Vec<Reply<V>>) {
         let mut replies = replies;
         replies.clear();
         if self.replies.len() < MOST {

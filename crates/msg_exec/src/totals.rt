@@ -6,10 +6,11 @@ ghost use Rattle.msg_exec.specs.Prelude.{capped_totals, totals_at};
 ghost use Rattle.msg_exec.specs.inner.Totals.{HasFewReplies, entries_by, entry_at};
 
 use crate::{Outcome, Totals};
-use msg_system::{Reply, System, Took};
+use msg_system::{Reply, SystemOf, Took};
+use msg_world::Value;
 
 /// Adds what an op that read took.
-fn add_read(totals: &mut Totals, took: &Took)
+fn add_read<V: Value>(totals: &mut Totals, took: &Took<V>)
     ensures added { (x : TotalsOf) → totals.old ≡ capped_totals x
         → totals.new ≡ capped_totals (with_entries (entry_of_read took.now ∷ []) x) }
 {
@@ -20,7 +21,7 @@ fn add_read(totals: &mut Totals, took: &Took)
 }
 
 /// Adds what a reply tells that its reader went past.
-fn add(totals: &mut Totals, reply: &Reply)
+fn add<V: Value>(totals: &mut Totals, reply: &Reply<V>)
     ensures added { (x : TotalsOf) → totals.old ≡ capped_totals x
         → totals.new ≡ capped_totals (with_entries (option_to_list (entry_of reply.now)) x) }
 {
@@ -41,7 +42,7 @@ fn add(totals: &mut Totals, reply: &Reply)
 }
 
 /// Whether a reply tells of a reader: of one that read, or cleared.
-fn is_of_reader(reply: &Reply) -> bool
+fn is_of_reader<V: Value>(reply: &Reply<V>) -> bool
     ensures { result ≡ is_some (entry_of reply.now) }
 {
     matches!(
@@ -51,7 +52,12 @@ fn is_of_reader(reply: &Reply) -> bool
 }
 
 /// Adds what one reply of a system tells to the totals of its type.
-fn enter_reply<S: System>(system: &S, op: u32, reply: &Reply, totals: &mut [Totals])
+fn enter_reply<V: Value, S: SystemOf<Value = V>>(
+    system: &S,
+    op: u32,
+    reply: &Reply<V>,
+    totals: &mut [Totals],
+)
     ensures as_many { length totals.new ≡ length totals.old }
     ensures entered { (t : ℕ) (x : TotalsOf) → t < length totals.old
         → totals_at totals.old t ≡ capped_totals x
@@ -70,7 +76,11 @@ fn enter_reply<S: System>(system: &S, op: u32, reply: &Reply, totals: &mut [Tota
 }
 
 /// Adds what came of a system's turn to its totals, by type.
-pub(crate) fn enter<S: System>(system: &S, totals: &mut [Totals], outcome: &Outcome)
+pub(crate) fn enter<V: Value, S: SystemOf<Value = V>>(
+    system: &S,
+    totals: &mut [Totals],
+    outcome: &Outcome<V>,
+)
     requires few { HasFewReplies outcome.now }
     ensures as_many { length totals.new ≡ length totals.old }
     ensures entered { (t : ℕ) (x : TotalsOf) → t < length totals.old

@@ -2,7 +2,7 @@
 use Rattle.std.proofs.Common.{◌≡◌, ◌≢◌, ℕ, suc, ◌<◌, List, [], ◌∷◌, ◌++◌, map, slice_index_or, refl, arith, All, AllPairs}
 use Rattle.std.specs.List.{concat}
 use Rattle.std.proofs.lemmas.{Bool.cases_Bool, List.Elements.All-tail, Bool.Decides.eqb_tells}
-use Rattle.msg_world.specs.{Prelude.Conflict, Prelude.Part, Prelude.merge, declared.access.Access.Access}
+use Rattle.msg_world.specs.{Prelude.Conflict, Prelude.Part, Prelude.merge, declared.access.Access.Access, Prelude.Values}
 use Rattle.msg_world.proofs.Loans.{content_merged}
 use Rattle.msg_order.specs.Prelude.{NoneConflict, access_of}
 use Rattle.msg_system.specs.Prelude.{Agree, JobFootprint, needs_any}
@@ -10,18 +10,18 @@ use Rattle.msg_frames.specs.Prelude.{AreAccessesOf, BatchesRunSideBySide, Frames
 use Rattle.msg_frames.proofs.{SystemsStay.accesses_stay, SystemsStay.turns_keep_systems, ElementsAndPairs.all_left, ElementsAndPairs.all_right, ElementsAndPairs.pairs_left, ElementsAndPairs.pairs_right, ElementsAndPairs.pairs_tail, TurnsCommute.apart, TurnsCommute.given_by_turn, TurnsCommute.same_world, TurnsCommute.turn_footprint}
 
 -- nothing that system i needs or keeps is otherwise in s than in `start`
-record Untouched (start s : State) (i : ℕ) : Type 0 where
+record Untouched {V : Type 0} {values : Values V} (start s : State values) (i : ℕ) : Type 0 where
   member : s.members i ≡ start.members i
   world : Agree (needs_any (member_needs (start.members i))) s.world start.world
 
-module _ (foot : JobFootprint) (accesses : List Access) (start : State) (are : AreAccessesOf start accesses) where
-  given_same : (s : State) (i : ℕ) → Untouched start s i → given_by_turn (s.members i) (turn_of s i)
+module _ {V : Type 0} {values : Values V} (foot : JobFootprint values) (accesses : List Access) (start : State values) (are : AreAccessesOf start accesses) where
+  given_same : (s : State values) (i : ℕ) → Untouched start s i → given_by_turn (s.members i) (turn_of s i)
       ≡ given_by_turn (start.members i) (turn_of start i)
   given_same s i h =
       rw (h.member) ((turn_footprint foot (start.members i)).same _ s.world start.world (λ p u. u) h.world)
 
   -- what the access writes is as the turn on `start` leaves it, and all else as it was
-  turn_is_home : (s : State) (i : ℕ) → i < start.systems → Untouched start s i → after_turn_of i s
+  turn_is_home : (s : State values) (i : ℕ) → i < start.systems → Untouched start s i → after_turn_of i s
       ≡ home accesses start i s
   turn_is_home s i lt h =
       let f = turn_footprint foot (start.members i) in
@@ -30,7 +30,7 @@ module _ (foot : JobFootprint) (accesses : List Access) (start : State) (are : A
       grind (arith, cases_Bool, content_merged, (are.of_needs i lt).writes p, f.kept s.world p, own, h.member)) in
       grind (arith, given_same s i h, same)
 
-  still : (s : State) (i j : ℕ) → i < start.systems → j < start.systems → i ≢ j
+  still : (s : State values) (i j : ℕ) → i < start.systems → j < start.systems → i ≢ j
       → ¬ Conflict (access_of accesses i) (access_of accesses j)
       → Untouched start s i → Untouched start s j → Untouched start (after_turn_of i s) j
   still s i j li lj ne none hi hj =
@@ -38,7 +38,7 @@ module _ (foot : JobFootprint) (accesses : List Access) (start : State) (are : A
       let f = turn_footprint foot (start.members i) in
       grind (arith, eqb_tells, hi.member, hj.member, hj.world, λ (p : Part). f.kept s.world p, free.left)
 
-  from_start : (batch : List ℕ) (s : State) → All (λ i. i < start.systems) batch → AllPairs (λ i j. i ≢ j) batch
+  from_start : (batch : List ℕ) (s : State values) → All (λ i. i < start.systems) batch → AllPairs (λ i j. i ≢ j) batch
       → NoneConflict accesses batch
       → All (Untouched start s) batch
       → ((after_turns_of batch s).turns ≡ map (logged_turn start) batch)
@@ -55,26 +55,27 @@ module _ (foot : JobFootprint) (accesses : List Access) (start : State) (are : A
       (same (suc k) d (omega arith))) in
       grind (arith, turn_is_home s i li here, rest, given_same s i here)
 
-pub side_by_side : JobFootprint → BatchesRunSideBySide
-side_by_side foot s accesses batch are below once none =
-    from_start foot accesses s are batch s below once none (λ k d lt. record { member = refl; world = λ p u. refl })
+module _ {V : Type 0} {values : Values V} where
+  pub side_by_side : JobFootprint values → BatchesRunSideBySide values
+  side_by_side foot s accesses batch are below once none =
+      from_start foot accesses s are batch s below once none (λ k d lt. record { member = refl; world = λ p u. refl })
 
--- turns that turns_then_more others
-pub turns_then_more : (xs ys : List ℕ) (s : State) → after_turns_of (xs ++ ys) s ≡
-    (let first : AfterTurns = after_turns_of xs s in
-    let rest : AfterTurns = after_turns_of ys first.state in
-    record { state = rest.state; turns = first.turns ++ rest.turns })
-turns_then_more [] ys s = refl
-turns_then_more (x ∷ xs) ys s = grind (arith, turns_then_more xs ys (after_turn_of x s))
+  -- turns that turns_then_more others
+  pub turns_then_more : (xs ys : List ℕ) (s : State values) → after_turns_of (xs ++ ys) s ≡
+      (let first : AfterTurns values = after_turns_of xs s in
+      let rest : AfterTurns values = after_turns_of ys first.state in
+      record { state = rest.state; turns = first.turns ++ rest.turns })
+  turns_then_more [] ys s = refl
+  turns_then_more (x ∷ xs) ys s = grind (arith, turns_then_more xs ys (after_turn_of x s))
 
-pub batch_by_batch : JobFootprint → FramesRunByBatches
-batch_by_batch foot s accesses [] are below once apart = refl
-batch_by_batch foot s accesses (batch ∷ batches) are below once apart =
-    let first = side_by_side foot s accesses batch are (all_left (λ i. i < s.systems) batch (concat batches) below)
-    (pairs_left (λ i j. i ≢ j) batch (concat batches) once) (apart 0 batch (omega arith)) in
-    let left : State = (after_turns_of batch s).state in
-    let kept : SameSystems s left = turns_keep_systems batch s in
-    let rest = batch_by_batch foot left accesses batches (accesses_stay s left accesses kept are)
-    (rw (kept.systems) (all_right (λ i. i < s.systems) batch (concat batches) below))
-    (pairs_right (λ i j. i ≢ j) batch (concat batches) once) (All-tail (NoneConflict accesses) batch batches apart) in
-    grind (arith, first, rest, turns_then_more batch (concat batches) s)
+  pub batch_by_batch : JobFootprint values → FramesRunByBatches values
+  batch_by_batch foot s accesses [] are below once apart = refl
+  batch_by_batch foot s accesses (batch ∷ batches) are below once apart =
+      let first = side_by_side foot s accesses batch are (all_left (λ i. i < s.systems) batch (concat batches) below)
+      (pairs_left (λ i j. i ≢ j) batch (concat batches) once) (apart 0 batch (omega arith)) in
+      let left : State values = (after_turns_of batch s).state in
+      let kept : SameSystems s left = turns_keep_systems batch s in
+      let rest = batch_by_batch foot left accesses batches (accesses_stay s left accesses kept are)
+      (rw (kept.systems) (all_right (λ i. i < s.systems) batch (concat batches) below))
+      (pairs_right (λ i j. i ≢ j) batch (concat batches) once) (All-tail (NoneConflict accesses) batch batches apart) in
+      grind (arith, first, rest, turns_then_more batch (concat batches) s)

@@ -1,27 +1,29 @@
 -- What comes before the turns of a frame: systems join, types are updated, posts are written.
-use Rattle.std.proofs.Common.{◌≡◌, ℕ, ◌≤◌, ◌<◌, ℤ, List, arith, IsTrue, IsFalse}
+use Rattle.std.proofs.Common.{◌≡◌, ℕ, ◌≤◌, ◌<◌, List, arith, IsTrue, IsFalse}
 use Rattle.std.proofs.lemmas.{Bool.cases_Bool, Option.unwrap_or-slice_get, List.FromFn.get_or-map-range_with_len, Bool.Decides.nat_tests}
 use Rattle.msg_buffer.specs.Prelude.{OnlyGrows, count}
 use Rattle.msg_world.specs.declared.record.Record.{Record}
 use Rattle.msg_frames.specs.Prelude.{SameSystems, State, before_turns, counts, has_begun, joined_member, reader_place}
 use Rattle.msg_frames.proofs.{HistoriesGrow.WorldGoesOn, HistoriesGrow.before_goes_on, SystemsStay.before_keeps}
+use Rattle.msg_world.specs.Prelude.{Values}
 
 -- Where system i stands among those that join: it had joined before, it joins now, or it still waits.
-pub data Arrival (s b : State) (i : ℕ) : Type 0 where
+pub data Arrival {V : Type 0} {values : Values V} (s b : State values) (i : ℕ) : Type 0 where
   stood : IsTrue (has_begun s i) → IsTrue (has_begun b i) → b.members i ≡ s.members i → Arrival s b i
   comes : IsFalse (has_begun s i) → IsTrue (has_begun b i) → b.members i ≡ joined_member (counts s) (s.members i)
       → Arrival s b i
   waits : IsFalse (has_begun s i) → IsFalse (has_begun b i) → b.members i ≡ s.members i → Arrival s b i
 
 -- The steps before the turns lead from s to b: the systems stay, each history goes on, and some systems join.
-pub record Prepares (s b : State) : Type 0 where
+pub record Prepares {V : Type 0} {values : Values V} (s b : State values) : Type 0 where
   pub same : SameSystems s b
   pub world : WorldGoesOn s.world b.world
   pub arrival : (i : ℕ) → Arrival s b i
 
-pub prepares : OnlyGrows Record → (posts : List (ℕ × ℤ)) (s : State) → Prepares s (before_turns posts s)
-prepares grow posts s = grind (arith, before_keeps posts s, before_goes_on grow posts s, cases_Bool, nat_tests)
+module _ {V : Type 0} {values : Values V} where
+  pub prepares : OnlyGrows (Record V) → (posts : List (ℕ × V)) (s : State values) → Prepares s (before_turns posts s)
+  prepares grow posts s = grind (arith, before_keeps posts s, before_goes_on grow posts s, cases_Bool, nat_tests)
 
-pub begun_within : (s : State) (i t : ℕ) → t < s.types → reader_place s i t ≤ count (s.world.histories t)
-    → (joined_member (counts s) (s.members i)).job.system.places t ≤ count (s.world.histories t)
-begun_within s i t below within = grind (arith, cases_Bool, get_or-map-range_with_len, unwrap_or-slice_get)
+  pub begun_within : (s : State values) (i t : ℕ) → t < s.types → reader_place s i t ≤ count (s.world.histories t)
+      → (joined_member (counts s) (s.members i)).job.system.places t ≤ count (s.world.histories t)
+  begun_within s i t below within = grind (arith, cases_Bool, get_or-map-range_with_len, unwrap_or-slice_get)

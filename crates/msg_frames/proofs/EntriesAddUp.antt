@@ -1,29 +1,33 @@
 -- How entries add up in an account.
 use Rattle.std.proofs.Common.{◌≡◌, ℕ, ◌+◌, List, [], ◌∷◌, ◌++◌, length, flat_map, None, arith}
 use Rattle.std.proofs.lemmas.{List.length-append, List.FromFn.length-range_with_len, Bool.cases_Bool, Grind.flat_map-append}
+use Rattle.msg_buffer.specs.Prelude.{Stretch}
 use Rattle.msg_system.specs.declared.reply.Took.{Took}
 use Rattle.msg_frames.specs.Prelude.{ReadEntry, Totals, cleared, entry_of_read, given, missed, numbers_of, numbers_told, with_entries}
 
-pub with_entries-none : (x : Totals) → with_entries [] x ≡ x
-with_entries-none x = grind arith
+pub with_entries-none : (V : Type 0) (x : Totals) → with_entries {V = V} [] x ≡ x
+with_entries-none V x = grind arith
 
-pub with_entries-append : (es fs : List ReadEntry) (x : Totals) → with_entries (es ++ fs) x
-    ≡ with_entries fs (with_entries es x)
-with_entries-append es fs x = grind (arith, flat_map-append, length-append)
+module _ {V : Type 0} where
+  pub with_entries-append : (es fs : List (ReadEntry V)) (x : Totals) → with_entries (es ++ fs) x
+      ≡ with_entries fs (with_entries es x)
+  with_entries-append es fs x = grind (arith, flat_map-append, length-append)
 
--- what one op that read adds, and what one clear
-pub with_read : (took : Took) (x : Totals)
-    → with_entries (entry_of_read took ∷ []) x
-    ≡ record x { got = x.got + length took.items; missed = x.missed + took.missed }
-with_read took x = grind (arith, length-append, length-range_with_len)
+  -- what one op that read adds, and what one clear
+  pub with_read : (took : Took V) (x : Totals)
+      → with_entries (entry_of_read took ∷ []) x
+      ≡ record x { got = x.got + length took.items; missed = x.missed + took.missed }
+  with_read took x = grind (arith, length-append, length-range_with_len)
 
-pub with_clear : (gone first n : ℕ) (x : Totals)
-    → with_entries (record { stretch = record { missed = gone; first = first; number = n }; given = None } ∷ []) x
+pub with_clear : (V : Type 0) (gone first n : ℕ) (x : Totals) →
+    let stretch : Stretch = record { missed = gone; first = first; number = n } in
+    with_entries {V = V} (record { stretch = stretch; given = None } ∷ []) x
     ≡ record x { missed = x.missed + gone; cleared = x.cleared + n }
-with_clear gone first n x = grind (arith, length-append, length-range_with_len)
+with_clear V gone first n x = grind (arith, length-append, length-range_with_len)
 
--- the numbers given, missed and cleared are all that entries tell
-pub all_told : (es : List ReadEntry) → length (flat_map numbers_told es)
-    ≡ length (numbers_of given es) + length (numbers_of missed es) + length (numbers_of cleared es)
-all_told [] = grind arith
-all_told (e ∷ es) = grind (arith, cases_Bool, length-append, length-range_with_len, all_told es)
+module _ {V : Type 0} where
+  -- the numbers given, missed and cleared are all that entries tell
+  pub all_told : (es : List (ReadEntry V)) → length (flat_map numbers_told es)
+      ≡ length (numbers_of given es) + length (numbers_of missed es) + length (numbers_of cleared es)
+  all_told [] = grind arith
+  all_told (e ∷ es) = grind (arith, cases_Bool, length-append, length-range_with_len, all_told es)

@@ -1,46 +1,48 @@
 -- The entries that the replies of a turn tell of are those of its steps.
 use Rattle.std.proofs.Common.{◌≡◌, ℕ, zero, suc, List, [], ◌∷◌, ◌++◌, append_assoc, length, Option, None, Some, refl, arith}
 use Rattle.std.proofs.lemmas.{Bool.cases_Bool, List.append-nil, List.length-append, Grind.flat_map-append}
-use Rattle.msg_world.specs.Prelude.{WorldState}
+use Rattle.msg_world.specs.Prelude.{WorldState, Values}
 use Rattle.msg_system.specs.{declared.op.Op.Op, declared.reply.Reply.Reply}
 use Rattle.msg_system.specs.Prelude.{AfterOp, AfterProgram, Step, Job, Meaning, after_at_most, after_job, after_op, next_op, one_more, ops_answered, turn}
 use Rattle.msg_system.proofs.Turns.{ops_answered-snoc}
 use Rattle.msg_frames.specs.Prelude.{Outcome, ReadEntry, entries_at, entries_for, entries_told, entry_for, outcome_of, replies_of}
 
-module _ (t : ℕ) (m : Meaning) (w : WorldState) where
+module _ {V : Type 0} {values : Values V} (t : ℕ) (m : Meaning V) (w : WorldState values) where
   -- so far all ops were answered
-  abbrev AnsweredAs : AfterProgram → Type 0
+  abbrev AnsweredAs : AfterProgram values → Type 0
   AnsweredAs e = (length (ops_answered (next_op m) e.replies) ≡ length e.replies)
       × (entries_for t (ops_answered (next_op m) e.replies) e.replies ≡ entries_at t e.steps)
 
-  entries_snoc : (ops : List Op) (rs : List Reply) (op : Op) (r : Reply) → length ops ≡ length rs
+  entries_snoc : (ops : List (Op V)) (rs : List (Reply V)) (op : Op V) (r : Reply V) → length ops ≡ length rs
       → entries_for t (ops ++ op ∷ []) (rs ++ r ∷ []) ≡ entries_for t ops rs ++ entry_for t op r
   entries_snoc [] [] op r same = append-nil (entry_for t op r)
   entries_snoc (o ∷ ops) (x ∷ rs) op r same = grind (arith, append_assoc, entries_snoc ops rs op r)
   entries_snoc ops rs op r same = absurd (omega (arith, same))
 
-  answered_more : (o : Option Op) (far : AfterProgram) → next_op m far.replies ≡ o
+  answered_more : (o : Option (Op V)) (far : AfterProgram values) → next_op m far.replies ≡ o
       → AnsweredAs far → AnsweredAs (one_more o m.writer far)
   answered_more None far is so = so
   answered_more (Some op) far is so =
-      let here : AfterOp = after_op op m.writer far.places far.state in
-      let done : Step = record { op = op; places = far.places; world = far.state; reply = here.reply } in
-      let more = flat_map-append (λ (x : Step). entry_for t x.op x.reply) far.steps (done ∷ []) in
+      let here : AfterOp values = after_op op m.writer far.places far.state in
+      let done : Step values = record { op = op; places = far.places; world = far.state; reply = here.reply } in
+      let more = flat_map-append (λ (x : Step values). entry_for t x.op x.reply) far.steps (done ∷ []) in
       let one = append-nil (entry_for t op here.reply) in
       grind (arith, entries_snoc, length-append, more, one, ops_answered-snoc)
 
   answered : (n : ℕ) → AnsweredAs (after_at_most n (next_op m) m.writer m.places w)
   answered zero = (refl, refl)
   answered (suc n) =
-      let far : AfterProgram = after_at_most n (next_op m) m.writer m.places w in
+      let far : AfterProgram values = after_at_most n (next_op m) m.writer m.places w in
       answered_more (next_op m far.replies) far refl (answered n)
 
--- the entries for a type of a system whose turn came out so
-abbrev pub outcome_entries : ℕ → Meaning → Outcome → List ReadEntry
-outcome_entries t m outcome = entries_told t m.needs m.rule (replies_of outcome)
+module _ {V : Type 0} where
+  -- the entries for a type of a system whose turn came out so
+  abbrev pub outcome_entries : ℕ → Meaning V → Outcome V → List (ReadEntry V)
+  outcome_entries t m outcome = entries_told t m.needs m.rule (replies_of outcome)
 
--- the entries that the outcome of a job tells are those of its steps
-pub job_logged : (t : ℕ) (j : Job) (w : WorldState)
-    → outcome_entries t j.system (outcome_of (after_job j w).replies) ≡ entries_at t (after_job j w).steps
-unfolding turn
-job_logged t j w = grind (arith, append-nil, cases_Bool, answered t j.system w 64)
+module _ {V : Type 0} {values : Values V} where
+  -- the entries that the outcome of a job tells are those of its steps
+  pub job_logged : (t : ℕ) (j : Job V) (w : WorldState values)
+      → outcome_entries t j.system (outcome_of (after_job j w).replies) ≡ entries_at t (after_job j w).steps
+  unfolding turn
+  job_logged t j w = grind (arith, append-nil, cases_Bool, answered t j.system w 64)

@@ -3,9 +3,9 @@ use Rattle.std.proofs.Common.{◌≡◌, ℕ, ◌<◌, Bool, ◌&&◌, ◌||◌,
 use Rattle.std.specs.List.{list_any, range_with_len}
 use Rattle.std.proofs.Math.Bool.{or_comm}
 use Rattle.std.proofs.lemmas.{Bool.cases_Bool, Bool.cases_order, List.Elements.Contains-append_left, List.Elements.Contains-append_right, List.FromFn.length-map-range_with_len}
-use Rattle.msg_world.specs.{Prelude.Conflict, Prelude.HasPart, Prelude.OfResource, Prelude.OfType, Prelude.Part, Prelude.Registry, Prelude.uses, Prelude.writes, declared.access.Access.Access}
-use Rattle.msg_order.specs.Prelude.{Graph, IsAcyclic, IsAmong, IsSettledOrder, IsTurnOrder, Path, TellsConflicts, TurnOrderIsLawful, has_joined}
-use Rattle.msg_order.proofs.{Elements.Contains-head, Elements.Contains-list_any, Elements.Contains-map, Elements.Contains-range, Elements.list_any-Contains, Functions.batches_are, Functions.settled_among, Functions.settled_is, Functions.settled_no_cycle, Functions.settled_only, Functions.settled_orders, Functions.turns_are, Functions.turns_only}
+use Rattle.msg_world.specs.{Prelude.Conflict, Prelude.HasPart, Prelude.OfResource, Prelude.OfType, Prelude.Part, Prelude.Registry, Prelude.uses, Prelude.writes, declared.access.Access.Access, Prelude.Values}
+use Rattle.msg_order.specs.Prelude.{Graph, IsAcyclic, IsAmong, IsSettledOrder, IsTurnOrder, Path, TellsConflicts, TurnOrderIsLawful, has_joined, turns}
+use Rattle.msg_order.proofs.{Elements.Contains-head, Elements.Contains-list_any, Elements.Contains-map, Elements.Contains-range, Elements.list_any-Contains, Functions.batches_are, Functions.settled_among, Functions.settled_is, Functions.settled_no_cycle, Functions.settled_only, Functions.settled_orders, Functions.turns_are}
 use Rattle.msg_system.specs.Prelude.{IsAccessOf, Needs, needs_any}
 use Rattle.msg_frames.specs.Prelude.{AfterRun, AreAccessesOf, Frame, Log, NoCycle, SameSystems, State, TurnsAreInOrder, UsesParts, are_in_conflict, before_turns, frame, has_begun, join_flags, member_needs, needs_conflict, run}
 use Rattle.msg_frames.specs.Frames.{parts, settled_order, turn_order}
@@ -55,39 +55,41 @@ conflict_is m n a b ma nb within = (
       list_any-Contains (conflict_at m n) parts c.0 (is_part c.0 (conflict_within m n c.0 within at)) at,
 )
 
-pub conflicts_tell : (s : State) (accesses : List Access) → AreAccessesOf s accesses → UsesParts s
-    → TellsConflicts accesses (join_flags s) (are_in_conflict s)
-conflicts_tell s accesses are uses i j at_i at_j =
-    let li : i < s.systems = joined_below s i at_i in
-    let lj : j < s.systems = joined_below s j at_j in
-    conflict_is _ _ _ _ (are.of_needs i li) (are.of_needs j lj) (uses i li)
+module _ {V : Type 0} {values : Values V} where
+  pub conflicts_tell : (s : State values) (accesses : List Access) → AreAccessesOf s accesses → UsesParts s
+      → TellsConflicts accesses (join_flags s) (are_in_conflict s)
+  conflicts_tell s accesses are uses i j at_i at_j =
+      let li : i < s.systems = joined_below s i at_i in
+      let lj : j < s.systems = joined_below s j at_j in
+      conflict_is _ _ _ _ (are.of_needs i li) (are.of_needs j lj) (uses i li)
 
 -- ---- the order of turns
 
-as_many : (s : State) (accesses : List Access) → AreAccessesOf s accesses → length (join_flags s) ≡ length accesses
-as_many s accesses are = length-map-range_with_len (has_begun s) 0 s.systems ∙ sym are.each
+module _ {V : Type 0} {values : Values V} where
+  as_many : (s : State values) (accesses : List Access) → AreAccessesOf s accesses → length (join_flags s) ≡ length accesses
+  as_many s accesses are = length-map-range_with_len (has_begun s) 0 s.systems ∙ sym are.each
 
-pub order_is_settled : (s : State) (accesses : List Access) → UsesParts s → AreAccessesOf s accesses
-    → IsSettledOrder accesses s.rules (join_flags s) (settled_order s)
-unfolding settled_order
-order_is_settled s accesses uses are =
-    settled_is accesses s.rules (join_flags s) (are_in_conflict s) (as_many s accesses are)
-    (conflicts_tell s accesses are uses)
+  pub order_is_settled : (s : State values) (accesses : List Access) → UsesParts s → AreAccessesOf s accesses
+      → IsSettledOrder accesses s.rules (join_flags s) (settled_order s)
+  unfolding settled_order
+  order_is_settled s accesses uses are =
+      settled_is accesses s.rules (join_flags s) (are_in_conflict s) (as_many s accesses are)
+      (conflicts_tell s accesses are uses)
 
-pub order_among : (s : State) → IsAmong (join_flags s) (settled_order s)
-unfolding settled_order
-order_among s = settled_among s.rules (join_flags s) (are_in_conflict s)
+  pub order_among : (s : State values) → IsAmong (join_flags s) (settled_order s)
+  unfolding settled_order
+  order_among s = settled_among s.rules (join_flags s) (are_in_conflict s)
 
-order_free : (s : State) → NoCycle s → IsAcyclic (settled_order s)
-unfolding settled_order
-order_free s free =
-    settled_no_cycle s.rules (join_flags s) (are_in_conflict s)
-    (free (join_flags s) (length-map-range_with_len (has_begun s) 0 s.systems))
+  order_free : (s : State values) → NoCycle s → IsAcyclic (settled_order s)
+  unfolding settled_order
+  order_free s free =
+      settled_no_cycle s.rules (join_flags s) (are_in_conflict s)
+      (free (join_flags s) (length-map-range_with_len (has_begun s) 0 s.systems))
 
--- it is the turn order, where the rules make no cycle
-pub order_is : (s : State) → NoCycle s → IsTurnOrder (settled_order s) (join_flags s) (turn_order s)
-unfolding turn_order
-order_is s free = turns_are (settled_order s) (join_flags s) (order_among s) (order_free s free)
+  -- it is the turn order, where the rules make no cycle
+  pub order_is : (s : State values) → NoCycle s → IsTurnOrder (settled_order s) (join_flags s) (turn_order s)
+  unfolding turn_order
+  order_is s free = turns_are (settled_order s) (join_flags s) (order_among s) (order_free s free)
 
 -- needs are in conflict with others where those are with them
 conflict_either : (m n : Needs) → needs_conflict m n ≡ needs_conflict n m
@@ -95,69 +97,69 @@ conflict_either m n =
     ap (λ (test : Part → Bool). list_any test parts)
     (λ k p. or_comm (m.writes p && needs_any n p) (n.writes p && needs_any m p) k)
 
-in_conflict : (s : State) (i j : ℕ) → i ≢ j → IsTrue (has_joined (join_flags s) i)
-    → IsTrue (has_joined (join_flags s) j) → IsTrue (are_in_conflict s i j)
-    → Path (settled_order s) i j ⊎ Path (settled_order s) j i
-unfolding settled_order
-in_conflict s i j ne at_i at_j conflict =
-    let orders = settled_orders s.rules (join_flags s) (are_in_conflict s) in
-    elim (cases_order i j) [
-      | inl same ↦ absurd (ne same)
-      | inr (inl lt) ↦ orders i j lt at_i at_j conflict
-      | inr (inr lt) ↦
-          let either = conflict_either (member_needs (s.members j)) (member_needs (s.members i)) in
-          elim (orders j i lt at_j at_i (rw either conflict)) [ inl back ↦ inr back | inr on ↦ inl on ]
-    ]
+module _ {V : Type 0} {values : Values V} where
+  in_conflict : (s : State values) (i j : ℕ) → i ≢ j → IsTrue (has_joined (join_flags s) i)
+      → IsTrue (has_joined (join_flags s) j) → IsTrue (are_in_conflict s i j)
+      → Path (settled_order s) i j ⊎ Path (settled_order s) j i
+  unfolding settled_order
+  in_conflict s i j ne at_i at_j conflict =
+      let orders = settled_orders s.rules (join_flags s) (are_in_conflict s) in
+      elim (cases_order i j) [
+        | inl same ↦ absurd (ne same)
+        | inr (inl lt) ↦ orders i j lt at_i at_j conflict
+        | inr (inr lt) ↦
+            let either = conflict_either (member_needs (s.members j)) (member_needs (s.members i)) in
+            elim (orders j i lt at_j at_i (rw either conflict)) [ inl back ↦ inr back | inr on ↦ inl on ]
+      ]
 
--- how those that have joined are ordered
-pub are_ordered : TurnOrderIsLawful → TurnsAreInOrder
-are_ordered is_lawful s free = record {
-  no_cycle = order_free s free;
-  conflicts = in_conflict s;
-  by_number = batches_are (settled_order s) (join_flags s) (order_among s) (order_free s free);
-  turns = order_is s free;
-  once = is_lawful (settled_order s) (join_flags s) (turn_order s) (order_among s) (order_is s free);
-}
+  -- how those that have joined are ordered
+  pub are_ordered : TurnOrderIsLawful → TurnsAreInOrder values
+  are_ordered is_lawful s free = record {
+    no_cycle = order_free s free;
+    conflicts = in_conflict s;
+    by_number = batches_are (settled_order s) (join_flags s) (order_among s) (order_free s free);
+    turns = order_is s free;
+    once = is_lawful (settled_order s) (join_flags s) (turn_order s) (order_among s) (order_is s free);
+  }
 
--- what a plan has is the settled order, and its turns
-pub plan_order : (s : State) (accesses : List Access) (g : Graph) → UsesParts s → AreAccessesOf s accesses
-    → IsSettledOrder accesses s.rules (join_flags s) g → g ≡ settled_order s
-unfolding settled_order
-plan_order s accesses g uses are is =
-    settled_only accesses s.rules (join_flags s) (are_in_conflict s) g (as_many s accesses are)
-    (conflicts_tell s accesses are uses) is
+  -- what a plan has is the settled order, and its turns
+  pub plan_order : (s : State values) (accesses : List Access) (g : Graph) → UsesParts s → AreAccessesOf s accesses
+      → IsSettledOrder accesses s.rules (join_flags s) g → g ≡ settled_order s
+  unfolding settled_order
+  plan_order s accesses g uses are is =
+      settled_only accesses s.rules (join_flags s) (are_in_conflict s) g (as_many s accesses are)
+      (conflicts_tell s accesses are uses) is
 
-pub plan_turns : (s : State) (accesses : List Access) (g : Graph) (order : List ℕ) → UsesParts s
-    → AreAccessesOf s accesses → IsSettledOrder accesses s.rules (join_flags s) g → IsTurnOrder g (join_flags s) order
-    → order ≡ turn_order s
-unfolding turn_order
-plan_turns s accesses g order uses are is turns =
-    let same = plan_order s accesses g uses are is in
-    turns_only (settled_order s) (join_flags s) order (order_among s) (rw same at turns)
+  pub plan_turns : (s : State values) (accesses : List Access) (g : Graph) (order : List ℕ) → UsesParts s
+      → AreAccessesOf s accesses → IsSettledOrder accesses s.rules (join_flags s) g → order ≡ turns g (join_flags s)
+      → order ≡ turn_order s
+  unfolding turn_order
+  plan_turns s accesses g order uses are is made = rw (plan_order s accesses g uses are is) at made
 
 -- ---- frames and then others
 
-pub run_append : (fs gs : List Frame) (s : State) → run (fs ++ gs) s
-    ≡ record {
-      state = (run gs (run fs s).state).state;
-      logs = (run fs s).logs ++ (run gs (run fs s).state).logs;
-      steps = (run fs s).steps ++ (run gs (run fs s).state).steps;
-    }
-run_append [] gs s = refl
-run_append (f ∷ fs) gs s = grind (arith, append_assoc, run_append fs gs (frame f s).state)
+module _ {V : Type 0} {values : Values V} where
+  pub run_append : (fs gs : List (Frame V)) (s : State values) → run (fs ++ gs) s
+      ≡ record {
+        state = (run gs (run fs s).state).state;
+        logs = (run fs s).logs ++ (run gs (run fs s).state).logs;
+        steps = (run fs s).steps ++ (run gs (run fs s).state).steps;
+      }
+  run_append [] gs s = refl
+  run_append (f ∷ fs) gs s = grind (arith, append_assoc, run_append fs gs (frame f s).state)
 
-pub run_more : (frames : List Frame) (f : Frame) (s : State) (logs : List Log) (log : Log) (m : State)
-    → (logs ≡ (run frames s).logs) × (m ≡ (run frames s).state) → log ≡ (frame f m).log
-    → (logs ++ log ∷ [] ≡ (run (frames ++ f ∷ []) s).logs)
-    × ((frame f m).state ≡ (run (frames ++ f ∷ []) s).state)
-run_more frames f s logs log m so_far one =
-    let more = run_append frames (f ∷ []) s in
-    let last = λ (u : State) (e : m ≡ u). ap (λ (v : State). (frame f v).log) e in (
-      rw (so_far.0, one, last (run frames s).state so_far.1) (sym (ap (λ (r : AfterRun). r.logs) more)),
-      ap (λ (v : State). (frame f v).state) so_far.1 ∙ sym (ap (λ (r : AfterRun). r.state) more),
-    )
+  pub run_more : (frames : List (Frame V)) (f : Frame V) (s : State values) (logs : List (Log V)) (log : Log V) (m : State values)
+      → (logs ≡ (run frames s).logs) × (m ≡ (run frames s).state) → log ≡ (frame f m).log
+      → (logs ++ log ∷ [] ≡ (run (frames ++ f ∷ []) s).logs)
+      × ((frame f m).state ≡ (run (frames ++ f ∷ []) s).state)
+  run_more frames f s logs log m so_far one =
+      let more = run_append frames (f ∷ []) s in
+      let last = λ (u : State values) (e : m ≡ u). ap (λ (v : State values). (frame f v).log) e in (
+        rw (so_far.0, one, last (run frames s).state so_far.1) (sym (ap (λ (r : AfterRun values). r.logs) more)),
+        ap (λ (v : State values). (frame f v).state) so_far.1 ∙ sym (ap (λ (r : AfterRun values). r.state) more),
+      )
 
-pub run_keeps : (fs : List Frame) (s : State) → SameSystems s (run fs s).state
-run_keeps [] s = grind arith
-run_keeps (f ∷ fs) s =
-    grind (arith, frame_keeps (turn_order (before_turns f.posts s)) f s, run_keeps fs (frame f s).state)
+  pub run_keeps : (fs : List (Frame V)) (s : State values) → SameSystems s (run fs s).state
+  run_keeps [] s = grind arith
+  run_keeps (f ∷ fs) s =
+      grind (arith, frame_keeps (turn_order (before_turns f.posts s)) f s, run_keeps fs (frame f s).state)

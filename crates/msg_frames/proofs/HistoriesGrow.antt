@@ -1,8 +1,8 @@
 -- Whatever a run does, each type's history goes on.
-use Rattle.std.proofs.Common.{ℕ, zero, suc, ℤ, ◌≤◌, List, [], ◌∷◌, map, Option, None, Some, append-nil, append_assoc, length-append, arith}
+use Rattle.std.proofs.Common.{ℕ, zero, suc, ◌≤◌, List, [], ◌∷◌, map, Option, None, Some, append-nil, append_assoc, length-append, arith}
 use Rattle.std.proofs.lemmas.{Bool.cases_Bool, Bool.Decides.eqb_tells}
 use Rattle.msg_buffer.specs.Prelude.{ClearsFit, GoesOn, History, IsSound, OnlyGrows, ReadsFit, clear, count, write}
-use Rattle.msg_world.specs.{Prelude.WorldState, Prelude.after_update, Prelude.by, Prelude.with_history, declared.record.Record.Record}
+use Rattle.msg_world.specs.{Prelude.WorldState, Prelude.after_update, Prelude.by, Prelude.with_history, declared.record.Record.Record, Prelude.Values}
 use Rattle.msg_system.specs.{declared.op.Op.Op, declared.op.Op.TheVariants.Write, declared.op.Op.TheVariants.Batch, declared.op.Op.TheVariants.Forward, declared.op.Op.TheVariants.Drain}
 use Rattle.msg_system.specs.Prelude.{AfterProgram, Job, Meaning, after_at_most, after_job, after_op, again_by, next_op, one_more, took, turn}
 use Rattle.msg_frames.specs.Prelude.{Frame, ListsOnlyGrow, State, after_posts, after_turn_of, after_turns_of, before_turns, frame, frame_in}
@@ -10,41 +10,43 @@ use Rattle.msg_frames.specs.Frames.{turn_order}
 use Rattle.msg_frames.proofs.SystemsStay.{joining_world}
 
 -- What the laws of buffers say of the world's types.
-pub record BufferLaws : Type 0 where
-  pub grow : OnlyGrows Record
-  pub reads : ReadsFit Record
-  pub clears : ClearsFit Record
+pub record BufferLaws (V : Type 0) : Type 0 where
+  pub grow : OnlyGrows (Record V)
+  pub reads : ReadsFit (Record V)
+  pub clears : ClearsFit (Record V)
 
-pub buffer_laws : OnlyGrows Record → ReadsFit Record → ClearsFit Record → BufferLaws
-buffer_laws grow reads clears = record { grow = grow; reads = reads; clears = clears }
+module _ {V : Type 0} where
+  pub buffer_laws : OnlyGrows (Record V) → ReadsFit (Record V) → ClearsFit (Record V) → BufferLaws V
+  buffer_laws grow reads clears = record { grow = grow; reads = reads; clears = clears }
 
-pub stays : (h : History Record) → IsSound h → GoesOn h h
-stays h sound = grind (arith, append-nil h.entries)
+  pub stays : (h : History (Record V)) → IsSound h → GoesOn h h
+  stays h sound = grind (arith, append-nil h.entries)
 
-pub goes_further : (a b c : History Record) → GoesOn a b → GoesOn b c → GoesOn a c
-goes_further a b c x y = grind (arith, append_assoc)
+  pub goes_further : (a b c : History (Record V)) → GoesOn a b → GoesOn b c → GoesOn a c
+  goes_further a b c x y = grind (arith, append_assoc)
 
-pub counts_more : (a b : History Record) → GoesOn a b → count a ≤ count b
-counts_more a b x = grind (arith, length-append)
+  pub counts_more : (a b : History (Record V)) → GoesOn a b → count a ≤ count b
+  counts_more a b x = grind (arith, length-append)
 
 -- ---- what changes keep
 
 -- What a change may do to a history: a write and a drain do it, and one after the other.
-pub record IsKept (R : History Record → History Record → Type 0) : Type 0 where
-  pub same : (h : History Record) → R h h
-  pub further : (a b c : History Record) → R a b → R b c → R a c
-  pub written : (h : History Record) (ms : List Record) → R h (write ms h)
-  pub drained : (h : History Record) → R h (clear h)
+pub record IsKept {V : Type 0} (R : History (Record V) → History (Record V) → Type 0) : Type 0 where
+  pub same : (h : History (Record V)) → R h h
+  pub further : (a b c : History (Record V)) → R a b → R b c → R a c
+  pub written : (h : History (Record V)) (ms : List (Record V)) → R h (write ms h)
+  pub drained : (h : History (Record V)) → R h (clear h)
 
--- of each type
-abbrev pub InEach : (History Record → History Record → Type 0) → WorldState → WorldState → Type 0
-InEach R w v = (t : ℕ) → R (w.histories t) (v.histories t)
+module _ {V : Type 0} {values : Values V} where
+  -- of each type
+  abbrev pub InEach : (History (Record V) → History (Record V) → Type 0) → WorldState values → WorldState values → Type 0
+  InEach R w v = (t : ℕ) → R (w.histories t) (v.histories t)
 
-module _ (R : History Record → History Record → Type 0) (kept : IsKept R) where
-  one_changes : (w : WorldState) (u : ℕ) (h : History Record) → R (w.histories u) h → InEach R w (with_history w u h)
+module _ {V : Type 0} {values : Values V} (R : History (Record V) → History (Record V) → Type 0) (kept : IsKept R) where
+  one_changes : (w : WorldState values) (u : ℕ) (h : History (Record V)) → R (w.histories u) h → InEach R w (with_history w u h)
   one_changes w u h r t = grind (arith, eqb_tells, kept.same (w.histories t))
 
-  pub op_changes : (op : Op) (writer : ℕ) (places : ℕ → ℕ) (w : WorldState)
+  pub op_changes : (op : Op V) (writer : ℕ) (places : ℕ → ℕ) (w : WorldState values)
       → InEach R w (after_op op writer places w).state
   op_changes (Write t v) writer places w = one_changes w t _ (kept.written _ (by writer v ∷ []))
   op_changes (Batch t vs) writer places w = one_changes w t _ (kept.written _ (map (by writer) vs))
@@ -53,27 +55,27 @@ module _ (R : History Record → History Record → Type 0) (kept : IsKept R) wh
   op_changes (Drain t) writer places w = one_changes w t _ (kept.drained (w.histories t))
   op_changes op writer places w = λ t. kept.same _
 
-  more_changes : (o : Option Op) (writer : ℕ) (far : AfterProgram) → InEach R far.state (one_more o writer far).state
+  more_changes : (o : Option (Op V)) (writer : ℕ) (far : AfterProgram values) → InEach R far.state (one_more o writer far).state
   more_changes None writer far = λ t. kept.same _
   more_changes (Some op) writer far = op_changes op writer far.places far.state
 
-  ops_change : (n : ℕ) (m : Meaning) (w : WorldState)
+  ops_change : (n : ℕ) (m : Meaning V) (w : WorldState values)
       → InEach R w (after_at_most n (next_op m) m.writer m.places w).state
   ops_change zero m w t = kept.same _
   ops_change (suc n) m w t =
-      let far : AfterProgram = after_at_most n (next_op m) m.writer m.places w in
+      let far : AfterProgram values = after_at_most n (next_op m) m.writer m.places w in
       kept.further _ _ _ (ops_change n m w t) (more_changes (next_op m far.replies) m.writer far t)
 
-  pub job_changes : (j : Job) (w : WorldState) → InEach R w (after_job j w).state
+  pub job_changes : (j : Job V) (w : WorldState values) → InEach R w (after_job j w).state
   unfolding turn
   job_changes j w t = grind (arith, cases_Bool, kept.same (w.histories t), ops_change 64 j.system w t)
 
-  pub turns_change : (order : List ℕ) (s : State) → InEach R s.world (after_turns_of order s).state.world
+  pub turns_change : (order : List ℕ) (s : State values) → InEach R s.world (after_turns_of order s).state.world
   turns_change [] s t = kept.same _
   turns_change (i ∷ is) s t =
       kept.further _ _ _ (job_changes (s.members i).job s.world t) (turns_change is (after_turn_of i s) t)
 
-  pub posts_change : (posts : List (ℕ × ℤ)) (w : WorldState) → InEach R w (after_posts posts w)
+  pub posts_change : (posts : List (ℕ × V)) (w : WorldState values) → InEach R w (after_posts posts w)
   posts_change [] w t = kept.same _
   posts_change (p ∷ ps) w t =
       let next = with_history w p.0 (write (by _ p.1 ∷ []) (w.histories p.0)) in
@@ -81,29 +83,32 @@ module _ (R : History Record → History Record → Type 0) (kept : IsKept R) wh
 
 -- ---- sound histories go on
 
-abbrev pub Grows : History Record → History Record → Type 0
-Grows a b = IsSound a → GoesOn a b
+module _ {V : Type 0} where
+  abbrev pub Grows : History (Record V) → History (Record V) → Type 0
+  Grows a b = IsSound a → GoesOn a b
 
--- each sound history of the first world goes on in the second
-abbrev pub WorldGoesOn : WorldState → WorldState → Type 0
-WorldGoesOn w v = InEach Grows w v
+module _ {V : Type 0} {values : Values V} where
+  -- each sound history of the first world goes on in the second
+  abbrev pub WorldGoesOn : WorldState values → WorldState values → Type 0
+  WorldGoesOn w v = InEach Grows w v
 
-module _ (grow : OnlyGrows Record) where
-  pub grown : IsKept Grows
+module _ {V : Type 0} (grow : OnlyGrows (Record V)) where
+  pub grown : IsKept (Grows {V = V})
   grown = grind (arith, stays, goes_further, grow)
 
-  pub before_goes_on : (posts : List (ℕ × ℤ)) (s : State) → WorldGoesOn s.world (before_turns posts s).world
+module _ {V : Type 0} {values : Values V} (grow : OnlyGrows (Record V)) where
+  pub before_goes_on : (posts : List (ℕ × V)) (s : State values) → WorldGoesOn s.world (before_turns posts s).world
   before_goes_on posts s t sound =
-      let posted = posts_change Grows grown posts (after_update s.world) t in
+      let posted = posts_change Grows (grown grow) posts (after_update s.world) t in
       grind (arith, joining_world s, cases_Bool, stays, grow (s.world.histories t) sound, posted, goes_further)
 
-  pub frame_goes_on : (order : List ℕ) (frame : Frame) (s : State)
+  pub frame_goes_on : (order : List ℕ) (frame : Frame V) (s : State values)
       → WorldGoesOn s.world (frame_in order frame s).state.world
   frame_goes_on order frame s t =
-      let turns = turns_change Grows grown order (before_turns frame.posts s) in
-      grown.further _ _ _ (before_goes_on frame.posts s t) (turns t)
+      let turns = turns_change Grows (grown grow) order (before_turns frame.posts s) in
+      (grown grow).further _ _ _ (before_goes_on frame.posts s t) (turns t)
 
-  pub runs_go_on : ListsOnlyGrow
+  pub runs_go_on : ListsOnlyGrow values
   runs_go_on [] s t = stays _
   runs_go_on (f ∷ fs) s t =
-      grown.further _ _ _ (frame_goes_on (turn_order (before_turns f.posts s)) f s t) (runs_go_on fs (frame f s).state t)
+      (grown grow).further _ _ _ (frame_goes_on (turn_order (before_turns f.posts s)) f s t) (runs_go_on fs (frame f s).state t)

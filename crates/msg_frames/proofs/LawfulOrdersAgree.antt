@@ -1,7 +1,7 @@
 -- Two lawful orders of turns leave the same.
 use Rattle.std.proofs.Common.{◌≡◌, ◌≢◌, ℕ, ◌<◌, ◌⊎◌, Bool, List, [], ◌∷◌, ◌++◌, length, get_or, refl, sym, ◌∙◌, arith, ◌↔◌, All, AllPairs, Contains, IsPermutation, IsTrue}
 use Rattle.std.proofs.lemmas.{Bool.cases_order, Grind.get_or_default_zero, List.Elements.All-contains, List.Elements.Contains-append_left, List.Elements.Contains-get_or, List.Elements.All-append, List.Elements.All-tail, List.FromFn.length-map-range_with_len, List.Sorted.IsPermutation-cons, List.Sorted.IsPermutation-middle, List.Sorted.IsPermutation-refl, List.Sorted.IsPermutation-trans, List.Sorted.Contains-permutation, List.Sorted.IsPermutation-sym, Option.get_or_from_slice_get, Option.slice_get_within}
-use Rattle.msg_world.specs.{Prelude.Conflict, declared.access.Access.Access}
+use Rattle.msg_world.specs.{Prelude.Conflict, declared.access.Access.Access, Prelude.Values}
 use Rattle.msg_order.specs.Prelude.{ConflictingSystemsAreOrdered, Graph, IsLawfulOrder, LawfulOrdersKeepPaths, Path, TurnOrderIsLawful, access_of, has_joined}
 use Rattle.msg_system.specs.Prelude.{JobFootprint}
 use Rattle.msg_frames.specs.Prelude.{AreAccessesOf, FramesAgreeInLawfulOrders, LawfulOrdersAgree, State, after_turn_of, after_turns_of, before_turns, has_begun, join_flags, logged_turn, Turn}
@@ -10,8 +10,8 @@ use Rattle.msg_frames.proofs.{Functions.order_among, Functions.order_is, Functio
 use Rattle.msg_order.proofs.Elements.{Contains-cases, Contains-head, Contains-tail, not_in_none}
 
 -- in either order of turns the same is left, and the turns are the same
-abbrev pub SameRun : List Access → List ℕ → List ℕ → Type 0
-SameRun accesses is js = (s : State) → AreAccessesOf s accesses
+abbrev pub SameRun : {V : Type 0} → Values V → List Access → List ℕ → List ℕ → Type 0
+SameRun values accesses is js = (s : State values) → AreAccessesOf s accesses
     → ((after_turns_of is s).state ≡ (after_turns_of js s).state)
     × IsPermutation (after_turns_of is s).turns (after_turns_of js s).turns
 
@@ -19,25 +19,25 @@ SameRun accesses is js = (s : State) → AreAccessesOf s accesses
 abbrev pub IsFree : List Access → ℕ → ℕ → Type 0
 IsFree accesses x y = (y < length accesses) × (y ≢ x) × ¬ Conflict (access_of accesses y) (access_of accesses x)
 
-module _ (accesses : List Access) where
-  run_along : (is js ks : List ℕ) → SameRun accesses is js → SameRun accesses js ks → SameRun accesses is ks
+module _ {V : Type 0} {values : Values V} (accesses : List Access) where
+  run_along : (is js ks : List ℕ) → SameRun values accesses is js → SameRun values accesses js ks → SameRun values accesses is ks
   run_along is js ks a b s are = ((a s are).0 ∙ (b s are).0, IsPermutation-trans _ _ _ (a s are).1 (b s are).1)
 
-  run_later : (x : ℕ) (is js : List ℕ) → SameRun accesses is js → SameRun accesses (x ∷ is) (x ∷ js)
+  run_later : (x : ℕ) (is js : List ℕ) → SameRun values accesses is js → SameRun values accesses (x ∷ is) (x ∷ js)
   run_later x is js a s are =
       let r = a (after_turn_of x s) (accesses_stay _ _ _ (one_turn_keeps _ _) are) in
       (r.0, IsPermutation-cons (logged_turn s x) _ _ r.1)
 
   -- what is free of all before it moves to the front
-  run_to_front : JobFootprint → (x : ℕ) (before rest : List ℕ) → x < length accesses
-      → All (IsFree accesses x) before → SameRun accesses (before ++ x ∷ rest) (x ∷ before ++ rest)
+  run_to_front : JobFootprint values → (x : ℕ) (before rest : List ℕ) → x < length accesses
+      → All (IsFree accesses x) before → SameRun values accesses (before ++ x ∷ rest) (x ∷ before ++ rest)
   run_to_front foot x [] rest lx free s are = (refl, IsPermutation-refl (after_turns_of (x ∷ rest) s).turns)
   run_to_front foot x (y ∷ before) rest lx free s are =
       let here : IsFree accesses x y = free 0 y (omega arith) in
       let to_front = run_to_front foot x before rest lx (All-tail (IsFree accesses x) y before free) in
       let later = run_later y (before ++ x ∷ rest) (x ∷ before ++ rest) to_front s are in
       let e = turns_commute foot s accesses y x are (rw (are.each) at here.0) (rw (are.each) at lx) here.1 here.2 in
-      let turns : List Turn = (after_turns_of (before ++ rest) (after_turn_of x (after_turn_of y s))).turns in
+      let turns : List (Turn V) = (after_turns_of (before ++ rest) (after_turn_of x (after_turn_of y s))).turns in
       let swapped = IsPermutation-middle (logged_turn s y ∷ []) (logged_turn s x) turns in
       grind (arith, later, e, swapped, IsPermutation-trans)
 
@@ -61,13 +61,13 @@ without xs y ys once i =
     grind (arith, back, front, differs, Contains-tail y (xs ++ ys) i, Contains-cases y (xs ++ ys) i)
 
 -- The systems of J are below, and two of them in conflict are joined by a path.
-module _ (foot : JobFootprint) (accesses : List Access) (P : ℕ → ℕ → Type 0) (J : ℕ → Type 0)
+module _ {V : Type 0} {values : Values V} (foot : JobFootprint values) (accesses : List Access) (P : ℕ → ℕ → Type 0) (J : ℕ → Type 0)
     (below : (i : ℕ) → J i → i < length accesses)
     (joins : (i j : ℕ) → J i → J j → i ≢ j → Conflict (access_of accesses i) (access_of accesses j) → P i j ⊎ P j i)
   where
     pub reordered : (settled order : List ℕ) → All J settled → ((i : ℕ) → Contains order i ↔ Contains settled i)
         → AllPairs (λ i j. i ≢ j) settled → AllPairs (λ i j. i ≢ j) order → Forward P settled → Forward P order
-        → SameRun accesses order settled
+        → SameRun values accesses order settled
     reordered [] [] all same once once' a b = λ s are. (refl, IsPermutation-refl [])
     reordered [] (y ∷ ys) all same once once' a b = absurd (not_in_none y ((same y).0 (Contains-head y ys)))
     reordered (x ∷ rest) order all same once once' a b =
@@ -101,24 +101,25 @@ lawful_forward keeps g who order lawful a b d lt l p =
     let others = cases_order s.later a in
     grind (arith, one, places, others, s, get_or_default_zero, get_or_from_slice_get, slice_get_within)
 
-pub orders_agree : JobFootprint → ConflictingSystemsAreOrdered → LawfulOrdersKeepPaths → LawfulOrdersAgree
-orders_agree foot ordered keeps s accesses settled a b are is_settled la lb =
-    reordered foot accesses (Path settled) (λ i. IsTrue (has_joined (join_flags s) i))
-    (λ i joined. rw (are.each) (joined_below s i joined))
-    (λ i j p q ne conflict. ordered accesses s.rules (join_flags s) settled
-    (length-map-range_with_len (has_begun s) 0 s.systems ∙ sym are.each) is_settled i j ne p q conflict)
-    b a (λ k d lt. (lb.of_joined _).0 (Contains-get_or b k d lt)) (λ i. grind (arith, la.of_joined i, lb.of_joined i))
-    lb.once la.once (lawful_forward keeps settled (join_flags s) b lb)
-    (lawful_forward keeps settled (join_flags s) a la) s are
+module _ {V : Type 0} {values : Values V} where
+  pub orders_agree : JobFootprint values → ConflictingSystemsAreOrdered → LawfulOrdersKeepPaths → LawfulOrdersAgree values
+  orders_agree foot ordered keeps s accesses settled a b are is_settled la lb =
+      reordered foot accesses (Path settled) (λ i. IsTrue (has_joined (join_flags s) i))
+      (λ i joined. rw (are.each) (joined_below s i joined))
+      (λ i j p q ne conflict. ordered accesses s.rules (join_flags s) settled
+      (length-map-range_with_len (has_begun s) 0 s.systems ∙ sym are.each) is_settled i j ne p q conflict)
+      b a (λ k d lt. (lb.of_joined _).0 (Contains-get_or b k d lt)) (λ i. grind (arith, la.of_joined i, lb.of_joined i))
+      lb.once la.once (lawful_forward keeps settled (join_flags s) b lb)
+      (lawful_forward keeps settled (join_flags s) a la) s are
 
-pub frames_agree : JobFootprint → ConflictingSystemsAreOrdered → LawfulOrdersKeepPaths → TurnOrderIsLawful
-    → FramesAgreeInLawfulOrders
-frames_agree foot ordered keeps is_lawful f s accesses order uses free are lawful =
-    let b : State = before_turns f.posts s in
-    let same = before_keeps f.posts s in
-    let are' = accesses_stay s b accesses same are in
-    let free' = no_cycle_stays s b same free in
-    let own = is_lawful (settled_order b) (join_flags b) (turn_order b) (order_among b) (order_is b free') in
-    let agree = orders_agree foot ordered keeps b accesses (settled_order b) order (turn_order b) are'
-    (order_is_settled b accesses (uses_stay s b same uses) are') lawful.lawful own in
-    (agree.0, record { posts = refl; turns = agree.1 })
+  pub frames_agree : JobFootprint values → ConflictingSystemsAreOrdered → LawfulOrdersKeepPaths → TurnOrderIsLawful
+      → FramesAgreeInLawfulOrders values
+  frames_agree foot ordered keeps is_lawful f s accesses order uses free are lawful =
+      let b : State values = before_turns f.posts s in
+      let same = before_keeps f.posts s in
+      let are' = accesses_stay s b accesses same are in
+      let free' = no_cycle_stays s b same free in
+      let own = is_lawful (settled_order b) (join_flags b) (turn_order b) (order_among b) (order_is b free') in
+      let agree = orders_agree foot ordered keeps b accesses (settled_order b) order (turn_order b) are'
+      (order_is_settled b accesses (uses_stay s b same uses) are') lawful.lawful own in
+      (agree.0, record { posts = refl; turns = agree.1 })

@@ -2,34 +2,36 @@
 use Rattle.std.proofs.Common.{◌≡◌, ◌+◌, ℕ, zero, suc, ◌≤◌, List, [], ◌∷◌, ◌++◌, map, All, Option, None, Some, refl, sym, ap, ◌∙◌, arith, cond, filter, flat_map, ◌==◌}
 use Rattle.std.proofs.lemmas.{Bool.cases_Bool, List.append-nil, List.length-map, List.map-append, List.map-id, List.Elements.All-append, List.Elements.All-cons, List.Elements.All-nil, List.Elements.All-weaker, Bool.Decides.eqb_tells, Simd.map-map, Grind.flat_map-append}
 use Rattle.msg_buffer.specs.Prelude.{Fits, GoesOn, History, IsSound, Stretch, Tile, count, given, message_of, next_place, pass_over, read}
-use Rattle.msg_world.specs.{Prelude.WorldState, declared.record.Record.Record}
+use Rattle.msg_world.specs.{Prelude.WorldState, declared.record.Record.Record, Prelude.Values}
 use Rattle.msg_system.specs.{declared.op.Op.Op, declared.op.Op.TheVariants.Read, declared.op.Op.TheVariants.Clear, declared.op.Op.TheVariants.Forward, declared.op.Op.TheVariants.Sum, declared.reply.Reply.Reply}
 use Rattle.msg_system.specs.Prelude.{AfterOp, AfterProgram, Step, Job, Meaning, after_at_most, after_job, after_op, next_op, one_more, took, turn, with_place}
 use Rattle.msg_frames.specs.Prelude.{ReadEntry, GivesItsStretch, Moment, replies_of, entry_for, entry_of_read, entries_at, moments_at, outcome_of}
 use Rattle.msg_frames.proofs.HistoriesGrow.{BufferLaws, counts_more, Grows, goes_further, grown, op_changes, stays}
 
--- these steps, each beside who took it
-abbrev pub by_system : ℕ → List Step → List (ℕ × Step)
-by_system i xs = map (λ x. (i, x)) xs
+module _ {V : Type 0} {values : Values V} where
+  -- these steps, each beside who took it
+  abbrev pub by_system : ℕ → List (Step values) → List (ℕ × Step values)
+  by_system i xs = map (λ x. (i, x)) xs
 
--- the steps of system i
-abbrev pub steps_of : ℕ → List (ℕ × Step) → List Step
-steps_of i xs = map (λ x. x.1) (filter (λ x. x.0 == i) xs)
+  -- the steps of system i
+  abbrev pub steps_of : ℕ → List (ℕ × Step values) → List (Step values)
+  steps_of i xs = map (λ x. x.1) (filter (λ x. x.0 == i) xs)
 
--- a moment, as a tile of the buffers' laws
-abbrev pub tile_of : Moment → History Record × Stretch
-tile_of m = (m.history, m.entry.stretch)
+module _ {V : Type 0} where
+  -- a moment, as a tile of the buffers' laws
+  abbrev pub tile_of : Moment V → History (Record V) × Stretch
+  tile_of m = (m.history, m.entry.stretch)
 
--- what it goes past was written by then
-abbrev pub IsWritten : Moment → Type 0
-IsWritten m = next_place m.entry.stretch ≤ count m.history
+  -- what it goes past was written by then
+  abbrev pub IsWritten : Moment V → Type 0
+  IsWritten m = next_place m.entry.stretch ≤ count m.history
 
--- it begins at the reader's place, past those that it missed
-abbrev pub Begins : Moment → Type 0
-Begins m = m.entry.stretch.first ≡ m.place + m.entry.stretch.missed
+  -- it begins at the reader's place, past those that it missed
+  abbrev pub Begins : Moment V → Type 0
+  Begins m = m.entry.stretch.first ≡ m.place + m.entry.stretch.missed
 
 -- A reader goes past these moments from one place to another, while the history of its type goes on.
-pub record Passes (place : ℕ) (old : History Record) (ms : List Moment) (next : ℕ) (new : History Record) : Type 0 where
+pub record Passes {V : Type 0} (place : ℕ) (old : History (Record V)) (ms : List (Moment V)) (next : ℕ) (new : History (Record V)) : Type 0 where
   pub goes_on : GoesOn old new
   pub within : next ≤ count new
   pub tile : Tile place (map tile_of ms) next
@@ -38,98 +40,101 @@ pub record Passes (place : ℕ) (old : History Record) (ms : List Moment) (next 
   pub earlier : All (λ m. GoesOn m.history new) ms
   pub written : All IsWritten ms
 
-tile-append : (p : ℕ) (xs : List (History Record × Stretch)) (q : ℕ) (ys : List (History Record × Stretch)) (r : ℕ)
-    → Tile p xs q → Tile q ys r → Tile p (xs ++ ys) r
-tile-append p [] q ys r a b = rw a b
-tile-append p (x ∷ xs) q ys r a b = grind (arith, tile-append (next_place x.1) xs q ys r)
+module _ {V : Type 0} where
+  tile-append : (p : ℕ) (xs : List (History (Record V) × Stretch)) (q : ℕ) (ys : List (History (Record V) × Stretch)) (r : ℕ)
+      → Tile p xs q → Tile q ys r → Tile p (xs ++ ys) r
+  tile-append p [] q ys r a b = rw a b
+  tile-append p (x ∷ xs) q ys r a b = grind (arith, tile-append (next_place x.1) xs q ys r)
 
--- first these moments, and then those
-pub passes_further : (p : ℕ) (a : History Record) (ms : List Moment) (q : ℕ) (b : History Record) (ns : List Moment)
-    (r : ℕ) (c : History Record)
-    → Passes p a ms q b → Passes q b ns r c → Passes p a (ms ++ ns) r c
-passes_further p a ms q b ns r c x y =
-    let begins = All-append Begins ms ns x.begins y.begins in
-    let gives = All-append GivesItsStretch ms ns x.gives y.gives in
-    let longer = λ (m : Moment) (g : GoesOn m.history b). goes_further m.history b c g y.goes_on in
-    let earlier = All-append (λ m. GoesOn m.history c) ms ns (All-weaker _ _ longer ms x.earlier) y.earlier in
-    let written = All-append IsWritten ms ns x.written y.written in
-    let tile = tile-append p (map tile_of ms) q (map tile_of ns) r x.tile y.tile in
-    grind (arith, goes_further a b c, map-append tile_of ms ns, begins, gives, earlier, written, tile)
+  -- first these moments, and then those
+  pub passes_further : (p : ℕ) (a : History (Record V)) (ms : List (Moment V)) (q : ℕ) (b : History (Record V)) (ns : List (Moment V))
+      (r : ℕ) (c : History (Record V))
+      → Passes p a ms q b → Passes q b ns r c → Passes p a (ms ++ ns) r c
+  passes_further p a ms q b ns r c x y =
+      let begins = All-append Begins ms ns x.begins y.begins in
+      let gives = All-append GivesItsStretch ms ns x.gives y.gives in
+      let longer = λ (m : Moment V) (g : GoesOn m.history b). goes_further m.history b c g y.goes_on in
+      let earlier = All-append (λ m. GoesOn m.history c) ms ns (All-weaker _ _ longer ms x.earlier) y.earlier in
+      let written = All-append IsWritten ms ns x.written y.written in
+      let tile = tile-append p (map tile_of ms) q (map tile_of ns) r x.tile y.tile in
+      grind (arith, goes_further a b c, map-append tile_of ms ns, begins, gives, earlier, written, tile)
 
--- nothing is gone past
-pub passes_nothing : (p : ℕ) (a b : History Record) → p ≤ count a → GoesOn a b → Passes p a [] p b
-passes_nothing p a b within goes = grind (arith, All-nil, counts_more)
+  -- nothing is gone past
+  pub passes_nothing : (p : ℕ) (a b : History (Record V)) → p ≤ count a → GoesOn a b → Passes p a [] p b
+  passes_nothing p a b within goes = grind (arith, All-nil, counts_more)
 
--- a single entry
-pub passes_one : (p : ℕ) (a : History Record) (e : ReadEntry) (b : History Record) → Fits a p e.stretch
-    → next_place e.stretch ≤ count a
-    → GivesItsStretch (record { history = a; place = p; entry = e }) → GoesOn a b
-    → Passes p a (record { history = a; place = p; entry = e } ∷ []) (next_place e.stretch) b
-passes_one p a e b fits within gives goes = grind (arith, All-cons, All-nil, counts_more)
+  -- a single entry
+  pub passes_one : (p : ℕ) (a : History (Record V)) (e : ReadEntry V) (b : History (Record V)) → Fits a p e.stretch
+      → next_place e.stretch ≤ count a
+      → GivesItsStretch (record { history = a; place = p; entry = e }) → GoesOn a b
+      → Passes p a (record { history = a; place = p; entry = e } ∷ []) (next_place e.stretch) b
+  passes_one p a e b fits within gives goes = grind (arith, All-cons, All-nil, counts_more)
 
--- the moment of an entry of type u, for type t
-abbrev moments_if : ℕ → ℕ → (ℕ → ℕ) → WorldState → ReadEntry → List Moment
-moments_if u t ps w e = map (λ x. record { history = w.histories t; place = ps t; entry = x }) (cond (u == t) (e ∷ []) [])
+module _ {V : Type 0} {values : Values V} where
+  -- the moment of an entry of type u, for type t
+  abbrev moments_if : ℕ → ℕ → (ℕ → ℕ) → WorldState values → ReadEntry V → List (Moment V)
+  moments_if u t ps w e = map (λ x. record { history = w.histories t; place = ps t; entry = x }) (cond (u == t) (e ∷ []) [])
 
--- a reader of type t goes past these moments, from these places in a world to those in another
-abbrev pub GoesPast : ℕ → (ℕ → ℕ) → WorldState → List Moment → (ℕ → ℕ) → WorldState → Type 0
-GoesPast t ps w ms qs v = IsSound (w.histories t) → ps t ≤ count (w.histories t)
-    → Passes (ps t) (w.histories t) ms (qs t) (v.histories t)
+  -- a reader of type t goes past these moments, from these places in a world to those in another
+  abbrev pub GoesPast : ℕ → (ℕ → ℕ) → WorldState values → List (Moment V) → (ℕ → ℕ) → WorldState values → Type 0
+  GoesPast t ps w ms qs v = IsSound (w.histories t) → ps t ≤ count (w.histories t)
+      → Passes (ps t) (w.histories t) ms (qs t) (v.histories t)
 
--- the moments of steps, for readers of type t
-abbrev pub moments_of : ℕ → List Step → List Moment
-moments_of t xs = flat_map (moments_at t) xs
+  -- the moments of steps, for readers of type t
+  abbrev pub moments_of : ℕ → List (Step values) → List (Moment V)
+  moments_of t xs = flat_map (moments_at t) xs
 
--- the moments of the next op
-abbrev pub next_moments : ℕ → Option Op → ℕ → AfterProgram → List Moment
-next_moments t None writer far = []
-next_moments t (Some op) writer far =
-    map (λ e. record { history = far.state.histories t; place = far.places t; entry = e })
-    (entry_for t op (after_op op writer far.places far.state).reply)
+  -- the moments of the next op
+  abbrev pub next_moments : ℕ → Option (Op V) → ℕ → AfterProgram values → List (Moment V)
+  next_moments t None writer far = []
+  next_moments t (Some op) writer far =
+      map (λ e. record { history = far.state.histories t; place = far.places t; entry = e })
+      (entry_for t op (after_op op writer far.places far.state).reply)
 
--- one op more
-more_are : (t : ℕ) (o : Option Op) (writer : ℕ) (far : AfterProgram)
-    → moments_of t (one_more o writer far).steps ≡ moments_of t far.steps ++ next_moments t o writer far
-more_are t None writer far = sym (append-nil (moments_of t far.steps))
-more_are t (Some op) writer far =
-    let here : AfterOp = after_op op writer far.places far.state in
-    let done : Step = record { op = op; places = far.places; world = far.state; reply = here.reply } in
-    flat_map-append (moments_at t) far.steps (done ∷ [])
-    ∙ ap (λ (ms : List Moment). moments_of t far.steps ++ ms) (append-nil (moments_at t done))
+  -- one op more
+  more_are : (t : ℕ) (o : Option (Op V)) (writer : ℕ) (far : AfterProgram values)
+      → moments_of t (one_more o writer far).steps ≡ moments_of t far.steps ++ next_moments t o writer far
+  more_are t None writer far = sym (append-nil (moments_of t far.steps))
+  more_are t (Some op) writer far =
+      let here : AfterOp values = after_op op writer far.places far.state in
+      let done : Step values = record { op = op; places = far.places; world = far.state; reply = here.reply } in
+      flat_map-append (moments_at t) far.steps (done ∷ [])
+      ∙ ap (λ (ms : List (Moment V)). moments_of t far.steps ++ ms) (append-nil (moments_at t done))
 
-passes_these : (p : ℕ) (a : History Record) (ms ns : List Moment) (q : ℕ) (b : History Record) → ms ≡ ns
-    → Passes p a ns q b → Passes p a ms q b
-passes_these p a ms ns q b same x = rw same x
+module _ {V : Type 0} where
+  passes_these : (p : ℕ) (a : History (Record V)) (ms ns : List (Moment V)) (q : ℕ) (b : History (Record V)) → ms ≡ ns
+      → Passes p a ns q b → Passes p a ms q b
+  passes_these p a ms ns q b same x = rw same x
 
-module _ (laws : BufferLaws) where
+module _ {V : Type 0} {values : Values V} (laws : BufferLaws V) where
   module _ (t : ℕ) where
     -- an op that reads type u
-    of_type : (u : ℕ) (w : WorldState) (v : History Record) (ps : ℕ → ℕ) (e : ReadEntry) (q : ℕ)
+    of_type : (u : ℕ) (w : WorldState values) (v : History (Record V)) (ps : ℕ → ℕ) (e : ReadEntry V) (q : ℕ)
         → ps t ≤ count (w.histories t) → GoesOn (w.histories t) v
         → (u ≡ t → Passes (ps t) (w.histories t) (record { history = w.histories t; place = ps t; entry = e } ∷ []) q v)
         → Passes (ps t) (w.histories t) (moments_if u t ps w e) (with_place ps u q t) v
     of_type u w v ps e q within goes passes =
         grind (arith, eqb_tells, passes_nothing (ps t) (w.histories t) v within goes)
 
-    of_read : (u : ℕ) (w v : WorldState) (ps : ℕ → ℕ) (limit : Option ℕ) → Grows (w.histories t) (v.histories t)
+    of_read : (u : ℕ) (w v : WorldState values) (ps : ℕ → ℕ) (limit : Option ℕ) → Grows (w.histories t) (v.histories t)
         → GoesPast t ps w (moments_if u t ps w (entry_of_read (took (w.histories u) (ps u) limit)))
         (with_place ps u (next_place (read (w.histories u) (ps u) limit))) v
     of_read u w v ps limit grows sound within =
-        let h : History Record = w.histories t in
+        let h : History (Record V) = w.histories t in
         let law = laws.reads h (ps t) limit sound in
         of_type u w _ ps _ _ within (grows sound) (λ e. rw (e, length-map (given h (ps t) limit) message_of)
         (passes_one (ps t) h (record { stretch = read h (ps t) limit; given = Some _ }) _ law.0 (law.2 within)
         (ap (map message_of) law.1) (grows sound)))
 
-    pub next_passes : (o : Option Op) (writer : ℕ) (far : AfterProgram) →
+    pub next_passes : (o : Option (Op V)) (writer : ℕ) (far : AfterProgram values) →
         let more = one_more o writer far in
         GoesPast t far.places far.state (next_moments t o writer far) more.places more.state
     next_passes None writer far = λ sound within. passes_nothing _ _ _ within (stays _ sound)
     next_passes (Some (Read u limit)) writer far = of_read u far.state far.state far.places limit (stays _)
     next_passes (Some (Clear u)) writer far = λ sound within.
-        let h : History Record = far.state.histories t in
+        let h : History (Record V) = far.state.histories t in
         let law = laws.clears h (far.places t) sound in
-        let entry : ReadEntry = record { stretch = pass_over h (far.places t); given = None } in
+        let entry : ReadEntry V = record { stretch = pass_over h (far.places t); given = None } in
         of_type u far.state _ far.places _ _ within (stays _ sound) (λ e. rw (e, ← law.1 within)
         (passes_one (far.places t) h entry _ law.0 (omega (arith, law.1 within)) tt (stays _ sound)))
     next_passes (Some (Forward u v)) writer far =
@@ -140,36 +145,37 @@ module _ (laws : BufferLaws) where
         let goes = op_changes Grows (grown laws.grow) op writer far.places far.state t sound in
         grind (arith, cases_Bool, passes_nothing (far.places t) (far.state.histories t) _ within goes)
 
-    pub first_passes : (n : ℕ) (m : Meaning) (w : WorldState) →
+    pub first_passes : (n : ℕ) (m : Meaning V) (w : WorldState values) →
         let far = after_at_most n (next_op m) m.writer m.places w in
         GoesPast t m.places w (moments_of t far.steps) far.places far.state
     first_passes zero m w sound within = passes_nothing _ _ _ within (stays _ sound)
     first_passes (suc n) m w sound within =
-        let far : AfterProgram = after_at_most n (next_op m) m.writer m.places w in
+        let far : AfterProgram values = after_at_most n (next_op m) m.writer m.places w in
         let so_far = first_passes n m w sound within in
         passes_these _ _ _ _ _ _ (more_are t (next_op m far.replies) m.writer far)
         (passes_further _ _ _ _ _ _ _ _ so_far
         (next_passes (next_op m far.replies) m.writer far so_far.goes_on.sound so_far.within))
 
-    turn_passes : (m : Meaning) (w : WorldState)
+    turn_passes : (m : Meaning V) (w : WorldState values)
         → GoesPast t m.places w (moments_of t (turn m w).steps) (turn m w).places (turn m w).state
     unfolding turn
     turn_passes m w = first_passes 64 m w
 
-    pub job_passes : (j : Job) (w : WorldState) →
+    pub job_passes : (j : Job V) (w : WorldState values) →
         let after = after_job j w in
         GoesPast t j.system.places w (moments_of t after.steps) after.job.system.places after.state
     job_passes j w sound within =
         let none = passes_nothing _ _ _ within (stays _ sound) in
         grind (arith, cases_Bool, none, turn_passes j.system w sound within)
 
--- the entries of steps are those of their moments
-pub entries_are : (t : ℕ) (xs : List Step) → map (λ m. m.entry) (moments_of t xs) ≡ entries_at t xs
-entries_are t [] = refl
-entries_are t (x ∷ xs) = grind (arith, map-append, map-map, map-id (entry_for t x.op x.reply), entries_are t xs)
+module _ {V : Type 0} {values : Values V} where
+  -- the entries of steps are those of their moments
+  pub entries_are : (t : ℕ) (xs : List (Step values)) → map (λ m. m.entry) (moments_of t xs) ≡ entries_at t xs
+  entries_are t [] = refl
+  entries_are t (x ∷ xs) = grind (arith, map-append, map-map, map-id (entry_for t x.op x.reply), entries_are t xs)
 
--- after a job, the rule of its system also takes in the replies of that job
-pub job_rule : (j : Job) (w : WorldState) → (after_job j w).job.system.rule
-    ≡ (λ (later : List (List Reply)) (now : List Reply). j.system.rule
-    (replies_of (outcome_of (after_job j w).replies) ++ later) now)
-job_rule j w = grind (arith, cases_Bool)
+  -- after a job, the rule of its system also takes in the replies of that job
+  pub job_rule : (j : Job V) (w : WorldState values) → (after_job j w).job.system.rule
+      ≡ (λ (later : List (List (Reply V))) (now : List (Reply V)). j.system.rule
+      (replies_of (outcome_of (after_job j w).replies) ++ later) now)
+  job_rule j w = grind (arith, cases_Bool)

@@ -1,71 +1,73 @@
 -- What a reader goes past over a run of frames.
-use Rattle.std.proofs.Common.{arith, ◌≡◌, ℤ, ℕ, ◌<◌, List, [], ◌∷◌, ◌++◌, refl, ◌∙◌, IsTrue, if◌then◌else◌}
+use Rattle.std.proofs.Common.{arith, ◌≡◌, ℕ, ◌<◌, List, [], ◌∷◌, ◌++◌, refl, ◌∙◌, IsTrue, if◌then◌else◌}
 use Rattle.std.proofs.lemmas.{Bool.cases_Bool, Grind.flat_map-append}
 use Rattle.msg_buffer.specs.Prelude.{GoesOn, History}
 use Rattle.msg_system.specs.Prelude.{Step}
-use Rattle.msg_world.specs.{Prelude.WorldState, Prelude.after_update, declared.record.Record.Record}
-use Rattle.msg_frames.specs.Prelude.{LogsTellEntries, ReadersTile, Frame, IsSoundState, frame, run, Moment, RunsAreComplete, State, after_posts, answers_in, before_turns, found_at, has_begun, moments, reader_place, Totals, totals_from, turns_steps, post_steps, moments_at}
+use Rattle.msg_world.specs.{Prelude.WorldState, Prelude.after_update, declared.record.Record.Record, Prelude.Values}
+use Rattle.msg_frames.specs.Prelude.{AccountsBeginAtTheStart, LogsTellEntries, ReadersTile, Frame, first_state, IsSoundState, frame, run, Moment, RunsAreComplete, State, after_posts, answers_in, before_turns, found_at, has_begun, moments, reader_place, Totals, totals_from, turns_steps, post_steps, moments_at}
 use Rattle.msg_frames.specs.Frames.{turn_order}
-use Rattle.msg_frames.proofs.{ReaderOverJob.steps_of, TellsEachOnce.tiles_rise, TellsEachOnce.are_true, TellsEachOnce.tells_once, HistoriesGrow.BufferLaws, HistoriesGrow.goes_further, HistoriesGrow.stays, SystemsStay.before_keeps, SystemsStay.turns_keep, ReaderOverJob.passes_nothing, EntriesAddUp.with_entries-none, ReaderOverTurns.ReadsFrom, ReaderOverTurns.Tells, ReaderOverTurns.reads_further, ReaderOverTurns.steps_of-append, ReaderOverTurns.tells_further, ReaderOverTurns.tells_these, ReaderOverTurns.reads_these, ReaderOverJob.moments_of, ReaderOverTurns.turns_moments, ReaderOverTurns.turns_read, ReaderOverTurns.turns_skip, ReaderOverTurns.turns_tell, BeforeTurns.Prepares, BeforeTurns.comes, BeforeTurns.prepares, BeforeTurns.stood, BeforeTurns.waits, StatesStaySound.begun_alike, StatesStaySound.frame_sound, StatesStaySound.has_no_turn, StatesStaySound.prepared_sound, WrittenOnce.run_writes}
+use Rattle.msg_frames.proofs.{ReaderOverJob.steps_of, TellsEachOnce.tiles_rise, TellsEachOnce.are_true, TellsEachOnce.tells_once, HistoriesGrow.BufferLaws, HistoriesGrow.goes_further, HistoriesGrow.stays, SystemsStay.before_keeps, SystemsStay.turns_keep, ReaderOverJob.passes_nothing, EntriesAddUp.with_entries-none, ReaderOverTurns.ReadsFrom, ReaderOverTurns.Tells, ReaderOverTurns.reads_further, ReaderOverTurns.steps_of-append, ReaderOverTurns.tells_further, ReaderOverTurns.tells_these, ReaderOverTurns.reads_these, ReaderOverJob.moments_of, ReaderOverTurns.turns_moments, ReaderOverTurns.turns_read, ReaderOverTurns.turns_skip, ReaderOverTurns.turns_tell, BeforeTurns.Prepares, BeforeTurns.comes, BeforeTurns.prepares, BeforeTurns.stood, BeforeTurns.waits, StatesStaySound.begun_alike, StatesStaySound.frame_sound, StatesStaySound.has_no_turn, StatesStaySound.prepared_sound, FirstStatesAreSound.first_accounts, WrittenOnce.run_writes}
 
--- what the host posts goes past nothing
-posts_pass : (i t : ℕ) (posts : List (ℕ × ℤ)) (w : WorldState) → moments_of t (steps_of i (post_steps posts w)) ≡ []
-posts_pass i t [] w = refl
-posts_pass i t (p ∷ ps) w = grind (arith, cases_Bool, posts_pass i t ps (after_posts (p ∷ []) w))
+module _ {V : Type 0} {values : Values V} where
+  -- what the host posts goes past nothing
+  posts_pass : (i t : ℕ) (posts : List (ℕ × V)) (w : WorldState values) → moments_of t (steps_of i (post_steps posts w)) ≡ []
+  posts_pass i t [] w = refl
+  posts_pass i t (p ∷ ps) w = grind (arith, cases_Bool, posts_pass i t ps (after_posts (p ∷ []) w))
 
-pub run_further : (i t : ℕ) (f : Frame) (fs : List Frame) (s : State) →
-    let b : State = before_turns f.posts s in
-    moments i t (f ∷ fs) s ≡ turns_moments i t (turn_order b) b ++ moments i t fs (frame f s).state
-run_further i t f fs s =
-    let b : State = before_turns f.posts s in
-    let posts : List (ℕ × Step) = post_steps f.posts (after_update s.world) in
-    let turns : List (ℕ × Step) = turns_steps (turn_order b) b in
-    let rest : List (ℕ × Step) = (run fs (frame f s).state).steps in
-    rw (
-      steps_of-append i (posts ++ turns) rest,
-      steps_of-append i posts turns,
-      flat_map-append (moments_at t) (steps_of i posts ++ steps_of i turns) (steps_of i rest),
-      flat_map-append (moments_at t) (steps_of i posts) (steps_of i turns),
-      posts_pass i t f.posts (after_update s.world),
-    ) refl
+  pub run_further : (i t : ℕ) (f : Frame V) (fs : List (Frame V)) (s : State values) →
+      let b : State values = before_turns f.posts s in
+      moments i t (f ∷ fs) s ≡ turns_moments i t (turn_order b) b ++ moments i t fs (frame f s).state
+  run_further i t f fs s =
+      let b : State values = before_turns f.posts s in
+      let posts : List (ℕ × Step values) = post_steps f.posts (after_update s.world) in
+      let turns : List (ℕ × Step values) = turns_steps (turn_order b) b in
+      let rest : List (ℕ × Step values) = (run fs (frame f s).state).steps in
+      rw (
+        steps_of-append i (posts ++ turns) rest,
+        steps_of-append i posts turns,
+        flat_map-append (moments_at t) (steps_of i posts ++ steps_of i turns) (steps_of i rest),
+        flat_map-append (moments_at t) (steps_of i posts) (steps_of i turns),
+        posts_pass i t f.posts (after_update s.world),
+      ) refl
 
-pub run_tells : (i t : ℕ) (frames : List Frame) (s : State)
-    → Tells i t s (answers_in i (run frames s).logs) (moments i t frames s) (run frames s).state
-run_tells i t [] s = grind arith
-run_tells i t (f ∷ fs) s =
-    let b : State = before_turns f.posts s in
-    let told = turns_tell i t (turn_order b) b in
-    let needs = ((before_keeps f.posts s).members i).needs in
-    tells_these (run_further i t f fs s)
-    (tells_further i t s _ _ _ _ _ (run (f ∷ fs) s).state (grind (arith, cases_Bool, needs, told))
-    (run_tells i t fs (frame f s).state))
+  pub run_tells : (i t : ℕ) (frames : List (Frame V)) (s : State values)
+      → Tells i t s (answers_in i (run frames s).logs) (moments i t frames s) (run frames s).state
+  run_tells i t [] s = grind arith
+  run_tells i t (f ∷ fs) s =
+      let b : State values = before_turns f.posts s in
+      let told = turns_tell i t (turn_order b) b in
+      let needs = ((before_keeps f.posts s).members i).needs in
+      tells_these (run_further i t f fs s)
+      (tells_further i t s _ _ _ _ _ (run (f ∷ fs) s).state (grind (arith, cases_Bool, needs, told))
+      (run_tells i t fs (frame f s).state))
 
 -- ---- a reader that joins in the run, or had joined
 
--- a reader's moments from a history on are its moments from an earlier history on
-reads_since : (i t place : ℕ) (had : Totals) (a b : History Record) (ms : List Moment) (u : State) → GoesOn a b
-    → ReadsFrom i t place had b ms u → ReadsFrom i t place had a ms u
-reads_since i t place had a b ms u goes x = grind (arith, goes_further)
+module _ {V : Type 0} {values : Values V} where
+  -- a reader's moments from a history on are its moments from an earlier history on
+  reads_since : (i t place : ℕ) (had : Totals) (a b : History (Record V)) (ms : List (Moment V)) (u : State values) → GoesOn a b
+      → ReadsFrom i t place had b ms u → ReadsFrom i t place had a ms u
+  reads_since i t place had a b ms u goes x = grind (arith, goes_further)
 
--- the totals with which a run from s to u finds a reader: those that it has, or new ones where it joins
-abbrev found_totals : State → State → ℕ → ℕ → Totals
-found_totals s u i t = if has_begun s i then (s.members i).totals t else totals_from (found_at s u i t)
+  -- the totals with which a run from s to u finds a reader: those that it has, or new ones where it joins
+  abbrev found_totals : State values → State values → ℕ → ℕ → Totals
+  found_totals s u i t = if has_begun s i then (s.members i).totals t else totals_from (found_at s u i t)
 
--- Reader (i, t) goes past these moments between two states, from where it was found.
-abbrev pub Follows : ℕ → ℕ → State → List Moment → State → Type 0
-Follows i t s ms u = ReadsFrom i t (found_at s u i t) (found_totals s u i t) (s.world.histories t) ms u
+  -- Reader (i, t) goes past these moments between two states, from where it was found.
+  abbrev pub Follows : ℕ → ℕ → State values → List (Moment V) → State values → Type 0
+  Follows i t s ms u = ReadsFrom i t (found_at s u i t) (found_totals s u i t) (s.world.histories t) ms u
 
-module _ (laws : BufferLaws) (i t : ℕ) where
-  pub run_follows : (frames : List Frame) (s : State) → IsSoundState s → t < s.types
+module _ {V : Type 0} {values : Values V} (laws : BufferLaws V) (i t : ℕ) where
+  pub run_follows : (frames : List (Frame V)) (s : State values) → IsSoundState s → t < s.types
       → IsTrue (has_begun (run frames s).state i) → Follows i t s (moments i t frames s) (run frames s).state
-  run_follows [] s sound below has = grind (arith, passes_nothing, stays, with_entries-none)
+  run_follows [] s sound below has = grind (arith, passes_nothing, stays, with_entries-none V)
   run_follows (f ∷ fs) s sound below has =
-      let b : State = before_turns f.posts s in
+      let b : State values = before_turns f.posts s in
       let order : List ℕ = turn_order b in
-      let m : State = (frame f s).state in
-      let u : State = (run fs m).state in
-      let ms : List Moment = turns_moments i t order b in
-      let rest : List Moment = moments i t fs m in
+      let m : State values = (frame f s).state in
+      let u : State values = (run fs m).state in
+      let ms : List (Moment V) = turns_moments i t order b in
+      let rest : List (Moment V) = moments i t fs m in
       let prep : Prepares s b = prepares laws.grow f.posts s in
       let keep = turns_keep order b in
       let ready : IsSoundState b = prepared_sound s b sound prep in
@@ -86,25 +88,34 @@ module _ (laws : BufferLaws) (i t : ℕ) where
             (rw (begun_alike b m i keep ∙ now) at later))
       ])
 
-pub runs_are_complete : BufferLaws → RunsAreComplete
-runs_are_complete laws frames s sound = record {
-  written = λ t. run_writes t laws frames s sound;
-  served = λ i t below has.
-      let ms : List Moment = moments i t frames s in
-      let reads = run_follows laws i t frames s sound below has in
-      let passes = reads.passes in
-      record {
-        forward = tiles_rise _ ms _ passes.tile;
-        once = tells_once _ ms _ passes.tile;
-        true = are_true _ _ ms _ passes.tile passes.begins passes.gives passes.earlier passes.written;
-        totals = reads.totals;
-      };
-}
+module _ {V : Type 0} {values : Values V} where
+  pub runs_are_complete : BufferLaws V → RunsAreComplete values
+  runs_are_complete laws frames s sound = record {
+    written = λ t. run_writes t laws frames s sound;
+    served = λ i t below has.
+        let ms : List (Moment V) = moments i t frames s in
+        let reads = run_follows laws i t frames s sound below has in
+        let passes = reads.passes in
+        record {
+          forward = tiles_rise _ ms _ passes.tile;
+          once = tells_once _ ms _ passes.tile;
+          true = are_true _ _ ms _ passes.tile passes.begins passes.gives passes.earlier passes.written;
+          totals = reads.totals;
+        };
+  }
 
-pub readers_tile : BufferLaws → ReadersTile
-readers_tile laws frames s sound i t below has =
-    let passes = (run_follows laws i t frames s sound below has).passes in
-    record { tile = passes.tile; gives = passes.gives }
+  pub readers_tile : BufferLaws V → ReadersTile values
+  readers_tile laws frames s sound i t below has =
+      let passes = (run_follows laws i t frames s sound below has).passes in
+      record { tile = passes.tile; gives = passes.gives }
 
-pub logs_tell : LogsTellEntries
-logs_tell i t frames s = (run_tells i t frames s).entries
+  pub logs_tell : LogsTellEntries values
+  logs_tell i t frames s = (run_tells i t frames s).entries
+
+  -- from a first state a reader was found with new accounts
+  pub accounts_begin : BufferLaws V → AccountsBeginAtTheStart values
+  accounts_begin laws systems places rules types world frames i t sound below has =
+      let s : State values = first_state systems places rules types world in
+      let served = (runs_are_complete laws frames s sound).served i t below has in
+      let new = first_accounts systems places rules types world i t (sound.joins i) in
+      grind (arith, cases_Bool, served.totals, new)

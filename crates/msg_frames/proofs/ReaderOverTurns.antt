@@ -6,77 +6,78 @@ use Rattle.msg_system.specs.{Prelude.Step, Prelude.after_job, Prelude.Needs, Pre
 use Rattle.msg_frames.specs.Prelude.{Member, member_after, Moment, State, Turn, after_turn_of, after_turns_of, replies_of, entries_told, logged_turn, moments_at, reader_place, turn_of, turns_steps, with_entries, Totals}
 use Rattle.msg_order.proofs.Elements.{Contains-tail, Contains-head}
 use Rattle.msg_frames.proofs.{ReaderOverJob.by_system, ReaderOverJob.steps_of, HistoriesGrow.BufferLaws, HistoriesGrow.Grows, HistoriesGrow.grown, HistoriesGrow.job_changes, HistoriesGrow.stays, SystemsStay.one_turn_keeps, ReaderOverJob.Passes, EntriesOfSteps.job_logged, ReaderOverJob.entries_are, ReaderOverJob.job_passes, ReaderOverJob.job_rule, ReaderOverJob.moments_of, ReaderOverJob.passes_further, ReaderOverJob.passes_nothing, EntriesAddUp.with_entries-append, EntriesAddUp.with_entries-none}
-use Rattle.msg_world.specs.{declared.record.Record.Record}
+use Rattle.msg_world.specs.{declared.record.Record.Record, Prelude.Values}
 
 -- Reader (i, t), which was given so much, goes past these moments from a place in a history on, up to a state.
-pub record ReadsFrom (i t place : ℕ) (had : Totals) (old : History Record) (ms : List Moment) (u : State) : Type 0 where
+pub record ReadsFrom {V : Type 0} {values : Values V} (i t place : ℕ) (had : Totals) (old : History (Record V)) (ms : List (Moment V)) (u : State values) : Type 0 where
   pub passes : Passes place old ms (reader_place u i t) (u.world.histories t)
   pub totals : (u.members i).totals t ≡ with_entries (map (λ m. m.entry) ms) had
 
-pub reads_these : {i t place : ℕ} {had : Totals} {old : History Record} {ms ns : List Moment} {u : State} → ms ≡ ns
-    → ReadsFrom i t place had old ns u → ReadsFrom i t place had old ms u
-reads_these same x = rw same x
+module _ {V : Type 0} {values : Values V} where
+  pub reads_these : {i t place : ℕ} {had : Totals} {old : History (Record V)} {ms ns : List (Moment V)} {u : State values} → ms ≡ ns
+      → ReadsFrom i t place had old ns u → ReadsFrom i t place had old ms u
+  reads_these same x = rw same x
 
--- it does so between two states
-abbrev pub Reads : ℕ → ℕ → State → List Moment → State → Type 0
-Reads i t s ms u = ReadsFrom i t (reader_place s i t) ((s.members i).totals t) (s.world.histories t) ms u
+  -- it does so between two states
+  abbrev pub Reads : ℕ → ℕ → State values → List (Moment V) → State values → Type 0
+  Reads i t s ms u = ReadsFrom i t (reader_place s i t) ((s.members i).totals t) (s.world.histories t) ms u
 
-pub reads_further : (i t : ℕ) (a : State) (ms : List Moment) (b : State) (ns : List Moment) (c : State)
-    → Reads i t a ms b → Reads i t b ns c → Reads i t a (ms ++ ns) c
-reads_further i t a ms b ns c x y =
-    let joins = map-append (λ (m : Moment). m.entry) ms ns in
-    let adds = with_entries-append (map (λ m. m.entry) ms) (map (λ m. m.entry) ns) ((a.members i).totals t) in
-    let passes = passes_further _ _ _ _ _ _ _ _ x.passes y.passes in
-    record { passes = passes; totals = rw (y.totals, x.totals, joins, adds) refl }
+  pub reads_further : (i t : ℕ) (a : State values) (ms : List (Moment V)) (b : State values) (ns : List (Moment V)) (c : State values)
+      → Reads i t a ms b → Reads i t b ns c → Reads i t a (ms ++ ns) c
+  reads_further i t a ms b ns c x y =
+      let joins = map-append (λ (m : Moment V). m.entry) ms ns in
+      let adds = with_entries-append (map (λ m. m.entry) ms) (map (λ m. m.entry) ns) ((a.members i).totals t) in
+      let passes = passes_further _ _ _ _ _ _ _ _ x.passes y.passes in
+      record { passes = passes; totals = rw (y.totals, x.totals, joins, adds) refl }
 
--- a member is as its turn leaves it, or as it was
-pub one_member : (P : Member → Type 0) (j i : ℕ) (s : State) → (i ≡ j → P (member_after (turn_of s i) (s.members i)))
-    → (¬ (i ≡ j) → P (s.members i)) → P ((after_turn_of j s).members i)
-one_member P j i s here other = grind (arith, eqb_tells)
+  -- a member is as its turn leaves it, or as it was
+  pub one_member : (P : Member V → Type 0) (j i : ℕ) (s : State values) → (i ≡ j → P (member_after (turn_of s i) (s.members i)))
+      → (¬ (i ≡ j) → P (s.members i)) → P ((after_turn_of j s).members i)
+  one_member P j i s here other = grind (arith, eqb_tells)
 
--- the moments of reader (i, t) in the turn of system j
-abbrev own_moments : ℕ → ℕ → ℕ → State → List Moment
-own_moments i t j s = cond (j == i) (moments_of t (after_job (s.members j).job s.world).steps) []
+  -- the moments of reader (i, t) in the turn of system j
+  abbrev own_moments : ℕ → ℕ → ℕ → State values → List (Moment V)
+  own_moments i t j s = cond (j == i) (moments_of t (after_job (s.members j).job s.world).steps) []
 
--- its moments in the turns of these systems
-abbrev pub turns_moments : ℕ → ℕ → List ℕ → State → List Moment
-turns_moments i t js s = moments_of t (steps_of i (turns_steps js s))
+  -- its moments in the turns of these systems
+  abbrev pub turns_moments : ℕ → ℕ → List ℕ → State values → List (Moment V)
+  turns_moments i t js s = moments_of t (steps_of i (turns_steps js s))
 
--- of the steps of system j, those of system i are all or none
-of_one : (i j : ℕ) (xs : List Step) → steps_of i (by_system j xs) ≡ cond (j == i) xs []
-of_one i j [] = grind (arith, cases_Bool)
-of_one i j (x ∷ xs) = grind (arith, cases_Bool, of_one i j xs)
+  -- of the steps of system j, those of system i are all or none
+  of_one : (i j : ℕ) (xs : List (Step values)) → steps_of i (by_system j xs) ≡ cond (j == i) xs []
+  of_one i j [] = grind (arith, cases_Bool)
+  of_one i j (x ∷ xs) = grind (arith, cases_Bool, of_one i j xs)
 
-pub steps_of-append : (i : ℕ) (xs ys : List (ℕ × Step)) → steps_of i (xs ++ ys) ≡ steps_of i xs ++ steps_of i ys
-steps_of-append i xs ys =
-    let own = λ (x : ℕ × Step). x.0 == i in
-    rw (filter-append own xs ys, map-append (λ (x : ℕ × Step). x.1) (filter own xs) (filter own ys)) refl
+  pub steps_of-append : (i : ℕ) (xs ys : List (ℕ × Step values)) → steps_of i (xs ++ ys) ≡ steps_of i xs ++ steps_of i ys
+  steps_of-append i xs ys =
+      let own = λ (x : ℕ × Step values). x.0 == i in
+      rw (filter-append own xs ys, map-append (λ (x : ℕ × Step values). x.1) (filter own xs) (filter own ys)) refl
 
-turns_further : (i t j : ℕ) (js : List ℕ) (s : State)
-    → turns_moments i t (j ∷ js) s ≡ own_moments i t j s ++ turns_moments i t js (after_turn_of j s)
-turns_further i t j js s =
-    let xs : List Step = (after_job (s.members j).job s.world).steps in
-    let ys : List (ℕ × Step) = turns_steps js (after_turn_of j s) in
-    grind (
-      arith,
-      cases_Bool,
-      steps_of-append i (by_system j xs) ys,
-      of_one i j xs,
-      flat_map-append (moments_at t) (steps_of i (by_system j xs)) (steps_of i ys),
-    )
+  turns_further : (i t j : ℕ) (js : List ℕ) (s : State values)
+      → turns_moments i t (j ∷ js) s ≡ own_moments i t j s ++ turns_moments i t js (after_turn_of j s)
+  turns_further i t j js s =
+      let xs : List (Step values) = (after_job (s.members j).job s.world).steps in
+      let ys : List (ℕ × Step values) = turns_steps js (after_turn_of j s) in
+      grind (
+        arith,
+        cases_Bool,
+        steps_of-append i (by_system j xs) ys,
+        of_one i j xs,
+        flat_map-append (moments_at t) (steps_of i (by_system j xs)) (steps_of i ys),
+      )
 
-module _ (laws : BufferLaws) where
-  pub turn_reads : (i t j : ℕ) (s : State) → IsSound (s.world.histories t)
+module _ {V : Type 0} {values : Values V} (laws : BufferLaws V) where
+  pub turn_reads : (i t j : ℕ) (s : State values) → IsSound (s.world.histories t)
       → reader_place s i t ≤ count (s.world.histories t) → Reads i t s (own_moments i t j s) (after_turn_of j s)
   turn_reads i t j s sound within =
       let own = job_passes laws t (s.members i).job s.world sound within in
       let none = passes_nothing _ _ _ within (job_changes Grows (grown laws.grow) (s.members j).job s.world t sound) in
-      grind (arith, eqb_tells, entries_are t (after_job (s.members i).job s.world).steps, none, own, with_entries-none)
+      grind (arith, eqb_tells, entries_are t (after_job (s.members i).job s.world).steps, none, own, with_entries-none V)
 
-  pub turns_read : (i t : ℕ) (js : List ℕ) (s : State) → IsSound (s.world.histories t)
+  pub turns_read : (i t : ℕ) (js : List ℕ) (s : State values) → IsSound (s.world.histories t)
       → reader_place s i t ≤ count (s.world.histories t)
       → Reads i t s (turns_moments i t js s) (after_turns_of js s).state
-  turns_read i t [] s sound within = grind (arith, passes_nothing, stays, with_entries-none)
+  turns_read i t [] s sound within = grind (arith, passes_nothing, stays, with_entries-none V)
   turns_read i t (j ∷ js) s sound within =
       let first = turn_reads i t j s sound within in
       reads_these (turns_further i t j js s) (reads_further i t s (own_moments i t j s) (after_turn_of j s) _ _ first
@@ -84,60 +85,62 @@ module _ (laws : BufferLaws) where
 
 -- ---- what the log has of system i among these turns
 
-abbrev pub answers_among : ℕ → List Turn → List (List Reply)
-answers_among i turns = flat_map (λ turn. cond (turn.system == i) (replies_of turn.outcome) []) turns
+module _ {V : Type 0} where
+  abbrev pub answers_among : ℕ → List (Turn V) → List (List (Reply V))
+  answers_among i turns = flat_map (λ turn. cond (turn.system == i) (replies_of turn.outcome) []) turns
 
--- a rule, after turns that were answered so
-abbrev pub after_told : List (List Reply) → Rule → Rule
-after_told turns rule = λ later now. rule (turns ++ later) now
+  -- a rule, after turns that were answered so
+  abbrev pub after_told : List (List (Reply V)) → Rule V → Rule V
+  after_told turns rule = λ later now. rule (turns ++ later) now
 
-pub entries_told-append : (t : ℕ) (n : Needs) (rule : Rule) (xs ys : List (List Reply))
-    → entries_told t n rule (xs ++ ys) ≡ entries_told t n rule xs ++ entries_told t n (after_told xs rule) ys
-entries_told-append t n rule [] ys = refl
-entries_told-append t n rule (x ∷ xs) ys =
-    grind (arith, append_assoc, entries_told-append t n (after_told (x ∷ []) rule) xs ys)
+  pub entries_told-append : (t : ℕ) (n : Needs) (rule : Rule V) (xs ys : List (List (Reply V)))
+      → entries_told t n rule (xs ++ ys) ≡ entries_told t n rule xs ++ entries_told t n (after_told xs rule) ys
+  entries_told-append t n rule [] ys = refl
+  entries_told-append t n rule (x ∷ xs) ys =
+      grind (arith, append_assoc, entries_told-append t n (after_told (x ∷ []) rule) xs ys)
 
 -- what the turn of system j tells of system i, and what system i does from then on
-pub record Tells (i t : ℕ) (s : State) (turns : List (List Reply)) (ms : List Moment) (u : State) : Type 0 where
+pub record Tells {V : Type 0} {values : Values V} (i t : ℕ) (s : State values) (turns : List (List (Reply V))) (ms : List (Moment V)) (u : State values) : Type 0 where
   pub entries : entries_told t (s.members i).job.system.needs (s.members i).job.system.rule turns
       ≡ map (λ m. m.entry) ms
   pub rule : (u.members i).job.system.rule ≡ after_told turns (s.members i).job.system.rule
   pub needs : (u.members i).job.system.needs ≡ (s.members i).job.system.needs
 
-pub tells_further : (i t : ℕ) (a : State) (xs : List (List Reply)) (ms : List Moment) (b : State)
-    (ys : List (List Reply)) (ns : List Moment) (c : State)
-    → Tells i t a xs ms b → Tells i t b ys ns c → Tells i t a (xs ++ ys) (ms ++ ns) c
-tells_further i t a xs ms b ys ns c x y =
-    let m = (a.members i).job.system in
-    grind (arith, append_assoc, entries_told-append t m.needs m.rule xs ys, map-append)
+module _ {V : Type 0} {values : Values V} where
+  pub tells_further : (i t : ℕ) (a : State values) (xs : List (List (Reply V))) (ms : List (Moment V)) (b : State values)
+      (ys : List (List (Reply V))) (ns : List (Moment V)) (c : State values)
+      → Tells i t a xs ms b → Tells i t b ys ns c → Tells i t a (xs ++ ys) (ms ++ ns) c
+  tells_further i t a xs ms b ys ns c x y =
+      let m = (a.members i).job.system in
+      grind (arith, append_assoc, entries_told-append t m.needs m.rule xs ys, map-append)
 
-pub tells_these : {i t : ℕ} {s : State} {xs : List (List Reply)} {ms ns : List Moment} {u : State} → ms ≡ ns
-    → Tells i t s xs ns u → Tells i t s xs ms u
-tells_these same x = rw same x
+  pub tells_these : {i t : ℕ} {s : State values} {xs : List (List (Reply V))} {ms ns : List (Moment V)} {u : State values} → ms ≡ ns
+      → Tells i t s xs ns u → Tells i t s xs ms u
+  tells_these same x = rw same x
 
-turn_tells : (i t j : ℕ) (s : State) → Tells i t s (cond (j == i) (replies_of (logged_turn s j).outcome) [])
-    (own_moments i t j s) (after_turn_of j s)
-turn_tells i t j s = record {
-  entries = grind (arith, eqb_tells, job_logged t (s.members i).job s.world, entries_are t (after_job (s.members i).job s.world).steps);
-  rule = elim (cases_eq j i) [
-    | inl e ↦ rw (eq-eqb j i e, eq-eqb i j (sym e)) (rw e (job_rule (s.members i).job s.world))
-    | inr ne ↦ rw (ne_eqb j i ne, ne_eqb i j (λ x. ne (sym x))) refl
-  ];
-  needs = ((one_turn_keeps j s).members i).needs;
-}
+  turn_tells : (i t j : ℕ) (s : State values) → Tells i t s (cond (j == i) (replies_of (logged_turn s j).outcome) [])
+      (own_moments i t j s) (after_turn_of j s)
+  turn_tells i t j s = record {
+    entries = grind (arith, eqb_tells, job_logged t (s.members i).job s.world, entries_are t (after_job (s.members i).job s.world).steps);
+    rule = elim (cases_eq j i) [
+      | inl e ↦ rw (eq-eqb j i e, eq-eqb i j (sym e)) (rw e (job_rule (s.members i).job s.world))
+      | inr ne ↦ rw (ne_eqb j i ne, ne_eqb i j (λ x. ne (sym x))) refl
+    ];
+    needs = ((one_turn_keeps j s).members i).needs;
+  }
 
-pub turns_tell : (i t : ℕ) (js : List ℕ) (s : State)
-    → Tells i t s (answers_among i (after_turns_of js s).turns) (turns_moments i t js s) (after_turns_of js s).state
-turns_tell i t [] s = record { entries = refl; rule = refl; needs = refl }
-turns_tell i t (j ∷ js) s =
-    tells_these (turns_further i t j js s)
-    (tells_further i t s (cond (j == i) (replies_of (logged_turn s j).outcome) []) (own_moments i t j s) _ _ _ _
-    (turn_tells i t j s) (turns_tell i t js (after_turn_of j s)))
+  pub turns_tell : (i t : ℕ) (js : List ℕ) (s : State values)
+      → Tells i t s (answers_among i (after_turns_of js s).turns) (turns_moments i t js s) (after_turns_of js s).state
+  turns_tell i t [] s = record { entries = refl; rule = refl; needs = refl }
+  turns_tell i t (j ∷ js) s =
+      tells_these (turns_further i t j js s)
+      (tells_further i t s (cond (j == i) (replies_of (logged_turn s j).outcome) []) (own_moments i t j s) _ _ _ _
+      (turn_tells i t j s) (turns_tell i t js (after_turn_of j s)))
 
--- one whose turn doesn't come
-pub turns_skip : (i t : ℕ) (js : List ℕ) (s : State) → ¬ Contains js i
-    → ((after_turns_of js s).state.members i ≡ s.members i) × (turns_moments i t js s ≡ [])
-turns_skip i t [] s out = (refl, refl)
-turns_skip i t (j ∷ js) s out =
-    let rest = turns_skip i t js (after_turn_of j s) (λ at. out (Contains-tail j js i at)) in
-    grind (arith, eqb_tells j i, eqb_tells i j, Contains-head j js, rest, turns_further i t j js s)
+  -- one whose turn doesn't come
+  pub turns_skip : (i t : ℕ) (js : List ℕ) (s : State values) → ¬ Contains js i
+      → ((after_turns_of js s).state.members i ≡ s.members i) × (turns_moments i t js s ≡ [])
+  turns_skip i t [] s out = (refl, refl)
+  turns_skip i t (j ∷ js) s out =
+      let rest = turns_skip i t js (after_turn_of j s) (λ at. out (Contains-tail j js i at)) in
+      grind (arith, eqb_tells j i, eqb_tells i j, Contains-head j js, rest, turns_further i t j js s)

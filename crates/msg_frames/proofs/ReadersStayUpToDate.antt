@@ -1,49 +1,52 @@
 -- A reader that reads all in each frame is up to date, and so it misses nothing.
-use Rattle.std.proofs.Common.{◌≡◌, ℕ, suc, ◌<◌, ◌≤◌, List, [], ◌∷◌, ◌++◌, map, All, Contains, arith, get_or, IsTrue}
+use Rattle.std.proofs.Common.{◌≡◌, ℕ, suc, ◌<◌, ◌≤◌, List, [], ◌∷◌, ◌++◌, map, All, Contains, arith, get_or, IsTrue, inl, inr}
 use Rattle.std.proofs.lemmas.{Bool.cases_Bool, Bool.cases_eq, Bool.false≢true, Option.same_Some, Option.slice_get_cases, Option.slice_get_within, List.append-nil, List.Elements.All-append, List.Elements.All-cons, List.Elements.All-head, List.Elements.All-map, List.Elements.All-nil, List.Elements.All-tail, Bool.Decides.nat_tests}
 use Rattle.msg_buffer.specs.Prelude.{Entry, Fits, GoesOn, History, IsPresent, Stretch, Tile, count, next_place, update}
-use Rattle.msg_world.specs.{Prelude.after_update, declared.record.Record.Record}
+use Rattle.msg_world.specs.{Prelude.after_update, declared.record.Record.Record, Prelude.Values}
 use Rattle.msg_frames.proofs.{ElementsAndPairs.Cut, ElementsAndPairs.cut, HistoriesGrow.BufferLaws, HistoriesGrow.counts_more, HistoriesGrow.Grows, HistoriesGrow.frame_goes_on, HistoriesGrow.grown, HistoriesGrow.posts_change, HistoriesGrow.runs_go_on, HistoriesGrow.turns_change, SystemsStay.joining_world, SystemsStay.turns_keep, SystemsStay.frame_keeps, ReaderOverJob.IsWritten, ReaderOverJob.tile_of, ReaderOverTurns.turns_moments, ReaderOverTurns.turns_read, BeforeTurns.Prepares, BeforeTurns.prepares, StatesStaySound.begun_alike, StatesStaySound.frame_sound, StatesStaySound.has_no_turn, StatesStaySound.prepared_sound, ReaderOverRun.run_further, StampsStayRecent.AreRecent, StampsStayRecent.StaysRecent, StampsStayRecent.earlier_recent, StampsStayRecent.stays_recent, ReadersTakeAll.takes_by_turn}
 use Rattle.msg_frames.specs.Prelude.{Frame, IsSoundState, IsUpToDate, frame, run, Moment, NothingDrained, ReadsAll, ReadsAllInEach, State, WhoIsUpToDateMissesNothing, WhoReadsEachFrameMissesNothing, after_turns_of, before_turns, has_begun, after_joining, moments, reader_place}
 use Rattle.msg_frames.specs.Frames.{turn_order}
 
--- a message that was written at most one update ago, and stands at the floor or above
-pub is_there : (p : ℕ) (h : History Record) (n : ℕ) → AreRecent 1 p h → p ≤ n → h.floor ≤ n → n < count h
-    → IsPresent h n
-is_there p h n recent above floor within =
-    grind (arith, (slice_get_cases h.entries n).1, nat_tests, λ (e : Entry Record). recent n e above)
+module _ {V : Type 0} where
+  -- a message that was written at most one update ago, and stands at the floor or above
+  pub is_there : (p : ℕ) (h : History (Record V)) (n : ℕ) → AreRecent 1 p h → p ≤ n → h.floor ≤ n → n < count h
+      → IsPresent h n
+  is_there p h n recent above floor within = elim (slice_get_cases h.entries n).1 [
+    | inl found ↦ (found.0, found.2, grind (arith, nat_tests, recent n found.0 above found.2))
+    | inr past ↦ absurd (omega (arith, past.0, within))
+  ]
 
--- a stretch that fits where all is present misses nothing
-none_missed : (h : History Record) (place : ℕ) (s : Stretch) → Fits h place s → next_place s ≤ count h
-    → ((n : ℕ) → place ≤ n → n < count h → IsPresent h n) → s.missed ≡ 0
-none_missed h place s fits within all = grind (arith, cases_eq)
+  -- a stretch that fits where all is present misses nothing
+  none_missed : (h : History (Record V)) (place : ℕ) (s : Stretch) → Fits h place s → next_place s ≤ count h
+      → ((n : ℕ) → place ≤ n → n < count h → IsPresent h n) → s.missed ≡ 0
+  none_missed h place s fits within all = grind (arith, cases_eq)
 
--- the entries of these moments miss nothing
-abbrev pub NoneMissed : List Moment → Type 0
-NoneMissed ms = All (λ m. m.entry.stretch.missed ≡ 0) ms
+  -- the entries of these moments miss nothing
+  abbrev pub NoneMissed : List (Moment V) → Type 0
+  NoneMissed ms = All (λ m. m.entry.stretch.missed ≡ 0) ms
 
--- all that stands from p on is present at each of these moments
-abbrev pub AllPresent : ℕ → List Moment → Type 0
-AllPresent p ms = All (λ m. (n : ℕ) → p ≤ n → n < count m.history → IsPresent m.history n) ms
+  -- all that stands from p on is present at each of these moments
+  abbrev pub AllPresent : ℕ → List (Moment V) → Type 0
+  AllPresent p ms = All (λ m. (n : ℕ) → p ≤ n → n < count m.history → IsPresent m.history n) ms
 
-pub tile_misses_none : (p place : ℕ) (ms : List Moment) (to : ℕ) → Tile place (map tile_of ms) to → All IsWritten ms
-    → AllPresent p ms → p ≤ place → NoneMissed ms
-tile_misses_none p place [] to tile written there above = All-nil (λ m. m.entry.stretch.missed ≡ 0)
-tile_misses_none p place (m ∷ ms) to tile written there above =
-    let rest = tile_misses_none p (next_place m.entry.stretch) ms to tile.1 (All-tail IsWritten m ms written) in
-    let here = none_missed m.history place m.entry.stretch tile.0 (All-head IsWritten m ms written) in
-    All-cons (λ m. m.entry.stretch.missed ≡ 0) m ms (grind (arith, here, there 0 m (omega arith), above))
-    (rest (λ k d lt. there (suc k) d (omega arith)) (omega (arith, tile.0.first)))
+  pub tile_misses_none : (p place : ℕ) (ms : List (Moment V)) (to : ℕ) → Tile place (map tile_of ms) to → All IsWritten ms
+      → AllPresent p ms → p ≤ place → NoneMissed ms
+  tile_misses_none p place [] to tile written there above = All-nil (λ m. m.entry.stretch.missed ≡ 0)
+  tile_misses_none p place (m ∷ ms) to tile written there above =
+      let rest = tile_misses_none p (next_place m.entry.stretch) ms to tile.1 (All-tail IsWritten m ms written) in
+      let here = none_missed m.history place m.entry.stretch tile.0 (All-head IsWritten m ms written) in
+      All-cons (λ m. m.entry.stretch.missed ≡ 0) m ms (here (λ n from lt. there 0 m (omega arith) n (omega (arith, above, from)) lt))
+      (rest (λ k d lt. there (suc k) d (omega arith)) (omega (arith, tile.0.first)))
 
-module _ (laws : BufferLaws) where
-  module _ (f : Frame) (s : State) (i t : ℕ) (sound : IsSoundState s) (below : t < s.types) where
-    abbrev b : State
+module _ {V : Type 0} {values : Values V} (laws : BufferLaws V) where
+  module _ (f : Frame V) (s : State values) (i t : ℕ) (sound : IsSoundState s) (below : t < s.types) where
+    abbrev b : State values
     b = before_turns f.posts s
 
     abbrev order : List ℕ
     order = turn_order b
 
-    abbrev u : State
+    abbrev u : State values
     u = (frame f s).state
 
     prep : Prepares s b
@@ -84,7 +87,7 @@ module _ (laws : BufferLaws) where
         is_there p (update (u.world.histories t)) n (λ k e from at. omega (arith, frame_recent 0 p updated k e from at))
         (omega arith) (omega (arith, drained, (sound.histories t below).floor)) within
 
-    present_at : (ms : List Moment) → IsUpToDate s i t → NothingDrained t s u
+    present_at : (ms : List (Moment V)) → IsUpToDate s i t → NothingDrained t s u
         → All (λ m. GoesOn m.history (u.world.histories t)) ms → AllPresent (reader_place s i t) ms
     present_at ms up drained goes k d lt n above within =
         let p : ℕ = reader_place s i t in
@@ -110,13 +113,13 @@ module _ (laws : BufferLaws) where
 
   -- The state between a frame and the frames after it is sound, has as many types, and nothing was drained before or
   -- after it.
-  record Between (t : ℕ) (s m u : State) : Type 0 where
+  record Between (t : ℕ) (s m u : State values) : Type 0 where
     sound : IsSoundState m
     below : t < m.types
     first : NothingDrained t s m
     rest : NothingDrained t m u
 
-  between : (f : Frame) (frames : List Frame) (s : State) (t : ℕ) → IsSoundState s → t < s.types
+  between : (f : Frame V) (frames : List (Frame V)) (s : State values) (t : ℕ) → IsSoundState s → t < s.types
       → NothingDrained t s (run (f ∷ frames) s).state
       → Between t s (frame f s).state (run (f ∷ frames) s).state
   between f frames s t sound below drained =
@@ -127,12 +130,12 @@ module _ (laws : BufferLaws) where
       grind (arith, frame_sound laws f s sound, goes, types, later, drained)
 
   -- who reads all in a frame misses nothing in the frames after it, in each of which it reads all
-  missed_after : (f : Frame) (frames : List Frame) (s : State) (i t : ℕ) → IsSoundState s → t < s.types
+  missed_after : (f : Frame V) (frames : List (Frame V)) (s : State values) (i t : ℕ) → IsSoundState s → t < s.types
       → ReadsAllInEach i t (f ∷ frames) s → NothingDrained t s (run (f ∷ frames) s).state
       → NoneMissed (moments i t frames (frame f s).state)
   missed_after f [] s i t sound below each drained = All-nil (λ m. m.entry.stretch.missed ≡ 0)
   missed_after f (g ∷ gs) s i t sound below each drained =
-      let m : State = (frame f s).state in
+      let m : State values = (frame f s).state in
       let mid : Between t s m (run (g ∷ gs) m).state = between f (g ∷ gs) s t sound below drained in
       let next : Between t m (frame g m).state (run (g ∷ gs) m).state = between g gs m t mid.sound mid.below mid.rest in
       let now = now_up_to_date f s i t sound below each.0 mid.first in
@@ -140,12 +143,12 @@ module _ (laws : BufferLaws) where
       (frame_misses_none g m i t mid.sound mid.below (joined_by_turn f s i t sound below each.0.has_turn) now next.first)
       (missed_after g gs m i t mid.sound mid.below each.1 mid.rest))
 
-  pub misses_nothing : WhoIsUpToDateMissesNothing
+  pub misses_nothing : WhoIsUpToDateMissesNothing values
   misses_nothing f s i t sound below has up drained =
       let none = frame_misses_none f s i t sound below has up drained in
       rw (run_further i t f [] s, append-nil (turns_moments i t (turn_order (before_turns f.posts s)) (before_turns f.posts s)))
       (All-map (λ e. e.stretch.missed ≡ 0) _ _ none)
 
-  pub never_misses : WhoReadsEachFrameMissesNothing
+  pub never_misses : WhoReadsEachFrameMissesNothing values
   never_misses f frames s i t sound below each drained =
       All-map (λ e. e.stretch.missed ≡ 0) _ _ (missed_after f frames s i t sound below each drained)

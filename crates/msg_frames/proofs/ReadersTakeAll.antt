@@ -3,20 +3,20 @@ use Rattle.std.proofs.Common.{◌≡◌, ◌≢◌, ℕ, zero, suc, ◌≤◌, L
 use Rattle.std.specs.List.{list_any}
 use Rattle.std.proofs.lemmas.{Bool.cases_Bool, Bool.false≢true, Bool.or_cases, List.Folds.list_any-append, Bool.Decides.eqb_tells}
 use Rattle.msg_buffer.specs.Prelude.{IsSound, count}
-use Rattle.msg_world.specs.Prelude.{WorldState}
+use Rattle.msg_world.specs.Prelude.{WorldState, Values}
 use Rattle.msg_system.specs.{Prelude.AfterProgram, Prelude.Meaning, Prelude.after_at_most, Prelude.after_op, Prelude.next_op, Prelude.one_more, Prelude.ops_answered, Prelude.turn, declared.op.Op.Op}
 use Rattle.msg_system.proofs.Turns.{ops_answered-snoc}
 use Rattle.msg_frames.specs.Prelude.{Skipped, State, after_turn_of, after_turns_of, logged_turn, reader_place, reads_all}
 use Rattle.msg_frames.proofs.{HistoriesGrow.BufferLaws, HistoriesGrow.counts_more, TellsEachOnce.tiles_rise, ReaderOverJob.first_passes, ReaderOverJob.next_moments, ReaderOverJob.next_passes, ReaderOverTurns.one_member, ReaderOverTurns.turn_reads}
 
-module _ (laws : BufferLaws) (t : ℕ) where
-  op_takes_all : (op : Op) (writer : ℕ) (ps : ℕ → ℕ) (w : WorldState) → IsSound (w.histories t)
+module _ {V : Type 0} {values : Values V} (laws : BufferLaws V) (t : ℕ) where
+  op_takes_all : (op : Op V) (writer : ℕ) (ps : ℕ → ℕ) (w : WorldState values) → IsSound (w.histories t)
       → ps t ≤ count (w.histories t) → IsTrue (reads_all t op)
       → (after_op op writer ps w).places t ≡ count (w.histories t)
   op_takes_all op writer ps w sound within is = grind (arith, eqb_tells)
 
   -- so it does by one op more, or it did before
-  more_takes : (o : Option Op) (m : Meaning) (far : AfterProgram) (c : ℕ) → next_op m far.replies ≡ o
+  more_takes : (o : Option (Op V)) (m : Meaning V) (far : AfterProgram values) (c : ℕ) → next_op m far.replies ≡ o
       → IsSound (far.state.histories t)
       → far.places t ≤ count (far.state.histories t) → c ≤ count (far.state.histories t)
       → (IsTrue (list_any (reads_all t) (ops_answered (next_op m) far.replies)) → c ≤ far.places t)
@@ -28,27 +28,27 @@ module _ (laws : BufferLaws) (t : ℕ) where
       let rise = tiles_rise (far.places t) (next_moments t (Some op) m.writer far) _ next.tile in
       grind (arith, list_any-append, op_takes_all, ops_answered-snoc, or_cases, rise)
 
-  first_takes : (n : ℕ) (m : Meaning) (w : WorldState) → IsSound (w.histories t) → m.places t ≤ count (w.histories t) →
-      let far : AfterProgram = after_at_most n (next_op m) m.writer m.places w in
+  first_takes : (n : ℕ) (m : Meaning V) (w : WorldState values) → IsSound (w.histories t) → m.places t ≤ count (w.histories t) →
+      let far : AfterProgram values = after_at_most n (next_op m) m.writer m.places w in
       IsTrue (list_any (reads_all t) (ops_answered (next_op m) far.replies)) → count (w.histories t) ≤ far.places t
   first_takes zero m w sound within is = absurd (false≢true is)
   first_takes (suc n) m w sound within is =
-      let far : AfterProgram = after_at_most n (next_op m) m.writer m.places w in
+      let far : AfterProgram values = after_at_most n (next_op m) m.writer m.places w in
       let so_far = first_passes laws t n m w sound within in
       more_takes (next_op m far.replies) m far _ refl so_far.goes_on.sound so_far.within
       (counts_more _ _ so_far.goes_on) (first_takes n m w sound within) is
 
-  turn_takes : (m : Meaning) (w : WorldState) → IsSound (w.histories t) → m.places t ≤ count (w.histories t)
+  turn_takes : (m : Meaning V) (w : WorldState values) → IsSound (w.histories t) → m.places t ≤ count (w.histories t)
       → IsTrue (list_any (reads_all t) (ops_answered (next_op m) (turn m w).replies))
       → count (w.histories t) ≤ (turn m w).places t
   unfolding turn
   turn_takes m w sound within is = first_takes 64 m w sound within is
 
   -- where the last ops of system i read all, it stands at c or after it
-  abbrev Took : ℕ → ℕ → State → Type 0
+  abbrev Took : ℕ → ℕ → State values → Type 0
   Took i c s = IsTrue (list_any (reads_all t) (s.members i).job.system.last) → c ≤ reader_place s i t
 
-  turns_keep_it : (i c : ℕ) (js : List ℕ) (s : State) → IsSound (s.world.histories t)
+  turns_keep_it : (i c : ℕ) (js : List ℕ) (s : State values) → IsSound (s.world.histories t)
       → reader_place s i t ≤ count (s.world.histories t) → c ≤ count (s.world.histories t)
       → Took i c s → Took i c (after_turns_of js s).state
   turns_keep_it i c [] s sound within less has = has
@@ -57,7 +57,7 @@ module _ (laws : BufferLaws) (t : ℕ) where
       turns_keep_it i c js (after_turn_of j s) first.goes_on.sound first.within
       (omega (arith, less, counts_more _ _ first.goes_on)) (grind (arith, cases_Bool, one_member, turn_takes))
 
-  pub takes_by_turn : (i : ℕ) (earlier later : List ℕ) (b : State) → IsSound (b.world.histories t)
+  pub takes_by_turn : (i : ℕ) (earlier later : List ℕ) (b : State values) → IsSound (b.world.histories t)
       → reader_place b i t ≤ count (b.world.histories t)
       → All (λ turn. turn.system ≡ i → turn.outcome ≢ Skipped) (after_turns_of (earlier ++ i ∷ later) b).turns
       → Took i (count ((after_turns_of earlier b).state.world.histories t))

@@ -1,7 +1,7 @@
 -- What the two readers of a worked row are given, miss and clear. A host posts three messages, then none, then one.
 -- One system reads a message in each frame; another joins with the third frame and clears.
-use Rattle.std.proofs.Common.{◌≡◌, List, [], ◌∷◌, Some, pos, refl}
-use Rattle.msg_world.specs.{Prelude.by, declared.record.TheConstants.HOST}
+use Rattle.std.proofs.Common.{◌≡◌, List, [], ◌∷◌, Some, pos, refl, ℤ}
+use Rattle.msg_world.specs.{Prelude.by, declared.record.TheConstants.HOST, Prelude.i64_values}
 use Rattle.msg_system.specs.{Prelude.turn, declared.op.Op.TheVariants.Read, declared.op.Op.TheVariants.Clear}
 use Rattle.msg_frames.specs.Prelude.{AfterRun, ReadEntry, Setup, State, cleared, found_at, given, log_entries, messages_given, missed, numbers_of, reader_place, program, setup_state}
 use Rattle.msg_frames.specs.Rows.{always, from_frame, post, run_of, setup}
@@ -11,14 +11,14 @@ abbrev readers : Setup
 readers =
     setup (program (Read 0 (Some 1) ∷ []) ∷ program (Clear 0 ∷ []) ∷ []) (always ∷ from_frame 3 ∷ []) [] (9 ∷ []) []
 
-abbrev start : State
+abbrev start : State i64_values
 start = setup_state readers
 
 -- by the third frame the messages of the first are dropped
-abbrev end : AfterRun
+abbrev end : AfterRun i64_values
 end = run_of (((0, pos 5) ∷ (0, pos 6) ∷ (0, pos 7) ∷ []) ∷ [] ∷ post (pos 8) ∷ []) readers
 
-abbrev read : List ReadEntry
+abbrev read : List (ReadEntry ℤ)
 read = log_entries 0 0 (start.members 0).job.system end.logs
 
 -- two are read before the third is dropped, and then the fourth
@@ -28,7 +28,7 @@ read_row : (numbers_of given read ≡ 0 ∷ 1 ∷ 3 ∷ []) × (numbers_of misse
 unfolding turn turn_order settled_order parts
 read_row = (refl, refl, refl, refl, refl)
 
-abbrev swept : List ReadEntry
+abbrev swept : List (ReadEntry ℤ)
 swept = log_entries 1 0 (start.members 1).job.system end.logs
 
 -- the other begins at 0, too late for the first three

@@ -6,6 +6,7 @@ use Rattle.msg_frames.specs.Frames.{turn_order}
 use Rattle.msg_frames.proofs.{ElementsAndPairs.pairs_tail, FramesInOrder.in_that_order, StatesStaySound.has_one_turn, ReaderOverTurns.answers_among}
 use Rattle.msg_order.proofs.Elements.{Contains-cases, not_in_none, Contains-list_any}
 use Rattle.std.specs.List.{list_any}
+use Rattle.msg_world.specs.Prelude.{Values}
 
 -- ---- what is told under one key, in a list in which each key stands once
 
@@ -54,20 +55,21 @@ once_moved xs ys moved once =
     AllPairs-from_IsDistinct Decides-eqb xs (IsDistinct-IsPermutation eqb eqb_flips ys xs
     (IsPermutation-sym xs ys moved) (IsDistinct-from_AllPairs Decides-eqb ys once))
 
--- what tells the same as a frame tells each system what the frame tells it, in which each has one turn
-turns_alike : (f : Frame) (s : State) (log : Log) → TellsTheSame log (frame f s).log → (i : ℕ)
-    → answers_among i log.turns ≡ answers_among i (frame f s).log.turns
-turns_alike f s log tells i =
-    let b : State = before_turns f.posts s in
-    let system = λ (turn : Turn). turn.system in
-    let once : AllPairs (λ a b. a ≢ b) (map system (frame f s).log.turns) =
-    rw (in_that_order f (turn_order b) s (frame f s).log refl) (has_one_turn b) in
-    told_alike system (λ (turn : Turn). replies_of turn.outcome) i log.turns (frame f s).log.turns tells.turns
-    (once_moved _ _ (IsPermutation-map system log.turns (frame f s).log.turns tells.turns) once) once
+module _ {V : Type 0} {values : Values V} where
+  -- what tells the same as a frame tells each system what the frame tells it, in which each has one turn
+  turns_alike : (f : Frame V) (s : State values) (log : Log V) → TellsTheSame log (frame f s).log → (i : ℕ)
+      → answers_among i log.turns ≡ answers_among i (frame f s).log.turns
+  turns_alike f s log tells i =
+      let b : State values = before_turns f.posts s in
+      let system = λ (turn : Turn V). turn.system in
+      let once : AllPairs (λ a b. a ≢ b) (map system (frame f s).log.turns) =
+      rw (in_that_order f (turn_order b) s (frame f s).log refl) (has_one_turn b) in
+      told_alike system (λ (turn : Turn V). replies_of turn.outcome) i log.turns (frame f s).log.turns tells.turns
+      (once_moved _ _ (IsPermutation-map system log.turns (frame f s).log.turns tells.turns) once) once
 
-pub replays_tell : ReplaysTellTheSame
-replays_tell [] s [] tells i = refl
-replays_tell [] s (log ∷ logs) tells i = absurd tells
-replays_tell (f ∷ fs) s [] tells i = absurd tells
-replays_tell (f ∷ fs) s (log ∷ logs) tells i =
-    grind (arith, turns_alike f s log tells.0 i, replays_tell fs (frame f s).state logs tells.1 i)
+  pub replays_tell : ReplaysTellTheSame values
+  replays_tell [] s [] tells i = refl
+  replays_tell [] s (log ∷ logs) tells i = absurd tells
+  replays_tell (f ∷ fs) s [] tells i = absurd tells
+  replays_tell (f ∷ fs) s (log ∷ logs) tells i =
+      grind (arith, turns_alike f s log tells.0 i, replays_tell fs (frame f s).state logs tells.1 i)

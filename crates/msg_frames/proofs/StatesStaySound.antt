@@ -5,46 +5,50 @@ use Rattle.msg_frames.specs.Prelude.{FrameStaysSound, IsBalanced, IsSoundState, 
 use Rattle.msg_frames.specs.Frames.{settled_order, turn_order}
 use Rattle.msg_order.proofs.Functions.{turns_differ, turns_joined}
 use Rattle.msg_frames.proofs.{HistoriesGrow.BufferLaws, HistoriesGrow.counts_more, SystemsStay.turns_keep, SystemsStay.no_cycle_stays, SystemsStay.uses_stay, SystemsStay.joined_below, EntriesAddUp.all_told, TellsEachOnce.tells_once, TellsEachOnce.tiles_rise, ReaderOverTurns.Reads, ReaderOverTurns.turns_moments, ReaderOverTurns.turns_read, ReaderOverTurns.turns_skip, BeforeTurns.Prepares, BeforeTurns.begun_within, BeforeTurns.comes, BeforeTurns.prepares, BeforeTurns.stood, BeforeTurns.waits}
+use Rattle.msg_world.specs.Prelude.{Values}
 
--- one that waits has no turn
-pub has_no_turn : (b : State) (i : ℕ) → IsFalse (has_begun b i) → ¬ Contains (turn_order b) i
-unfolding turn_order
-has_no_turn b i isnt at =
-    let joined = turns_joined (settled_order b) (join_flags b) i at in
-    grind (arith, false≢true, get_or-map-range_with_len, joined_below, joined)
+module _ {V : Type 0} {values : Values V} where
+  -- one that waits has no turn
+  pub has_no_turn : (b : State values) (i : ℕ) → IsFalse (has_begun b i) → ¬ Contains (turn_order b) i
+  unfolding turn_order
+  has_no_turn b i isnt at =
+      let joined = turns_joined (settled_order b) (join_flags b) i at in
+      grind (arith, false≢true, get_or-map-range_with_len, joined_below b i joined)
 
--- who has a turn is one of the systems
-pub turn_below : (b : State) (i : ℕ) → Contains (turn_order b) i → i < b.systems
-unfolding turn_order
-turn_below b i at = joined_below b i (turns_joined (settled_order b) (join_flags b) i at)
+  -- who has a turn is one of the systems
+  pub turn_below : (b : State values) (i : ℕ) → Contains (turn_order b) i → i < b.systems
+  unfolding turn_order
+  turn_below b i at = joined_below b i (turns_joined (settled_order b) (join_flags b) i at)
 
--- each has one turn
-pub has_one_turn : (b : State) → AllPairs (λ i j. i ≢ j) (turn_order b)
-unfolding turn_order
-has_one_turn b = turns_differ (settled_order b) (join_flags b)
+  -- each has one turn
+  pub has_one_turn : (b : State values) → AllPairs (λ i j. i ≢ j) (turn_order b)
+  unfolding turn_order
+  has_one_turn b = turns_differ (settled_order b) (join_flags b)
 
-pub begun_alike : (b u : State) (i : ℕ) → SameSystems b u × (u.frames ≡ b.frames) → has_begun u i ≡ has_begun b i
-begun_alike b u i keep = ap₂ (λ j n. nat_le j (max 1 n)) (keep.0.members i).join keep.1
+  pub begun_alike : (b u : State values) (i : ℕ) → SameSystems b u × (u.frames ≡ b.frames) → has_begun u i ≡ has_begun b i
+  begun_alike b u i keep = ap₂ (λ j n. nat_le j (max 1 n)) (keep.0.members i).join keep.1
 
-pub balanced_start : (m : Member) (counts : List ℕ) (t : ℕ)
-    → IsBalanced ((joined_member counts m).totals t) ((joined_member counts m).job.system.places t)
-balanced_start m counts t = grind arith
+module _ {V : Type 0} where
+  pub balanced_start : (m : Member V) (counts : List ℕ) (t : ℕ)
+      → IsBalanced ((joined_member counts m).totals t) ((joined_member counts m).job.system.places t)
+  balanced_start m counts t = grind arith
 
-module _ (s b : State) (sound : IsSoundState s) (prep : Prepares s b) where
+module _ {V : Type 0} {values : Values V} (s b : State values) (sound : IsSoundState s) (prep : Prepares s b) where
   pub prepared_sound : IsSoundState b
   prepared_sound =
       let uses = uses_stay s b prep.same sound.uses in
       let free = no_cycle_stays s b prep.same sound.no_cycle in
-      grind (arith, uses, free, balanced_start, begun_within, comes, counts_more, false≢true, stood, waits)
+      let more = (λ (t : ℕ). counts_more (s.world.histories t) (b.world.histories t)) in
+      grind (arith, uses, free, balanced_start, begun_within s, comes, more, false≢true, stood, waits)
 
-module _ (laws : BufferLaws) where
-  pub frame_sound : FrameStaysSound
+module _ {V : Type 0} {values : Values V} (laws : BufferLaws V) where
+  pub frame_sound : FrameStaysSound values
   frame_sound f s before =
-      let b : State = before_turns f.posts s in
+      let b : State values = before_turns f.posts s in
       let sound : IsSoundState b = prepared_sound s b before (prepares laws.grow f.posts s) in
       let order : List ℕ = turn_order b in
       let keep = turns_keep order b in
-      let u : State = (after_turns_of order b).state in
+      let u : State values = (after_turns_of order b).state in
       let reads : (i t : ℕ) → t < u.types → Reads i t b (turns_moments i t order b) u =
       λ i t below. turns_read laws i t order b (sound.histories t (rw (keep.0.types) at below))
       (sound.places i t (rw (keep.0.types) at below)) in
@@ -59,7 +63,7 @@ module _ (laws : BufferLaws) where
             let out = has_no_turn b i in
             grind (arith, begun_alike b _ i keep, out, isnt, turns_skip i t order b, sound.waiting i t);
         balanced = λ i t below has.
-            let ms : List Moment = turns_moments i t order b in
+            let ms : List (Moment V) = turns_moments i t order b in
             let read = reads i t below in
             let once = tells_once (reader_place b i t) ms (reader_place u i t) read.passes.tile in
             let up = tiles_rise (reader_place b i t) ms (reader_place u i t) read.passes.tile in
@@ -68,6 +72,6 @@ module _ (laws : BufferLaws) where
             grind (arith, read.totals, sound.balanced i t, begun_alike b u i keep, more, ap length once, number, up, keep.0.types);
       }
 
-  pub run_sound : RunStaysSound
+  pub run_sound : RunStaysSound values
   run_sound [] s sound = sound
   run_sound (f ∷ fs) s sound = run_sound fs (frame f s).state (frame_sound f s sound)

@@ -17,47 +17,49 @@ range_further a (suc m) b n zero behind all = absurd (omega (arith, all))
 range_further a (suc m) b n (suc k) behind all =
     grind (arith, range_further (a + 1) m b n k (omega (arith, behind)) (omega (arith, all)))
 
-pub tiles_rise : (p : ℕ) (ms : List Moment) (q : ℕ) → Tile p (map tile_of ms) q → p ≤ q
-tiles_rise p [] q tile = grind arith
-tiles_rise p (m ∷ ms) q tile = grind (arith, tiles_rise (next_place m.entry.stretch) ms q tile.1)
+module _ {V : Type 0} where
+  pub tiles_rise : (p : ℕ) (ms : List (Moment V)) (q : ℕ) → Tile p (map tile_of ms) q → p ≤ q
+  tiles_rise p [] q tile = grind arith
+  tiles_rise p (m ∷ ms) q tile = grind (arith, tiles_rise (next_place m.entry.stretch) ms q tile.1)
 
-pub tells_once : (p : ℕ) (ms : List Moment) (q : ℕ) → Tile p (map tile_of ms) q
-    → flat_map numbers_told (map (λ m. m.entry) ms) ≡ range_with_len p (q - p)
-tells_once p [] q tile = grind arith
-tells_once p (m ∷ ms) q tile =
-    let s : Stretch = m.entry.stretch in
-    let rest = tells_once (next_place s) ms q tile.1 in
-    let up = tiles_rise (next_place s) ms q tile.1 in
-    let here = range_further (s.first - s.missed) s.missed s.first s.number (s.missed + s.number)
-    (omega (arith, tile.0.first)) refl in
-    let all = range_further (s.first - s.missed) (s.missed + s.number) (next_place s) (q - next_place s) (q - p)
-    (omega (arith, tile.0.first)) (omega (arith, tile.0.first, up)) in
-    let begin : s.first - s.missed ≡ p = omega (arith, tile.0.first) in
-    rw (rest, here, all, begin) refl
+  pub tells_once : (p : ℕ) (ms : List (Moment V)) (q : ℕ) → Tile p (map tile_of ms) q
+      → flat_map numbers_told (map (λ m. m.entry) ms) ≡ range_with_len p (q - p)
+  tells_once p [] q tile = grind arith
+  tells_once p (m ∷ ms) q tile =
+      let s : Stretch = m.entry.stretch in
+      let rest = tells_once (next_place s) ms q tile.1 in
+      let up = tiles_rise (next_place s) ms q tile.1 in
+      let here = range_further (s.first - s.missed) s.missed s.first s.number (s.missed + s.number)
+      (omega (arith, tile.0.first)) refl in
+      let all = range_further (s.first - s.missed) (s.missed + s.number) (next_place s) (q - next_place s) (q - p)
+      (omega (arith, tile.0.first)) (omega (arith, tile.0.first, up)) in
+      let begin : s.first - s.missed ≡ p = omega (arith, tile.0.first) in
+      rw (rest, here, all, begin) refl
 
 -- ---- the messages of a stretch are what was written
 
-abbrev message_in : Written Record → Record
-message_in e = e.message
+module _ {V : Type 0} where
+  abbrev message_in : Written (Record V) → Record V
+  message_in e = e.message
 
--- those of a stretch, among the entries of a later history: they stay where they are
-messages_are : (h last : History Record) (s : Stretch) → GoesOn h last → next_place s ≤ count h → messages_of h s
-    ≡ map message_in (take s.number (drop s.first last.entries))
-messages_are h last s goes written =
-    let stay : take s.number (drop s.first last.entries) ≡ take s.number (drop s.first h.entries) =
-    grind (arith, drop-append-le, length-drop, take-append-le) in
-    simp (stay, ← take-map, ← drop-map, instances-numbered, messages-numbered)
+  -- those of a stretch, among the entries of a later history: they stay where they are
+  messages_are : (h last : History (Record V)) (s : Stretch) → GoesOn h last → next_place s ≤ count h → messages_of h s
+      ≡ map message_in (take s.number (drop s.first last.entries))
+  messages_are h last s goes written =
+      let stay : take s.number (drop s.first last.entries) ≡ take s.number (drop s.first h.entries) =
+      grind (arith, drop-append-le, length-drop, take-append-le) in
+      simp (stay, ← take-map, ← drop-map, instances-numbered, messages-numbered)
 
-read_range : (es : List (Written Record)) (a n : ℕ) → a + n ≤ length es
-    → map (λ k. option_map message_in (slice_get es k)) (range_with_len a n)
-    ≡ map Some (map message_in (take n (drop a es)))
-read_range es a zero below = refl
-read_range [] a (suc n) below = grind arith
-read_range (d ∷ es) a (suc n) below =
-    grind (arith, slice_get-get_or (d ∷ es) a d, drop_more (d ∷ es) a d, read_range (d ∷ es) (a + 1) n)
+  read_range : (es : List (Written (Record V))) (a n : ℕ) → a + n ≤ length es
+      → map (λ k. option_map message_in (slice_get es k)) (range_with_len a n)
+      ≡ map Some (map message_in (take n (drop a es)))
+  read_range es a zero below = refl
+  read_range [] a (suc n) below = grind arith
+  read_range (d ∷ es) a (suc n) below =
+      grind (arith, slice_get-get_or (d ∷ es) a d, drop_more (d ∷ es) a d, read_range (d ∷ es) (a + 1) n)
 
-module _ (h last : History Record) (s : Stretch) (goes : GoesOn h last) (written : next_place s ≤ count h) where
-  gave_as_written : (o : Option (List Record)) → IfSome o (λ items. items ≡ messages_of h s)
+module _ {V : Type 0} (h last : History (Record V)) (s : Stretch) (goes : GoesOn h last) (written : next_place s ≤ count h) where
+  gave_as_written : (o : Option (List (Record V))) → IfSome o (λ items. items ≡ messages_of h s)
       → IfSome o (λ items. map (message_numbered last) (range_with_len s.first s.number) ≡ map Some items)
   gave_as_written None gives = tt
   gave_as_written (Some items) gives =
@@ -65,8 +67,8 @@ module _ (h last : History Record) (s : Stretch) (goes : GoesOn h last) (written
       (read_range last.entries s.first s.number
       (omega (arith, ap length goes.entries, length-append h.entries goes.more)))
 
-module _ (last : History Record) where
-  pub are_true : (p : ℕ) (ms : List Moment) (q : ℕ) → Tile p (map tile_of ms) q
+module _ {V : Type 0} (last : History (Record V)) where
+  pub are_true : (p : ℕ) (ms : List (Moment V)) (q : ℕ) → Tile p (map tile_of ms) q
       → All Begins ms → All GivesItsStretch ms → All (λ m. GoesOn m.history last) ms → All IsWritten ms
       → All (IsTrueEntry last) ms
   are_true p [] q tile begins gives goes written = All-nil (IsTrueEntry last)

@@ -1,20 +1,21 @@
 -- Turns of systems whose accesses don't conflict can be swapped.
 use Rattle.std.proofs.Common.{arith, ◌≡◌, ◌≢◌, ◌∙◌, ap, List, Option, ℕ, false, sym, ne_eqb, IsTrue}
 use Rattle.std.proofs.lemmas.{Bool.and_from, Bool.cases_Bool, Bool.Decides.eqb_tells}
-use Rattle.msg_world.specs.{Prelude.Conflict, Prelude.OfResource, Prelude.OfType, Prelude.Part, Prelude.Registry, Prelude.WorldState, Prelude.content, declared.access.Access.Access}
+use Rattle.msg_world.specs.{Prelude.Conflict, Prelude.OfResource, Prelude.OfType, Prelude.Part, Prelude.Registry, Prelude.WorldState, Prelude.content, declared.access.Access.Access, Prelude.Values}
 use Rattle.msg_system.specs.Prelude.{AfterJob, HasFootprint, IsAccessOf, Job, after_job, JobFootprint, Needs, needs_any}
 use Rattle.msg_system.specs.declared.reply.Reply.{Reply}
 use Rattle.msg_frames.proofs.EntriesOfSteps.{job_logged, outcome_entries}
 use Rattle.msg_system.proofs.AccessesUseNeeds.{uses_needs}
 use Rattle.msg_frames.specs.Prelude.{entries_at, outcome_of, with_entries, Member, Outcome, State, TurnsOfOthersCommute, after_turn_of, member_after, member_needs, turn_of}
 
--- worlds with the same parts are the same
-pub same_world : (v w : WorldState) → ((p : Part) → content p v ≡ content p w) → v ≡ w
-same_world v w e = λ k. record {
-  histories = λ t. e (OfType t) k;
-  resources = λ r. e (OfResource r) k;
-  marks = e Registry k;
-}
+module _ {V : Type 0} {values : Values V} where
+  -- worlds with the same parts are the same
+  pub same_world : (v w : WorldState values) → ((p : Part) → content p v ≡ content p w) → v ≡ w
+  same_world v w e = λ k. record {
+    histories = λ t. e (OfType t) k;
+    resources = λ r. e (OfResource r) k;
+    marks = e Registry k;
+  }
 
 -- neither writes what the other needs
 pub record Apart (m n : Needs) : Type 0 where
@@ -24,68 +25,69 @@ pub record Apart (m n : Needs) : Type 0 where
 pub apart : (m n : Needs) (a b : Access) → IsAccessOf m a → IsAccessOf n b → ¬ Conflict a b → Apart m n
 apart m n a b ma nb none = grind (arith, and_from, cases_Bool, uses_needs)
 
--- what a turn gives beside the world
-abbrev pub given_by_turn : Member → AfterJob → Member × Outcome
-given_by_turn m e = (member_after e m, outcome_of e.replies)
+module _ {V : Type 0} {values : Values V} where
+  -- what a turn gives beside the world
+  abbrev pub given_by_turn : Member V → AfterJob values → Member V × Outcome V
+  given_by_turn m e = (member_after e m, outcome_of e.replies)
 
--- turns that are answered alike have the same entries
-same_entries : (j : Job) (v w : WorldState) (t : ℕ) → (after_job j v).replies ≡ (after_job j w).replies
-    → entries_at t (after_job j v).steps ≡ entries_at t (after_job j w).steps
-same_entries j v w t same =
-    sym (job_logged t j v) ∙ ap (λ (r : Option (List Reply)). outcome_entries t j.system (outcome_of r)) same
-    ∙ job_logged t j w
+  -- turns that are answered alike have the same entries
+  same_entries : (j : Job V) (v w : WorldState values) (t : ℕ) → (after_job j v).replies ≡ (after_job j w).replies
+      → entries_at t (after_job j v).steps ≡ entries_at t (after_job j w).steps
+  same_entries j v w t same =
+      sym (job_logged t j v) ∙ ap (λ (r : Option (List (Reply V))). outcome_entries t j.system (outcome_of r)) same
+      ∙ job_logged t j w
 
-pub turn_footprint : JobFootprint → (m : Member)
-    → HasFootprint (member_needs m) (λ (e : AfterJob). e.state) (given_by_turn m) (after_job m.job)
-turn_footprint foot m = record {
-  kept = (foot m.job).kept;
-  same = λ parts v w within agree.
-      let given = (foot m.job).same parts v w within agree in
-      λ k. (
-        record m {
-          job = (given k).0;
-          totals = λ t. with_entries (same_entries m.job v w t (λ i. (given i).1) k) (m.totals t);
-        },
-        outcome_of (given k).1,
-      );
-  alike = (foot m.job).alike;
-}
+  pub turn_footprint : JobFootprint values → (m : Member V)
+      → HasFootprint (member_needs m) (λ (e : AfterJob values). e.state) (given_by_turn m) (after_job m.job)
+  turn_footprint foot m = record {
+    kept = (foot m.job).kept;
+    same = λ parts v w within agree.
+        let given = (foot m.job).same parts v w within agree in
+        λ k. (
+          record m {
+            job = (given k).0;
+            totals = λ t. with_entries (same_entries m.job v w t (λ i. (given i).1) k) (m.totals t);
+          },
+          outcome_of (given k).1,
+        );
+    alike = (foot m.job).alike;
+  }
 
--- two turns, neither of which writes what the other needs
-worlds_commute : JobFootprint → (m n : Member) (w : WorldState) → Apart (member_needs m) (member_needs n)
-    → (after_job n.job (after_job m.job w).state).state ≡ (after_job m.job (after_job n.job w).state).state
-worlds_commute foot m n w free =
-    let f = turn_footprint foot m in
-    let g = turn_footprint foot n in
-    let v : WorldState = (after_job m.job w).state in
-    let u : WorldState = (after_job n.job w).state in
-    same_world _ _ (λ p.
-    let by_f = f.alike (needs_any (member_needs m)) u w (λ q used. used) (λ q used. g.kept w q (free.right q used)) p in
-    let by_g = g.alike (needs_any (member_needs n)) v w (λ q used. used) (λ q used. f.kept w q (free.left q used)) p in
-    grind (arith, by_f, by_g, cases_Bool, f.kept w p, f.kept u p, free.left p, free.right p, g.kept w p, g.kept v p))
+  -- two turns, neither of which writes what the other needs
+  worlds_commute : JobFootprint values → (m n : Member V) (w : WorldState values) → Apart (member_needs m) (member_needs n)
+      → (after_job n.job (after_job m.job w).state).state ≡ (after_job m.job (after_job n.job w).state).state
+  worlds_commute foot m n w free =
+      let f = turn_footprint foot m in
+      let g = turn_footprint foot n in
+      let v : WorldState values = (after_job m.job w).state in
+      let u : WorldState values = (after_job n.job w).state in
+      same_world _ _ (λ p.
+      let by_f = f.alike (needs_any (member_needs m)) u w (λ q used. used) (λ q used. g.kept w q (free.right q used)) p in
+      let by_g = g.alike (needs_any (member_needs n)) v w (λ q used. used) (λ q used. f.kept w q (free.left q used)) p in
+      grind (arith, by_f, by_g, cases_Bool, f.kept w p, f.kept u p, free.left p, free.right p, g.kept w p, g.kept v p))
 
--- the turn of a system after that of another from which it is apart is its turn before it
-pub turn_after : JobFootprint → (s : State) (i j : ℕ) → j ≢ i
-    → Apart (member_needs (s.members i)) (member_needs (s.members j))
-    → given_by_turn ((after_turn_of i s).members j) (turn_of (after_turn_of i s) j)
-    ≡ given_by_turn (s.members j) (turn_of s j)
-turn_after foot s i j ne free =
-    rw (ne_eqb j i ne)
-    ((turn_footprint foot (s.members j)).same (needs_any (member_needs (s.members j))) (turn_of s i).state s.world
-    (λ p u. u) (λ p u. (turn_footprint foot (s.members i)).kept s.world p (free.left p u)))
+  -- the turn of a system after that of another from which it is apart is its turn before it
+  pub turn_after : JobFootprint values → (s : State values) (i j : ℕ) → j ≢ i
+      → Apart (member_needs (s.members i)) (member_needs (s.members j))
+      → given_by_turn ((after_turn_of i s).members j) (turn_of (after_turn_of i s) j)
+      ≡ given_by_turn (s.members j) (turn_of s j)
+  turn_after foot s i j ne free =
+      rw (ne_eqb j i ne)
+      ((turn_footprint foot (s.members j)).same (needs_any (member_needs (s.members j))) (turn_of s i).state s.world
+      (λ p u. u) (λ p u. (turn_footprint foot (s.members i)).kept s.world p (free.left p u)))
 
-turns_swap : JobFootprint → (s : State) (i j : ℕ) → i ≢ j
-    → Apart (member_needs (s.members i)) (member_needs (s.members j))
-    → after_turn_of j (after_turn_of i s) ≡ after_turn_of i (after_turn_of j s)
-turns_swap foot s i j ne free =
-    let first = turn_after foot s i j (λ h. ne (sym h)) free in
-    let second = turn_after foot s j i ne (grind arith) in
-    let worlds = worlds_commute foot (s.members i) (s.members j) s.world free in
-    grind (arith, eqb_tells, first, second, worlds)
+  turns_swap : JobFootprint values → (s : State values) (i j : ℕ) → i ≢ j
+      → Apart (member_needs (s.members i)) (member_needs (s.members j))
+      → after_turn_of j (after_turn_of i s) ≡ after_turn_of i (after_turn_of j s)
+  turns_swap foot s i j ne free =
+      let first = turn_after foot s i j (λ h. ne (sym h)) free in
+      let second = turn_after foot s j i ne (grind arith) in
+      let worlds = worlds_commute foot (s.members i) (s.members j) s.world free in
+      grind (arith, eqb_tells, first, second, worlds)
 
-pub turns_commute : JobFootprint → TurnsOfOthersCommute
-turns_commute foot s accesses i j are li lj ne none =
-    let free = apart _ _ _ _ (are.of_needs i li) (are.of_needs j lj) none in
-    let first = turn_after foot s i j (λ e. ne (sym e)) free in
-    let second = turn_after foot s j i ne (grind arith) in
-    grind (arith, first, second, turns_swap foot s i j ne free)
+  pub turns_commute : JobFootprint values → TurnsOfOthersCommute values
+  turns_commute foot s accesses i j are li lj ne none =
+      let free = apart _ _ _ _ (are.of_needs i li) (are.of_needs j lj) none in
+      let first = turn_after foot s i j (λ e. ne (sym e)) free in
+      let second = turn_after foot s j i ne (grind arith) in
+      grind (arith, first, second, turns_swap foot s i j ne free)

@@ -1,9 +1,9 @@
 -- Each type's list grows by exactly what the steps tell.
-use Rattle.std.proofs.Common.{◌≡◌, ℕ, zero, suc, ◌+◌, ℤ, List, [], ◌∷◌, ◌++◌, map, length, flat_map, Option, None, Some, refl, sym, ap, append-nil, append_assoc, arith, Contains, ◌∙◌, IsTrue}
+use Rattle.std.proofs.Common.{◌≡◌, ℕ, zero, suc, ◌+◌, List, [], ◌∷◌, ◌++◌, map, length, flat_map, Option, None, Some, refl, sym, ap, append-nil, append_assoc, arith, Contains, ◌∙◌, IsTrue}
 use Rattle.std.specs.List.{enumerate_from}
 use Rattle.std.proofs.lemmas.{Bool.cases_Bool, Bool.Decides.eqb_tells, List.length-map, List.map-append, Grind.flat_map-append}
 use Rattle.msg_buffer.specs.Prelude.{Entry, History, count, has_room, stamped, write}
-use Rattle.msg_world.specs.{Prelude.WorldState, Prelude.after_update, Prelude.by, declared.record.Record.Record, declared.record.TheConstants.HOST}
+use Rattle.msg_world.specs.{Prelude.WorldState, Prelude.after_update, Prelude.by, declared.record.Record.Record, declared.record.TheConstants.HOST, Prelude.Values}
 use Rattle.msg_system.specs.{declared.op.Op.Op, declared.op.Op.TheVariants.Write, declared.op.Op.TheVariants.Batch, declared.op.Op.TheVariants.Forward, declared.op.Op.TheVariants.Drain, declared.reply.Reply.Reply}
 use Rattle.msg_system.specs.Prelude.{AfterOp, AfterProgram, Step, Job, Meaning, after_at_most, after_job, after_op, again_by, next_op, one_more, took, turn}
 use Rattle.msg_frames.specs.Prelude.{AreAnswered, Frame, IsSoundState, IsWrittenOnce, Turn, outcome_of, post_replies, replies_of, State, after_posts, after_turn_of, after_turns_of, all_written, before_turns, frame, post_steps, run, turns_steps, wrote}
@@ -16,33 +16,35 @@ enumerate_from-append : {X : Type 0} (n : ℕ) (xs ys : List X)
 enumerate_from-append n [] ys = grind arith
 enumerate_from-append n (x ∷ xs) ys = grind (arith, enumerate_from-append (n + 1) xs ys)
 
-abbrev messages : History Record → List Record
-messages h = map (λ e. e.message) h.entries
+module _ {V : Type 0} where
+  abbrev messages : History (Record V) → List (Record V)
+  messages h = map (λ e. e.message) h.entries
 
-stamped_are : (u : ℕ) (ms : List Record) → map (λ (e : Entry Record). e.message) (stamped u ms) ≡ ms
-stamped_are u [] = refl
-stamped_are u (m ∷ ms) = ap (λ (ys : List Record). m ∷ ys) (stamped_are u ms)
+  stamped_are : (u : ℕ) (ms : List (Record V)) → map (λ (e : Entry (Record V)). e.message) (stamped u ms) ≡ ms
+  stamped_are u [] = refl
+  stamped_are u (m ∷ ms) = ap (λ (ys : List (Record V)). m ∷ ys) (stamped_are u ms)
 
--- a write that has room adds these messages under the next numbers
-wrote_more : (h : History Record) (ms : List Record) → IsTrue (has_room h (length ms))
-    → all_written (write ms h) ≡ all_written h ++ enumerate_from (count h) ms
-wrote_more h ms room =
-    let are : map (λ (e : Entry Record). e.message) (h.entries ++ stamped h.updates ms) ≡ messages h ++ ms =
-    map-append (λ (e : Entry Record). e.message) h.entries (stamped h.updates ms)
-    ∙ ap (λ (ys : List Record). messages h ++ ys) (stamped_are h.updates ms) in
-    let more = enumerate_from-append 0 (messages h) ms in
-    let len = length-map h.entries (λ (e : Entry Record). e.message) in
-    grind (arith, are, more, len)
+  -- a write that has room adds these messages under the next numbers
+  wrote_more : (h : History (Record V)) (ms : List (Record V)) → IsTrue (has_room h (length ms))
+      → all_written (write ms h) ≡ all_written h ++ enumerate_from (count h) ms
+  wrote_more h ms room =
+      let are : map (λ (e : Entry (Record V)). e.message) (h.entries ++ stamped h.updates ms) ≡ messages h ++ ms =
+      map-append (λ (e : Entry (Record V)). e.message) h.entries (stamped h.updates ms)
+      ∙ ap (λ (ys : List (Record V)). messages h ++ ys) (stamped_are h.updates ms) in
+      let more = enumerate_from-append 0 (messages h) ms in
+      let len = length-map h.entries (λ (e : Entry (Record V)). e.message) in
+      grind (arith, are, more, len)
 
--- first these steps, and then those
-written_further : (t : ℕ) (a : WorldState) (xs : List (ℕ × Step)) (b : WorldState) (ys : List (ℕ × Step)) (c : WorldState)
-    → IsWrittenOnce t a xs b → IsWrittenOnce t b ys c → IsWrittenOnce t a (xs ++ ys) c
-written_further t a xs b ys c x y =
-    grind (arith, append_assoc, flat_map-append (λ (s : ℕ × Step). wrote t s.0 s.1.op s.1.reply) xs ys)
+module _ {V : Type 0} {values : Values V} where
+  -- first these steps, and then those
+  written_further : (t : ℕ) (a : WorldState values) (xs : List (ℕ × Step values)) (b : WorldState values) (ys : List (ℕ × Step values)) (c : WorldState values)
+      → IsWrittenOnce t a xs b → IsWrittenOnce t b ys c → IsWrittenOnce t a (xs ++ ys) c
+  written_further t a xs b ys c x y =
+      grind (arith, append_assoc, flat_map-append (λ (s : ℕ × Step values). wrote t s.0 s.1.op s.1.reply) xs ys)
 
-module _ (t : ℕ) where
+module _ {V : Type 0} {values : Values V} (t : ℕ) where
   -- the op adds what it is told that it wrote
-  op_writes : (op : Op) (i : ℕ) (places : ℕ → ℕ) (w : WorldState) →
+  op_writes : (op : Op V) (i : ℕ) (places : ℕ → ℕ) (w : WorldState values) →
       let after = after_op op i places w in
       all_written (after.state.histories t) ≡ all_written (w.histories t) ++ wrote t i op after.reply
   op_writes (Write u v) i places w =
@@ -60,38 +62,38 @@ module _ (t : ℕ) where
   op_writes (Drain u) i places w = grind (arith, append-nil, eqb_tells)
   op_writes op i places w = grind (arith, append-nil)
 
-  no_steps : (w : WorldState) → IsWrittenOnce t w [] w
+  no_steps : (w : WorldState values) → IsWrittenOnce t w [] w
   no_steps w = record { grew = sym (append-nil (all_written (w.histories t))) }
 
-  one_step : (o : Option Op) (i : ℕ) (far : AfterProgram) (w : WorldState)
+  one_step : (o : Option (Op V)) (i : ℕ) (far : AfterProgram values) (w : WorldState values)
       → IsWrittenOnce t w (by_system i far.steps) far.state
       → IsWrittenOnce t w (by_system i (one_more o i far).steps) (one_more o i far).state
   one_step None i far w so = so
   one_step (Some op) i far w so =
-      let here : AfterOp = after_op op i far.places far.state in
-      let done : Step = record { op = op; places = far.places; world = far.state; reply = here.reply } in
-      rw (map-append {B = ℕ × Step} (λ (x : Step). (i, x)) far.steps (done ∷ []))
+      let here : AfterOp values = after_op op i far.places far.state in
+      let done : Step values = record { op = op; places = far.places; world = far.state; reply = here.reply } in
+      rw (map-append {B = ℕ × Step values} (λ (x : Step values). (i, x)) far.steps (done ∷ []))
       (written_further t w (by_system i far.steps) far.state (by_system i (done ∷ [])) here.state so
       (record { grew = rw (append-nil (wrote t i op here.reply)) (op_writes op i far.places far.state) }))
 
-  first_write : (n : ℕ) (m : Meaning) (w : WorldState) →
+  first_write : (n : ℕ) (m : Meaning V) (w : WorldState values) →
       let far = after_at_most n (next_op m) m.writer m.places w in
       IsWrittenOnce t w (by_system m.writer far.steps) far.state
   first_write zero m w = no_steps w
   first_write (suc n) m w =
-      let far : AfterProgram = after_at_most n (next_op m) m.writer m.places w in
+      let far : AfterProgram values = after_at_most n (next_op m) m.writer m.places w in
       one_step (next_op m far.replies) m.writer far w (first_write n m w)
 
-  turn_writes : (m : Meaning) (w : WorldState)
+  turn_writes : (m : Meaning V) (w : WorldState values)
       → IsWrittenOnce t w (by_system m.writer (turn m w).steps) (turn m w).state
   unfolding turn
   turn_writes m w = first_write 64 m w
 
-  job_writes : (i : ℕ) (j : Job) (w : WorldState) → j.system.writer ≡ i
+  job_writes : (i : ℕ) (j : Job V) (w : WorldState values) → j.system.writer ≡ i
       → IsWrittenOnce t w (by_system i (after_job j w).steps) (after_job j w).state
   job_writes i j w is = grind (arith, cases_Bool, is, no_steps w, turn_writes j.system w)
 
-  turns_write : (is : List ℕ) (s : State) → ((i : ℕ) → Contains is i → (s.members i).job.system.writer ≡ i)
+  turns_write : (is : List ℕ) (s : State values) → ((i : ℕ) → Contains is i → (s.members i).job.system.writer ≡ i)
       → IsWrittenOnce t s.world (turns_steps is s) (after_turns_of is s).state.world
   turns_write [] s own = no_steps s.world
   turns_write (i ∷ is) s own =
@@ -100,31 +102,31 @@ module _ (t : ℕ) where
       written_further t _ (by_system i (after_job (s.members i).job s.world).steps) _ _ _
       (job_writes i (s.members i).job s.world (own i (Contains-head i is))) (turns_write is next later)
 
-  posts_write : (posts : List (ℕ × ℤ)) (w : WorldState)
+  posts_write : (posts : List (ℕ × V)) (w : WorldState values)
       → IsWrittenOnce t w (post_steps posts w) (after_posts posts w)
   posts_write [] w = no_steps w
   posts_write (p ∷ ps) w =
       let here = op_writes (Write p.0 p.1) HOST (λ t. 0) w in
-      let next : WorldState = after_posts (p ∷ []) w in
+      let next : WorldState values = after_posts (p ∷ []) w in
       written_further t _ (post_steps (p ∷ []) w) _ (post_steps ps next) _
       (record { grew = rw (append-nil (wrote t HOST (Write p.0 p.1) (after_op (Write p.0 p.1) HOST (λ t. 0) w).reply)) here })
       (posts_write ps next)
 
-  update_keeps : (w : WorldState) → all_written ((after_update w).histories t) ≡ all_written (w.histories t)
+  update_keeps : (w : WorldState values) → all_written ((after_update w).histories t) ≡ all_written (w.histories t)
   update_keeps w = grind (arith, cases_Bool)
 
-  before_writes : (posts : List (ℕ × ℤ)) (s : State)
+  before_writes : (posts : List (ℕ × V)) (s : State values)
       → IsWrittenOnce t s.world (post_steps posts (after_update s.world)) (before_turns posts s).world
   before_writes posts s = record {
     grew = rw (joining_world s) (rw (update_keeps s.world) at (posts_write posts (after_update s.world)).grew);
   }
 
-  module _ (laws : BufferLaws) where
-    pub run_writes : (frames : List Frame) (s : State) → IsSoundState s
+  module _ (laws : BufferLaws V) where
+    pub run_writes : (frames : List (Frame V)) (s : State values) → IsSoundState s
         → IsWrittenOnce t s.world (run frames s).steps (run frames s).state.world
     run_writes [] s sound = no_steps s.world
     run_writes (f ∷ fs) s sound =
-        let b : State = before_turns f.posts s in
+        let b : State values = before_turns f.posts s in
         let ready : IsSoundState b = prepared_sound s b sound (prepares laws.grow f.posts s) in
         let own = λ (i : ℕ) (at : Contains (turn_order b) i). ready.writers i (turn_below b i at) in
         let rest = run_writes fs (frame f s).state (frame_sound laws f s sound) in
@@ -133,54 +135,59 @@ module _ (t : ℕ) where
 
 -- ---- what was answered
 
-abbrev answer_to : ℕ × Step → ℕ × Reply
-answer_to x = (x.0, x.1.reply)
+module _ {V : Type 0} {values : Values V} where
+  abbrev answer_to : ℕ × Step values → ℕ × Reply V
+  answer_to x = (x.0, x.1.reply)
 
-abbrev answers_by : ℕ → List Reply → List (ℕ × Reply)
-answers_by i rs = map (λ r. (i, r)) rs
+module _ {V : Type 0} where
+  abbrev answers_by : ℕ → List (Reply V) → List (ℕ × Reply V)
+  answers_by i rs = map (λ r. (i, r)) rs
 
--- each step has its reply
-abbrev Answers : ℕ → List Step → List Reply → Type 0
-Answers i xs rs = map answer_to (by_system i xs) ≡ answers_by i rs
+module _ {V : Type 0} {values : Values V} where
+  -- each step has its reply
+  abbrev Answers : ℕ → List (Step values) → List (Reply V) → Type 0
+  Answers i xs rs = map answer_to (by_system i xs) ≡ answers_by i rs
 
-one_answered : (i : ℕ) (o : Option Op) (writer : ℕ) (far : AfterProgram) → Answers i far.steps far.replies
-    → Answers i (one_more o writer far).steps (one_more o writer far).replies
-one_answered i None writer far so = so
-one_answered i (Some op) writer far so = grind (arith, map-append, so)
+  one_answered : (i : ℕ) (o : Option (Op V)) (writer : ℕ) (far : AfterProgram values) → Answers i far.steps far.replies
+      → Answers i (one_more o writer far).steps (one_more o writer far).replies
+  one_answered i None writer far so = so
+  one_answered i (Some op) writer far so = grind (arith, map-append, so)
 
-first_answered : (i n : ℕ) (m : Meaning) (w : WorldState) →
-    let far = after_at_most n (next_op m) m.writer m.places w in
-    Answers i far.steps far.replies
-first_answered i zero m w = refl
-first_answered i (suc n) m w =
-    let far : AfterProgram = after_at_most n (next_op m) m.writer m.places w in
-    one_answered i (next_op m far.replies) m.writer far (first_answered i n m w)
+  first_answered : (i n : ℕ) (m : Meaning V) (w : WorldState values) →
+      let far = after_at_most n (next_op m) m.writer m.places w in
+      Answers i far.steps far.replies
+  first_answered i zero m w = refl
+  first_answered i (suc n) m w =
+      let far : AfterProgram values = after_at_most n (next_op m) m.writer m.places w in
+      one_answered i (next_op m far.replies) m.writer far (first_answered i n m w)
 
-turn_answered : (i : ℕ) (m : Meaning) (w : WorldState) → Answers i (turn m w).steps (turn m w).replies
-unfolding turn
-turn_answered i m w = first_answered i 64 m w
+  turn_answered : (i : ℕ) (m : Meaning V) (w : WorldState values) → Answers i (turn m w).steps (turn m w).replies
+  unfolding turn
+  turn_answered i m w = first_answered i 64 m w
 
-abbrev told_in : Turn → List (ℕ × Reply)
-told_in turn = flat_map (answers_by turn.system) (replies_of turn.outcome)
+module _ {V : Type 0} where
+  abbrev told_in : Turn V → List (ℕ × Reply V)
+  told_in turn = flat_map (answers_by turn.system) (replies_of turn.outcome)
 
-job_answered : (i : ℕ) (j : Job) (w : WorldState) → map answer_to (by_system i (after_job j w).steps)
-    ≡ told_in (record { system = i; outcome = outcome_of (after_job j w).replies })
-job_answered i j w = grind (arith, append-nil, cases_Bool, turn_answered i j.system w)
+module _ {V : Type 0} {values : Values V} where
+  job_answered : (i : ℕ) (j : Job V) (w : WorldState values) → map answer_to (by_system i (after_job j w).steps)
+      ≡ told_in (record { system = i; outcome = outcome_of (after_job j w).replies })
+  job_answered i j w = grind (arith, append-nil, cases_Bool, turn_answered i j.system w)
 
-turns_answered : (is : List ℕ) (s : State) → map answer_to (turns_steps is s)
-    ≡ flat_map told_in (after_turns_of is s).turns
-turns_answered [] s = refl
-turns_answered (i ∷ is) s =
-    grind (arith, map-append, job_answered i (s.members i).job s.world, turns_answered is (after_turn_of i s))
+  turns_answered : (is : List ℕ) (s : State values) → map answer_to (turns_steps is s)
+      ≡ flat_map told_in (after_turns_of is s).turns
+  turns_answered [] s = refl
+  turns_answered (i ∷ is) s =
+      grind (arith, map-append, job_answered i (s.members i).job s.world, turns_answered is (after_turn_of i s))
 
-posts_answered : (posts : List (ℕ × ℤ)) (w : WorldState) → map answer_to (post_steps posts w)
-    ≡ answers_by HOST (post_replies posts w)
-posts_answered [] w = refl
-posts_answered (p ∷ ps) w = grind (arith, posts_answered ps (after_posts (p ∷ []) w))
+  posts_answered : (posts : List (ℕ × V)) (w : WorldState values) → map answer_to (post_steps posts w)
+      ≡ answers_by HOST (post_replies posts w)
+  posts_answered [] w = refl
+  posts_answered (p ∷ ps) w = grind (arith, posts_answered ps (after_posts (p ∷ []) w))
 
-pub run_answered : (frames : List Frame) (s : State) → AreAnswered frames s
-run_answered [] s = refl
-run_answered (f ∷ fs) s =
-    let b : State = before_turns f.posts s in
-    let posts = posts_answered f.posts (after_update s.world) in
-    grind (arith, map-append, append_assoc, posts, turns_answered (turn_order b) b, run_answered fs (frame f s).state)
+  pub run_answered : (frames : List (Frame V)) (s : State values) → AreAnswered frames s
+  run_answered [] s = refl
+  run_answered (f ∷ fs) s =
+      let b : State values = before_turns f.posts s in
+      let posts = posts_answered f.posts (after_update s.world) in
+      grind (arith, map-append, append_assoc, posts, turns_answered (turn_order b) b, run_answered fs (frame f s).state)

@@ -1,34 +1,35 @@
 -- What callers see of what each reader was given.
 use Rattle.std.specs.Prelude.{◌≡◌, ℕ, ◌+◌, Bool, List, map, flat_map, unwrap_or}
 use Rattle.std.specs.List.{filter, range_with_len}
-use Rattle.msg_world.specs.Prelude.{OfType}
+use Rattle.msg_world.specs.Prelude.{OfType, Values}
 use Rattle.msg_frames.specs.{declared.account.Account.Account, declared.totals.Totals.Totals, Frames.State, Moments.reader_place}
 
--- system i reads type t
-abbrev pub is_reader : State → ℕ → ℕ → Bool
-is_reader s i t = (s.members i).job.system.needs.reads (OfType t)
+module _ {V : Type 0} {values : Values V} where
+  -- system i reads type t
+  abbrev pub is_reader : State values → ℕ → ℕ → Bool
+  is_reader s i t = (s.members i).job.system.needs.reads (OfType t)
 
--- the account of system i for type t
-abbrev pub account_of : State → ℕ → ℕ → Account
-account_of s i t =
-    let x : Totals = (s.members i).totals t in
-    record {
-      system = i;
-      of_type = t;
-      start = x.start;
-      got = x.got;
-      missed = x.missed;
-      cleared = x.cleared;
-      place = reader_place s i t;
-    }
+  -- the account of system i for type t
+  abbrev pub account_of : State values → ℕ → ℕ → Account
+  account_of s i t =
+      let x : Totals = (s.members i).totals t in
+      record {
+        system = i;
+        of_type = t;
+        start = x.start;
+        got = x.got;
+        missed = x.missed;
+        cleared = x.cleared;
+        place = reader_place s i t;
+      }
 
--- those of system i: one for each type that it reads, by the type's number
-abbrev pub accounts_of_system : State → ℕ → List Account
-accounts_of_system s i = map (account_of s i) (filter (is_reader s i) (range_with_len 0 s.types))
+  -- those of system i: one for each type that it reads, by the type's number
+  abbrev pub accounts_of_system : State values → ℕ → List Account
+  accounts_of_system s i = map (account_of s i) (filter (is_reader s i) (range_with_len 0 s.types))
 
--- all of them, by system and then by type
-abbrev pub accounts_of : State → List Account
-accounts_of s = flat_map (accounts_of_system s) (range_with_len 0 s.systems)
+  -- all of them, by system and then by type
+  abbrev pub accounts_of : State values → List Account
+  accounts_of s = flat_map (accounts_of_system s) (range_with_len 0 s.systems)
 
 -- The start and all that the reader got, missed and cleared since add up to its place.
 abbrev pub AddsUp : Account → Type 0

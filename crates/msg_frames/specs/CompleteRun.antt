@@ -4,15 +4,17 @@ use Rattle.std.specs.List.{range_with_len}
 use Rattle.msg_buffer.specs.Prelude.{History, IsPresent, count}
 use Rattle.msg_world.specs.declared.record.Record.{Record}
 use Rattle.msg_frames.specs.{declared.frame.Frame.Frame, Entries.ReadEntry, Entries.numbers_missed, Entries.numbers_passed, Entries.numbers_told, Entries.totals_from, Entries.with_entries, Frames.run, Frames.State, Frames.has_begun, Steps.IsWrittenOnce, Moments.found_at, Moments.moments, Moments.reader_place, Moments.Moment}
+use Rattle.msg_world.specs.Prelude.{Values}
 
 -- ---- what an entry says
 
--- the message of a number
-abbrev pub message_numbered : History Record → ℕ → Option Record
-message_numbered h n = option_map (λ e. e.message) (slice_get h.entries n)
+module _ {V : Type 0} where
+  -- the message of a number
+  abbrev pub message_numbered : History (Record V) → ℕ → Option (Record V)
+  message_numbered h n = option_map (λ e. e.message) (slice_get h.entries n)
 
 -- The entry of a moment is true; `last` is the type's list as the run ends.
-pub record IsTrueEntry (last : History Record) (m : Moment) : Type 0 where
+pub record IsTrueEntry {V : Type 0} (last : History (Record V)) (m : Moment V) : Type 0 where
   -- it begins at the reader's place, past those that it missed
   pub begins : m.entry.stretch.first ≡ m.place + m.entry.stretch.missed
   -- what it went past was present
@@ -26,12 +28,14 @@ pub record IsTrueEntry (last : History Record) (m : Moment) : Type 0 where
 
 -- ---- a run
 
--- the entries of a reader in a run
-abbrev pub entries_in_run : ℕ → ℕ → List Frame → State → List ReadEntry
-entries_in_run i t frames s = map (λ m. m.entry) (moments i t frames s)
+module _ {V : Type 0} {values : Values V} where
+  -- the entries of a reader in a run
+  abbrev pub entries_in_run : ℕ → ℕ → List (Frame V) → State values → List (ReadEntry V)
+  entries_in_run i t frames s = map (λ m. m.entry) (moments i t frames s)
 
 -- What a run did for the reader of type t in system i.
-pub record IsServed (i t : ℕ) (frames : List Frame) (s : State) : Type 0 where
+pub record IsServed {V : Type 0} {values : Values V} (i t : ℕ) (frames : List (Frame V))
+    (s : State values) : Type 0 where
   -- Its entries tell each number from where it was found to its place: once, in order, no other.
   pub forward : found_at s (run frames s).state i t ≤ reader_place (run frames s).state i t
   pub once : flat_map numbers_told (entries_in_run i t frames s)
@@ -45,7 +49,8 @@ pub record IsServed (i t : ℕ) (frames : List Frame) (s : State) : Type 0 where
       else totals_from (found_at s (run frames s).state i t))
 
 -- What a run comes to.
-pub record IsCompleteRun (frames : List Frame) (s : State) : Type 0 where
+pub record IsCompleteRun {V : Type 0} {values : Values V} (frames : List (Frame V))
+    (s : State values) : Type 0 where
   -- each type's list grew by exactly what was written, each message once
   pub written : (t : ℕ) → IsWrittenOnce t s.world (run frames s).steps (run frames s).state.world
   -- and each reader was served that has joined by the end

@@ -3,63 +3,69 @@
 use Rattle.std.specs.Prelude.{ℕ, ◌+◌, ◌-◌, false, Bool, List, [], ◌++◌, length, flat_map, Option, Some, None, is_some, option_to_list, if◌then◌else◌}
 use Rattle.std.specs.List.{range_with_len}
 use Rattle.msg_buffer.specs.Prelude.{Stretch}
-use Rattle.msg_world.specs.{Prelude.OfType, Prelude.same_part, declared.record.Record.Record}
+use Rattle.msg_world.specs.{Prelude.OfType, Prelude.same_part, declared.record.Record.Record, Prelude.Values}
 use Rattle.msg_system.specs.{Prelude.Step, Prelude.op_parts, declared.op.Op.Op, declared.reply.Reply.Reply, declared.reply.Reply.TheVariants.Read, declared.reply.Reply.TheVariants.Cleared, declared.reply.Reply.TheVariants.Forwarded, declared.reply.Reply.TheVariants.Summed, declared.reply.Took.Took}
 use Rattle.msg_frames.specs.{declared.totals.Totals.Totals}
 
 -- What a reader went past by one op, and the messages that it was given; None if it cleared them.
-pub record ReadEntry : Type 0 where
+pub record ReadEntry (V : Type 0) : Type 0 where
   pub stretch : Stretch
-  pub given : Option (List Record)
+  pub given : Option (List (Record V))
 
--- the entry of an op that reads, by what it took
-abbrev pub entry_of_read : Took → ReadEntry
-entry_of_read took = record {
-  stretch = record { missed = took.missed; first = took.first; number = length took.items };
-  given = Some took.items;
-}
+module _ {V : Type 0} where
+  -- the entry of an op that reads, by what it took
+  abbrev pub entry_of_read : Took V → ReadEntry V
+  entry_of_read took = record {
+    stretch = record { missed = took.missed; first = took.first; number = length took.items };
+    given = Some took.items;
+  }
 
--- the entry that a reply tells of; an op that only asks or writes goes past nothing
-abbrev pub entry_of : Reply → Option ReadEntry
-entry_of (Read took) = Some (entry_of_read took)
-entry_of (Forwarded took wrote) = Some (entry_of_read took)
-entry_of (Summed took value) = Some (entry_of_read took)
-entry_of (Cleared missed first n) =
-    Some (record { stretch = record { missed = missed; first = first; number = n }; given = None })
-entry_of _ = None
+  -- the entry that a reply tells of; an op that only asks or writes goes past nothing
+  abbrev pub entry_of : Reply V → Option (ReadEntry V)
+  entry_of (Read took) = Some (entry_of_read took)
+  entry_of (Forwarded took wrote) = Some (entry_of_read took)
+  entry_of (Summed took value) = Some (entry_of_read took)
+  entry_of (Cleared missed first n) =
+      Some (record {
+        stretch = record { missed = missed; first = first; number = n };
+        given = None;
+      })
+  entry_of _ = None
 
--- the op reads the type
-abbrev pub op_reads_type : ℕ → Op → Bool
-op_reads_type t op = elim (op_parts op).read [ None ↦ false | Some p ↦ same_part p (OfType t) ]
+  -- the op reads the type
+  abbrev pub op_reads_type : ℕ → Op V → Bool
+  op_reads_type t op = elim (op_parts op).read [ None ↦ false | Some p ↦ same_part p (OfType t) ]
 
--- the entry of an op for a type
-abbrev pub entry_for : ℕ → Op → Reply → List ReadEntry
-entry_for t op reply = if op_reads_type t op then option_to_list (entry_of reply) else []
+  -- the entry of an op for a type
+  abbrev pub entry_for : ℕ → Op V → Reply V → List (ReadEntry V)
+  entry_for t op reply = if op_reads_type t op then option_to_list (entry_of reply) else []
 
--- the entries for a type among these steps
-abbrev pub entries_at : ℕ → List Step → List ReadEntry
-entries_at t xs = flat_map (λ x. entry_for t x.op x.reply) xs
+module _ {V : Type 0} {values : Values V} where
+  -- the entries for a type among these steps
+  abbrev pub entries_at : ℕ → List (Step values) → List (ReadEntry V)
+  entries_at t xs = flat_map (λ x. entry_for t x.op x.reply) xs
 
 -- ---- numbers
 
--- the numbers that an entry goes past
-abbrev pub numbers_passed : ReadEntry → List ℕ
-numbers_passed e = range_with_len e.stretch.first e.stretch.number
+module _ {V : Type 0} where
+  -- the numbers that an entry goes past
+  abbrev pub numbers_passed : ReadEntry V → List ℕ
+  numbers_passed e = range_with_len e.stretch.first e.stretch.number
 
--- those that it missed, which stand just before its first
-abbrev pub numbers_missed : ReadEntry → List ℕ
-numbers_missed e = range_with_len (e.stretch.first - e.stretch.missed) e.stretch.missed
+  -- those that it missed, which stand just before its first
+  abbrev pub numbers_missed : ReadEntry V → List ℕ
+  numbers_missed e = range_with_len (e.stretch.first - e.stretch.missed) e.stretch.missed
 
--- the numbers that it accounts for
-abbrev pub numbers_told : ReadEntry → List ℕ
-numbers_told e = numbers_missed e ++ numbers_passed e
+  -- the numbers that it accounts for
+  abbrev pub numbers_told : ReadEntry V → List ℕ
+  numbers_told e = numbers_missed e ++ numbers_passed e
 
--- those that it gave, and those that it cleared
-abbrev pub numbers_given : ReadEntry → List ℕ
-numbers_given e = if is_some e.given then numbers_passed e else []
+  -- those that it gave, and those that it cleared
+  abbrev pub numbers_given : ReadEntry V → List ℕ
+  numbers_given e = if is_some e.given then numbers_passed e else []
 
-abbrev pub numbers_cleared : ReadEntry → List ℕ
-numbers_cleared e = if is_some e.given then [] else numbers_passed e
+  abbrev pub numbers_cleared : ReadEntry V → List ℕ
+  numbers_cleared e = if is_some e.given then [] else numbers_passed e
 
 -- ---- totals
 
@@ -71,10 +77,11 @@ no_totals = record { start = None; got = 0; missed = 0; cleared = 0 }
 abbrev pub totals_from : ℕ → Totals
 totals_from place = record { start = Some place; got = 0; missed = 0; cleared = 0 }
 
--- the totals with more entries
-abbrev pub with_entries : List ReadEntry → Totals → Totals
-with_entries es x = record x {
-  got = x.got + length (flat_map numbers_given es);
-  missed = x.missed + length (flat_map numbers_missed es);
-  cleared = x.cleared + length (flat_map numbers_cleared es);
-}
+module _ {V : Type 0} where
+  -- the totals with more entries
+  abbrev pub with_entries : List (ReadEntry V) → Totals → Totals
+  with_entries es x = record x {
+    got = x.got + length (flat_map numbers_given es);
+    missed = x.missed + length (flat_map numbers_missed es);
+    cleared = x.cleared + length (flat_map numbers_cleared es);
+  }

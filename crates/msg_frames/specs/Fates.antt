@@ -5,22 +5,24 @@ use Rattle.msg_buffer.specs.Prelude.{History, IsPresent, Stretch, Tile, count, i
 use Rattle.msg_world.specs.declared.record.Record.{Record}
 use Rattle.msg_system.specs.{Prelude.Meaning, Prelude.Step, declared.reply.Reply.Reply}
 use Rattle.msg_frames.specs.{declared.frame.Frame.Frame, declared.log.Log.Log, CompleteRun.IsCompleteRun, CompleteRun.IsServed, CompleteRun.entries_in_run, CompleteRun.message_numbered, Entries.ReadEntry, LogEntries.entries_told, Entries.numbers_cleared, Entries.numbers_given, Entries.numbers_missed, Steps.replies_of, Steps.told, Frames.run, Frames.State, Frames.has_begun, Soundness.IsSoundState, Moments.Moment, Moments.found_at, Moments.moments, Moments.reader_place}
+use Rattle.msg_world.specs.Prelude.{Values}
 
 -- ---- the entries that logs have
 
--- what system i was told: the replies of each turn that it took
-abbrev pub answers_in : ℕ → List Log → List (List Reply)
-answers_in i logs =
-    flat_map (λ log. flat_map (λ turn. if turn.system == i then replies_of turn.outcome
-    else []) log.turns) logs
+module _ {V : Type 0} where
+  -- what system i was told: the replies of each turn that it took
+  abbrev pub answers_in : ℕ → List (Log V) → List (List (Reply V))
+  answers_in i logs =
+      flat_map (λ log. flat_map (λ turn. if turn.system == i then replies_of turn.outcome
+      else []) log.turns) logs
 
--- the entries for type t that the logs have of system i; m is what it meant before them
-abbrev pub log_entries : ℕ → ℕ → Meaning → List Log → List ReadEntry
-log_entries i t m logs = entries_told t m.needs m.rule (answers_in i logs)
+  -- the entries for type t that the logs have of system i; m is what it meant before them
+  abbrev pub log_entries : ℕ → ℕ → Meaning V → List (Log V) → List (ReadEntry V)
+  log_entries i t m logs = entries_told t m.needs m.rule (answers_in i logs)
 
 -- The logs of a run tell the entries of each reader.
-abbrev pub LogsTellEntries : Type 0
-LogsTellEntries = (i t : ℕ) (frames : List Frame) (s : State)
+abbrev pub LogsTellEntries : {V : Type 0} → Values V → Type 0
+LogsTellEntries {V} values = (i t : ℕ) (frames : List (Frame V)) (s : State values)
     → log_entries i t (s.members i).job.system (run frames s).logs ≡ entries_in_run i t frames s
 
 -- ---- fates
@@ -31,24 +33,25 @@ pub data Fate : Type 0 where
   cleared : Fate
   missed : Fate
 
--- the numbers of the messages that met a fate at an entry
-abbrev pub numbers_at : Fate → ReadEntry → List ℕ
-numbers_at given e = numbers_given e
-numbers_at cleared e = numbers_cleared e
-numbers_at missed e = numbers_missed e
+module _ {V : Type 0} where
+  -- the numbers of the messages that met a fate at an entry
+  abbrev pub numbers_at : Fate → ReadEntry V → List ℕ
+  numbers_at given e = numbers_given e
+  numbers_at cleared e = numbers_cleared e
+  numbers_at missed e = numbers_missed e
 
--- the numbers of those that met a fate at any entry, in the order of the entries
-abbrev pub numbers_of : Fate → List ReadEntry → List ℕ
-numbers_of fate es = flat_map (numbers_at fate) es
+  -- the numbers of those that met a fate at any entry, in the order of the entries
+  abbrev pub numbers_of : Fate → List (ReadEntry V) → List ℕ
+  numbers_of fate es = flat_map (numbers_at fate) es
 
 -- Message number n met this fate at entry k.
-pub record Meets (es : List ReadEntry) (n k : ℕ) (fate : Fate) : Type 0 where
-  pub entry : ReadEntry
+pub record Meets {V : Type 0} (es : List (ReadEntry V)) (n k : ℕ) (fate : Fate) : Type 0 where
+  pub entry : ReadEntry V
   pub is_entry : slice_get es k ≡ Some entry
   pub among : Contains (numbers_at fate entry) n
 
 -- Message number n met one fate at one entry, and no other there or elsewhere.
-pub record MeetsOneFate (es : List ReadEntry) (n : ℕ) : Type 0 where
+pub record MeetsOneFate {V : Type 0} (es : List (ReadEntry V)) (n : ℕ) : Type 0 where
   pub entry : ℕ
   pub fate : Fate
   pub met : Meets es n entry fate
@@ -56,14 +59,15 @@ pub record MeetsOneFate (es : List ReadEntry) (n : ℕ) : Type 0 where
 
 -- ---- what was given
 
--- what a reader was given, message by message, in the order of its reads
-abbrev pub messages_given : List ReadEntry → List Record
-messages_given es = flat_map (λ e. unwrap_or e.given []) es
+module _ {V : Type 0} where
+  -- what a reader was given, message by message, in the order of its reads
+  abbrev pub messages_given : List (ReadEntry V) → List (Record V)
+  messages_given es = flat_map (λ e. unwrap_or e.given []) es
 
 -- What the entries of these moments say of the messages from one place to another; `last` is the
 -- type's list as the run ends.
-pub record IsGivenOnce (es : List ReadEntry) (ms : List Moment) (from to : ℕ)
-    (last : History Record) : Type 0 where
+pub record IsGivenOnce {V : Type 0} (es : List (ReadEntry V)) (ms : List (Moment V)) (from to : ℕ)
+    (last : History (Record V)) : Type 0 where
   -- each message was given, or cleared, or missed: one of these, and once
   pub each : (n : ℕ) → from ≤ n → n < to → MeetsOneFate es n
   -- and no message before or after them was
@@ -80,57 +84,65 @@ pub record IsGivenOnce (es : List ReadEntry) (ms : List Moment) (from to : ℕ)
       (numbers_of cleared es) ≡ to
 
 -- A reader that a run served was given each message once.
-abbrev pub EachMeetsOneFate : Type 0
-EachMeetsOneFate = (i t : ℕ) (frames : List Frame) (s : State) → IsServed i t frames s
+abbrev pub EachMeetsOneFate : {V : Type 0} → Values V → Type 0
+EachMeetsOneFate {V} values = (i t : ℕ) (frames : List (Frame V)) (s : State values)
+    → IsServed i t frames s
     → IsGivenOnce (entries_in_run i t frames s) (moments i t frames s)
     (found_at s (run frames s).state i t) (reader_place (run frames s).state i t)
     ((run frames s).state.world.histories t)
 
 -- ---- writer by writer
 
--- what a reader was given, each message with its number
-abbrev pub numbered_given : List ReadEntry → List (ℕ × Record)
-numbered_given es = flat_map (λ e. enumerate_from e.stretch.first (unwrap_or e.given [])) es
+module _ {V : Type 0} where
+  -- what a reader was given, each message with its number
+  abbrev pub numbered_given : List (ReadEntry V) → List (ℕ × Record V)
+  numbered_given es = flat_map (λ e. enumerate_from e.stretch.first (unwrap_or e.given [])) es
 
--- what this writer was told that it wrote to type t
-abbrev pub told_to : ℕ → ℕ → List (ℕ × Step) → List (ℕ × Record)
-told_to writer t steps = told t (filter (λ x. x.0 == writer) steps)
+module _ {V : Type 0} {values : Values V} where
+  -- what this writer was told that it wrote to type t
+  abbrev pub told_to : ℕ → ℕ → List (ℕ × Step values) → List (ℕ × Record V)
+  told_to writer t steps = told t (filter (λ x. x.0 == writer) steps)
 
 -- A reader was given messages of this writer as it wrote them, in a run of these steps that found
 -- so many messages.
-pub record IsInOrderOf (writer t : ℕ) (es : List ReadEntry) (found : ℕ)
-    (steps : List (ℕ × Step)) : Type 0 where
+pub record IsInOrderOf {V : Type 0} {values : Values V} (writer t : ℕ) (es : List (ReadEntry V))
+    (found : ℕ)
+    (steps : List (ℕ × Step values)) : Type 0 where
   -- each was there before, or the writer was told in the run that it wrote it, under that number
-  pub as_told : (n : ℕ) (m : Record) → Contains (numbered_given es) (n, m) → m.writer ≡ writer
+  pub as_told : (n : ℕ) (m : Record V) → Contains (numbered_given es) (n, m) → m.writer ≡ writer
       → (n < found) ⊎ Contains (told_to writer t steps) (n, m)
   -- and it was told its numbers in order, as the reader is given them
   pub in_order : IsStrictlyIncreasing (map (λ x. x.0) (told_to writer t steps))
 
 -- So it is in every complete run, for each writer.
-abbrev pub WritersInOrder : Type 0
-WritersInOrder = (frames : List Frame) (s : State) → IsCompleteRun frames s → (i t : ℕ)
+abbrev pub WritersInOrder : {V : Type 0} → Values V → Type 0
+WritersInOrder {V} values = (frames : List (Frame V)) (s : State values) → IsCompleteRun frames s
+    → (i t : ℕ)
     → t < s.types → IsTrue (has_begun (run frames s).state i) → (writer : ℕ)
     → IsInOrderOf writer t (entries_in_run i t frames s) (count (s.world.histories t))
     (run frames s).steps
 
 -- ---- tiles
 
--- the messages of a stretch
-abbrev pub messages_of : History Record → Stretch → List Record
-messages_of h stretch = map message_of (take stretch.number (drop stretch.first (instances h)))
+module _ {V : Type 0} where
+  -- the messages of a stretch
+  abbrev pub messages_of : History (Record V) → Stretch → List (Record V)
+  messages_of h stretch = map message_of (take stretch.number (drop stretch.first (instances h)))
 
--- an entry that gave messages gave those of its stretch
-abbrev pub GivesItsStretch : Moment → Type 0
-GivesItsStretch m = IfSome m.entry.given (λ items. items ≡ messages_of m.history m.entry.stretch)
+  -- an entry that gave messages gave those of its stretch
+  abbrev pub GivesItsStretch : Moment V → Type 0
+  GivesItsStretch m = IfSome m.entry.given (λ items. items ≡ messages_of m.history m.entry.stretch)
 
 -- The reads and clears of a reader in a run tile, and what each gave is the messages there.
-pub record IsTiled (i t : ℕ) (frames : List Frame) (s : State) : Type 0 where
+pub record IsTiled {V : Type 0} {values : Values V} (i t : ℕ) (frames : List (Frame V))
+    (s : State values) : Type 0 where
   pub tile : Tile (found_at s (run frames s).state i t)
       (map (λ m. (m.history, m.entry.stretch)) (moments i t frames s))
       (reader_place (run frames s).state i t)
   pub gives : All GivesItsStretch (moments i t frames s)
 
 -- So it is for each reader that has joined by the end.
-abbrev pub ReadersTile : Type 0
-ReadersTile = (frames : List Frame) (s : State) → IsSoundState s → (i t : ℕ) → t < s.types
+abbrev pub ReadersTile : {V : Type 0} → Values V → Type 0
+ReadersTile {V} values = (frames : List (Frame V)) (s : State values) → IsSoundState s → (i t : ℕ)
+    → t < s.types
     → IsTrue (has_begun (run frames s).state i) → IsTiled i t frames s

@@ -3,18 +3,19 @@ use Rattle.std.specs.Prelude.{ℕ, List, [], ◌∷◌, ◌++◌}
 use Rattle.msg_system.specs.{Prelude.Needs, Prelude.Rule, Prelude.if_kept, Prelude.ops_answered, declared.op.Op.Op, declared.reply.Reply.Reply}
 use Rattle.msg_frames.specs.{Entries.ReadEntry, Entries.entry_for}
 
--- the entries for a type among the replies to these ops
-abbrev pub entries_for : ℕ → List Op → List Reply → List ReadEntry
-entries_for t (op ∷ ops) (reply ∷ replies) = entry_for t op reply ++ entries_for t ops replies
-entries_for t _ _ = []
+module _ {V : Type 0} where
+  -- the entries for a type among the replies to these ops
+  abbrev pub entries_for : ℕ → List (Op V) → List (Reply V) → List (ReadEntry V)
+  entries_for t (op ∷ ops) (reply ∷ replies) = entry_for t op reply ++ entries_for t ops replies
+  entries_for t _ _ = []
 
--- the ops of a system's next turn to which these are the replies
-abbrev pub ops_by : Needs → Rule → List Reply → List Op
-ops_by n rule replies = ops_answered (λ so_far. if_kept n (rule [] so_far)) replies
+  -- the ops of a system's next turn to which these are the replies
+  abbrev pub ops_by : Needs → Rule V → List (Reply V) → List (Op V)
+  ops_by n rule replies = ops_answered (λ so_far. if_kept n (rule [] so_far)) replies
 
--- The entries for a type of a system whose turns, one after the other, have these replies.
-abbrev pub entries_told : ℕ → Needs → Rule → List (List Reply) → List ReadEntry
-entries_told t n rule [] = []
-entries_told t n rule (replies ∷ turns) =
-    entries_for t (ops_by n rule replies) replies
-    ++ entries_told t n (λ later now. rule (replies ∷ later) now) turns
+  -- The entries for a type of a system whose turns, one after the other, have these replies.
+  abbrev pub entries_told : ℕ → Needs → Rule V → List (List (Reply V)) → List (ReadEntry V)
+  entries_told t n rule [] = []
+  entries_told t n rule (replies ∷ turns) =
+      entries_for t (ops_by n rule replies) replies
+      ++ entries_told t n (λ later now. rule (replies ∷ later) now) turns

@@ -1,36 +1,38 @@
 -- What a reader was given over a run, moment by moment.
 use Rattle.std.specs.Prelude.{ℕ, ◌==◌, List, map, filter, flat_map, unwrap_or, if◌then◌else◌}
 use Rattle.msg_buffer.specs.Prelude.{History}
-use Rattle.msg_world.specs.{declared.record.Record.Record}
+use Rattle.msg_world.specs.{declared.record.Record.Record, Prelude.Values}
 use Rattle.msg_system.specs.Prelude.{Step}
 use Rattle.msg_frames.specs.{declared.frame.Frame.Frame, Entries.ReadEntry, Entries.entry_for, Frames.State, Frames.has_begun, Frames.run}
 
 -- ---- the moments of a run
 
 -- An entry, beside its type's history and the reader's place as they were just then.
-pub record Moment : Type 0 where
-  pub history : History Record
+pub record Moment (V : Type 0) : Type 0 where
+  pub history : History (Record V)
   pub place : ℕ
-  pub entry : ReadEntry
+  pub entry : ReadEntry V
 
--- the moments of a step, for a reader of type t: one if its op went past some, else none
-abbrev pub moments_at : ℕ → Step → List Moment
-moments_at t x =
-    map (λ e. record { history = x.world.histories t; place = x.places t; entry = e })
-    (entry_for t x.op x.reply)
+module _ {V : Type 0} {values : Values V} where
+  -- the moments of a step, for a reader of type t: one if its op went past some, else none
+  abbrev pub moments_at : ℕ → Step values → List (Moment V)
+  moments_at t x =
+      map (λ e. record { history = x.world.histories t; place = x.places t; entry = e })
+      (entry_for t x.op x.reply)
 
--- the moments of system i in a run of frames
-abbrev pub moments : ℕ → ℕ → List Frame → State → List Moment
-moments i t frames s =
-    flat_map (moments_at t) (map (λ x. x.1) (filter (λ x. x.0 == i) (run frames s).steps))
+  -- the moments of system i in a run of frames
+  abbrev pub moments : ℕ → ℕ → List (Frame V) → State values → List (Moment V)
+  moments i t frames s =
+      flat_map (moments_at t) (map (λ x. x.1) (filter (λ x. x.0 == i) (run frames s).steps))
 
 -- ---- where a run finds a reader
 
--- the place of system i in type t
-abbrev pub reader_place : State → ℕ → ℕ → ℕ
-reader_place s i t = (s.members i).job.system.places t
+module _ {V : Type 0} {values : Values V} where
+  -- the place of system i in type t
+  abbrev pub reader_place : State values → ℕ → ℕ → ℕ
+  reader_place s i t = (s.members i).job.system.places t
 
--- Where a run from s to u finds a reader: at its place, or where it starts as it joins.
-abbrev pub found_at : State → State → ℕ → ℕ → ℕ
-found_at s u i t = if has_begun s i then reader_place s i t
-    else unwrap_or ((u.members i).totals t).start 0
+  -- Where a run from s to u finds a reader: at its place, or where it starts as it joins.
+  abbrev pub found_at : State values → State values → ℕ → ℕ → ℕ
+  found_at s u i t = if has_begun s i then reader_place s i t
+      else unwrap_or ((u.members i).totals t).start 0

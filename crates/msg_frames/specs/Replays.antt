@@ -2,15 +2,17 @@
 use Rattle.std.specs.Prelude.{◌≡◌, ℕ, List, IsPermutation}
 use Rattle.msg_order.specs.Prelude.{IsLawfulOrder}
 use Rattle.msg_frames.specs.{declared.frame.Frame.Frame, declared.log.Log.Log, Frames.settled_order, Frames.before_turns, Frames.State, Frames.join_flags}
+use Rattle.msg_world.specs.Prelude.{Values}
 
 -- The order is lawful for a frame on the state s: it has all that will have joined, each once, and
 -- keeps their settled order.
-pub record IsLawfulFor (f : Frame) (s : State) (order : List ℕ) : Type 0 where
+pub record IsLawfulFor {V : Type 0} {values : Values V} (f : Frame V) (s : State values)
+    (order : List ℕ) : Type 0 where
   pub lawful : IsLawfulOrder (settled_order (before_turns f.posts s))
       (join_flags (before_turns f.posts s)) order
 
 -- A log tells the same as another: what the posts were answered, and the same turns, maybe in
 -- another order.
-pub record TellsTheSame (log other : Log) : Type 0 where
+pub record TellsTheSame {V : Type 0} (log other : Log V) : Type 0 where
   pub posts : log.posts ≡ other.posts
   pub turns : IsPermutation log.turns other.turns

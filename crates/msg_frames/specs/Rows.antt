@@ -1,6 +1,6 @@
 -- Worked runs: systems, frames, and the logs that come of them, by computation.
 use Rattle.std.specs.Prelude.{◌≡◌, ℕ, suc, ℤ, pos, negsuc, List, [], ◌∷◌, ◌++◌, length, map, Some, None, refl}
-use Rattle.msg_world.specs.{Prelude.WorldState, Prelude.by, Prelude.held_world, Prelude.new_world, declared.record.Record.Record, declared.record.TheConstants.HOST}
+use Rattle.msg_world.specs.{Prelude.WorldState, Prelude.by, Prelude.held_world, Prelude.new_world, declared.record.Record.Record, declared.record.TheConstants.HOST, Prelude.i64_values}
 use Rattle.msg_order.specs.declared.rule.Rule.{Rule}
 use Rattle.msg_system.specs.{Prelude.Meaning, Prelude.new_system, Prelude.turn, declared.condition.Condition.Condition, declared.condition.Probe.TheVariants.OnMessage, declared.condition.Probe.TheVariants.ResourceEquals, declared.op.Op.Op, declared.op.Op.TheVariants.Write, declared.op.Op.TheVariants.Batch, declared.op.Op.TheVariants.Read, declared.op.Op.TheVariants.Len, declared.op.Op.TheVariants.Missed, declared.op.Op.TheVariants.Forward, declared.op.Op.TheVariants.Sum, declared.op.Op.TheVariants.Set, declared.op.Op.TheVariants.Add, declared.op.Op.TheVariants.Drain, declared.op.Op.TheVariants.Signal, declared.program.Program.Program, declared.reply.Reply.Reply, declared.reply.Took.Took, declared.start.Start.TheVariants.Zero, declared.start.Start.TheVariants.Current}
 use Rattle.msg_system.specs.declared.reply.Reply.TheVariants as reply
@@ -10,20 +10,20 @@ use Rattle.msg_frames.specs.{declared.log.Log.Log, declared.log.Outcome.TheVaria
 
 -- what a worked run begins with
 pub record Setup : Type 0 where
-  pub programs : List Program
-  pub places : List Place
+  pub programs : List (Program ℤ)
+  pub places : List (Place ℤ)
   pub rules : List Rule
   pub types : ℕ
-  pub world : WorldState
+  pub world : WorldState i64_values
 
 -- these programs in these places under these rules, over types of these limits and these resources
-abbrev pub setup : List Program → List Place → List Rule → List ℕ → List ℤ → Setup
+abbrev pub setup : List (Program ℤ) → List (Place ℤ) → List Rule → List ℕ → List ℤ → Setup
 setup programs places rules limits resources = record {
   programs = programs;
   places = places;
   rules = rules;
   types = length limits;
-  world = new_world limits resources;
+  world = new_world i64_values limits resources;
 }
 
 -- the same, over a held world
@@ -31,16 +31,16 @@ abbrev pub held : Setup → Setup
 held x = record x { world = held_world x.world }
 
 -- systems of these programs, each of which writes as its number
-abbrev pub systems_numbered : ℕ → List Program → List Meaning
+abbrev pub systems_numbered : ℕ → List (Program ℤ) → List (Meaning ℤ)
 systems_numbered n [] = []
 systems_numbered n (p ∷ ps) = new_system p n ∷ systems_numbered (suc n) ps
 
 -- the first state of a setup
-abbrev pub setup_state : Setup → State
+abbrev pub setup_state : Setup → State i64_values
 setup_state x = first_state (systems_numbered 0 x.programs) x.places x.rules x.types x.world
 
 -- what frames with these posts leave on the first state of a setup, and their logs
-abbrev pub run_of : List (List (ℕ × ℤ)) → Setup → AfterRun
+abbrev pub run_of : List (List (ℕ × ℤ)) → Setup → AfterRun i64_values
 run_of posts x = run (map (λ ps. record { posts = ps }) posts) (setup_state x)
 
 -- one post, to type 0
@@ -48,63 +48,63 @@ abbrev pub post : ℤ → List (ℕ × ℤ)
 post value = (0, value) ∷ []
 
 -- a program of these ops, whose cursors start at 0
-abbrev pub program : List Op → Program
+abbrev pub program : List (Op ℤ) → Program ℤ
 program ops = record { ops = ops; start = Zero }
 
 -- a place without conditions, from frame 1 on
-abbrev pub always : Place
+abbrev pub always : Place ℤ
 always = record { conditions = []; join = 1 }
 
 -- a place with these conditions, from frame 1 on
-abbrev pub asking : List Condition → Place
+abbrev pub asking : List (Condition ℤ) → Place ℤ
 asking conditions = record { conditions = conditions; join = 1 }
 
 -- a place without conditions, from frame k on
-abbrev pub from_frame : ℕ → Place
+abbrev pub from_frame : ℕ → Place ℤ
 from_frame k = record { conditions = []; join = k }
 
 -- the resource has this value
-abbrev pub equals : ℕ → ℤ → Condition
+abbrev pub equals : ℕ → ℤ → Condition ℤ
 equals r value = record { nots = 0; probe = ResourceEquals r value }
 
 -- the resource has another value
-abbrev pub differs : ℕ → ℤ → Condition
+abbrev pub differs : ℕ → ℤ → Condition ℤ
 differs r value = record { nots = 1; probe = ResourceEquals r value }
 
 -- a message of this type is unread
-abbrev pub on_message : ℕ → Condition
+abbrev pub on_message : ℕ → Condition ℤ
 on_message t = record { nots = 0; probe = OnMessage t }
 
 -- what the log says: the host's posts, and turns
-abbrev pub log_of : List Reply → List Turn → Log
+abbrev pub log_of : List (Reply ℤ) → List (Turn ℤ) → Log ℤ
 log_of posts turns = record { posts = posts; turns = turns }
 
 -- the turn of system i, with these replies
-abbrev pub ran : ℕ → List Reply → Turn
+abbrev pub ran : ℕ → List (Reply ℤ) → Turn ℤ
 ran i replies = record { system = i; outcome = Ran replies }
 
 -- the turn of a system of one op
-abbrev pub did : ℕ → Reply → Turn
+abbrev pub did : ℕ → Reply ℤ → Turn ℤ
 did i r = ran i (r ∷ [])
 
 -- system i was skipped
-abbrev pub skipped : ℕ → Turn
+abbrev pub skipped : ℕ → Turn ℤ
 skipped i = record { system = i; outcome = Skipped }
 
 -- a write of n messages, of which this is the first number
-abbrev pub wrote : ℕ → ℕ → Reply
+abbrev pub wrote : ℕ → ℕ → Reply ℤ
 wrote first n = reply.Wrote (record { first = first; n = n })
 
 -- what a read took: how many it missed, the number of the first message, and the messages
-abbrev pub took_of : ℕ → ℕ → List Record → Took
+abbrev pub took_of : ℕ → ℕ → List (Record ℤ) → Took ℤ
 took_of missed first items = record { missed = missed; first = first; items = items }
 
 -- the reply to a read that took this
-abbrev pub read_of : ℕ → ℕ → List Record → Reply
+abbrev pub read_of : ℕ → ℕ → List (Record ℤ) → Reply ℤ
 read_of missed first items = reply.Read (took_of missed first items)
 
 -- the totals of system i for type t
-abbrev pub totals_of : State → ℕ → ℕ → Totals
+abbrev pub totals_of : State i64_values → ℕ → ℕ → Totals
 totals_of s i t = (s.members i).totals t
 
 -- totals of a reader that cleared nothing
@@ -139,7 +139,7 @@ one_frames_lag = (refl, refl)
 
 -- ---- two updates drop a message, and not one
 
-abbrev pub fourth : List Op → Setup
+abbrev pub fourth : List (Op ℤ) → Setup
 fourth ops =
     setup (program (Add 0 (pos 1) ∷ []) ∷ program ops ∷ [])
     (always ∷ asking (equals 0 (pos 4) ∷ []) ∷ []) [] (10 ∷ []) (pos 0 ∷ [])
@@ -147,7 +147,7 @@ fourth ops =
 abbrev pub fourth_frames : List (List (ℕ × ℤ))
 fourth_frames = (post (pos 10) ∷ post (pos 20) ∷ post (pos 30) ∷ [] ∷ [])
 
-abbrev pub fourth_run : List Op → AfterRun
+abbrev pub fourth_run : List (Op ℤ) → AfterRun i64_values
 fourth_run ops = run_of fourth_frames (fourth ops)
 
 pub exactly_two_updates : ((fourth_run (Read 0 None ∷ [])).logs
@@ -180,7 +180,7 @@ writers =
     (always ∷ always ∷ always ∷ []) [] (20 ∷ []) (pos 0 ∷ [])
 
 -- what the reader gets of a frame, after the host's value
-abbrev pub of_three : ℤ → List Record
+abbrev pub of_three : ℤ → List (Record ℤ)
 of_three value = by HOST value ∷ by 0 (pos 1) ∷ by 1 (pos 2) ∷ by 1 (pos 3) ∷ []
 
 abbrev pub writers_frames : List (List (ℕ × ℤ))
@@ -203,7 +203,7 @@ contrary =
     (always ∷ always ∷ always ∷ always ∷ [])
     (record { earlier = 3; later = 1 } ∷ record { earlier = 2; later = 0 } ∷ []) (10 ∷ 10 ∷ []) []
 
-abbrev pub contrary_turns : List Turn
+abbrev pub contrary_turns : List (Turn ℤ)
 contrary_turns =
     did 2 (read_of 0 0 []) ∷ did 0 (wrote 0 1) ∷ did 3 (read_of 0 0 (by 0 (pos 1) ∷ []))
     ∷ did 1 (wrote 0 1) ∷ []
@@ -253,7 +253,7 @@ abbrev pub tally : Setup
 tally =
     setup (program (Sum 0 0 ∷ []) ∷ []) (always ∷ []) [] (9 ∷ []) (pos 9223372036854775807 ∷ [])
 
-abbrev pub added : Took
+abbrev pub added : Took ℤ
 added = took_of 0 0 (by HOST (pos 1) ∷ by HOST (negsuc 4) ∷ [])
 
 abbrev pub tally_frames : List (List (ℕ × ℤ))
@@ -278,7 +278,7 @@ early_frames = (post (pos 1) ∷ post (pos 2) ∷ [])
 abbrev pub late_frames : List (List (ℕ × ℤ))
 late_frames = early_frames ++ (post (pos 3) ∷ [])
 
-abbrev pub late_run : AfterRun
+abbrev pub late_run : AfterRun i64_values
 late_run = run_of late_frames late
 
 pub late_systems : (late_run.logs
@@ -321,7 +321,7 @@ abbrev pub signallers_frames : List (List (ℕ × ℤ))
 signallers_frames = (post (pos 1) ∷ [] ∷ [] ∷ [])
 
 -- the turns of a frame, in which so many messages were missed
-abbrev pub signalled : ℕ → List Turn
+abbrev pub signalled : ℕ → List (Turn ℤ)
 signalled missed =
     ran 0 (reply.Signalled ∷ reply.Signalled ∷ []) ∷ did 2 (reply.Missed missed)
     ∷ did 1 reply.Signalled ∷ []

@@ -3,6 +3,7 @@ use Rattle.std.specs.Prelude.{◌≡◌, ℕ, ◌+◌, ◌≤◌, ◌<◌, Bool,
 use Rattle.msg_buffer.specs.Prelude.{IsSound, count}
 use Rattle.msg_order.specs.Prelude.{IsAcyclic, rules_among}
 use Rattle.msg_frames.specs.{Entries.no_totals, Frames.State, Frames.UsesParts, Frames.has_begun, Moments.reader_place, declared.totals.Totals.Totals}
+use Rattle.msg_world.specs.Prelude.{Values}
 
 -- The account begins at a start, and all that the reader got, missed and cleared since leads to its
 -- place.
@@ -11,13 +12,14 @@ pub record IsBalanced (x : Totals) (place : ℕ) : Type 0 where
   pub start : x.start ≡ Some begin
   pub adds_up : begin + x.got + x.missed + x.cleared ≡ place
 
--- whichever systems have joined, the rules make no cycle among them
-abbrev pub NoCycle : State → Type 0
-NoCycle s = (joined : List Bool) → length joined ≡ s.systems
-    → IsAcyclic (rules_among joined s.rules)
+module _ {V : Type 0} {values : Values V} where
+  -- whichever systems have joined, the rules make no cycle among them
+  abbrev pub NoCycle : State values → Type 0
+  NoCycle s = (joined : List Bool) → length joined ≡ s.systems
+      → IsAcyclic (rules_among joined s.rules)
 
 -- What holds of a state before and after every frame.
-pub record IsSoundState (s : State) : Type 0 where
+pub record IsSoundState {V : Type 0} {values : Values V} (s : State values) : Type 0 where
   -- each system needs only parts that a world may have
   pub uses : UsesParts s
   -- the rules of their order make no cycle

@@ -3,7 +3,7 @@
 use Rattle.std.specs.Prelude.{◌≡◌, ◌≢◌, ◌⊎◌, ℕ, suc, ◌<◌, List, [], ◌∷◌, ◌++◌, map, All, AllPairs, IsPermutation, IsTrue, ◌==◌, if◌then◌else◌}
 use Rattle.std.specs.List.{concat}
 use Rattle.msg_buffer.specs.Prelude.{GoesOn, IsSound}
-use Rattle.msg_world.specs.{Prelude.Conflict, Prelude.merge, declared.access.Access.Access}
+use Rattle.msg_world.specs.{Prelude.Conflict, Prelude.merge, declared.access.Access.Access, Prelude.Values}
 use Rattle.msg_order.specs.Prelude.{AreBatches, Graph, IsAcyclic, IsLawfulOrder, IsSettledOrder, IsTurnOrder, NoneConflict, Path, access_of, batches, has_joined}
 use Rattle.msg_system.specs.Prelude.{conditions_of}
 use Rattle.msg_frames.specs.{declared.frame.Frame.Frame, Frames.AfterTurns, Frames.AreAccessesOf, Frames.UsesParts, Frames.are_in_conflict, Frames.frame, Frames.settled_order, Frames.turn_order, Replays.IsLawfulFor, Replays.TellsTheSame, Frames.after_turn_of, Frames.after_turns_of, Frames.before_turns, Frames.frame_in, Frames.run, Frames.after_joining, Frames.logged_turn, Frames.turn_of, Frames.with_joining, Frames.member_after, Frames.Member, Frames.State, Frames.join_flags, Soundness.NoCycle}
@@ -12,7 +12,7 @@ use Rattle.msg_frames.specs.{declared.frame.Frame.Frame, Frames.AfterTurns, Fram
 
 -- The same system: what it needs, where it starts, the number that it writes as, its conditions,
 -- and when it joins. Its rule, its cursors and its accounts may be others.
-pub record SameMember (m n : Member) : Type 0 where
+pub record SameMember {V : Type 0} (m n : Member V) : Type 0 where
   pub needs : n.job.system.needs ≡ m.job.system.needs
   pub start : n.job.system.start ≡ m.job.system.start
   pub writer : n.job.system.writer ≡ m.job.system.writer
@@ -20,21 +20,22 @@ pub record SameMember (m n : Member) : Type 0 where
   pub join : n.join ≡ m.join
 
 -- The same systems, rules and types. The world may be another, and the number of frames.
-pub record SameSystems (s u : State) : Type 0 where
+pub record SameSystems {V : Type 0} {values : Values V} (s u : State values) : Type 0 where
   pub systems : u.systems ≡ s.systems
   pub members : (i : ℕ) → SameMember (s.members i) (u.members i)
   pub rules : u.rules ≡ s.rules
   pub types : u.types ≡ s.types
 
 -- Turns keep the systems, and make no frame.
-abbrev pub TurnsKeepSystems : Type 0
-TurnsKeepSystems = (order : List ℕ) (s : State)
+abbrev pub TurnsKeepSystems : {V : Type 0} → Values V → Type 0
+TurnsKeepSystems values = (order : List ℕ) (s : State values)
     → SameSystems s (after_turns_of order s).state
     × ((after_turns_of order s).state.frames ≡ s.frames)
 
 -- A frame keeps the systems: as some join, as it begins, before its turns and after them. It
 -- counts as one frame.
-pub record FrameKeeps (order : List ℕ) (frame : Frame) (s : State) : Type 0 where
+pub record FrameKeeps {V : Type 0} {values : Values V} (order : List ℕ) (frame : Frame V)
+    (s : State values) : Type 0 where
   pub with_joiners : (k : ℕ) → SameSystems s (with_joining k s)
   pub as_it_begins : SameSystems s (after_joining s)
   pub before : SameSystems s (before_turns frame.posts s)
@@ -43,12 +44,13 @@ pub record FrameKeeps (order : List ℕ) (frame : Frame) (s : State) : Type 0 wh
   pub counted : (frame_in order frame s).state.frames ≡ suc s.frames
 
 -- Each frame keeps the systems.
-abbrev pub FramesKeepSystems : Type 0
-FramesKeepSystems = (order : List ℕ) (frame : Frame) (s : State) → FrameKeeps order frame s
+abbrev pub FramesKeepSystems : {V : Type 0} → Values V → Type 0
+FramesKeepSystems {V} values = (order : List ℕ) (frame : Frame V) (s : State values)
+    → FrameKeeps order frame s
 
 -- The same systems have the same accesses, and as many frames on the same have joined.
-abbrev pub SameSystemsHaveSameAccesses : Type 0
-SameSystemsHaveSameAccesses = (s u : State) → SameSystems s u
+abbrev pub SameSystemsHaveSameAccesses : {V : Type 0} → Values V → Type 0
+SameSystemsHaveSameAccesses values = (s u : State values) → SameSystems s u
     → ((accesses : List Access) → AreAccessesOf s accesses → AreAccessesOf u accesses)
     × (u.frames ≡ s.frames → join_flags u ≡ join_flags s)
 
@@ -56,50 +58,54 @@ SameSystemsHaveSameAccesses = (s u : State) → SameSystems s u
 
 -- Where the accesses of two systems don't conflict, the turn of one doesn't change what comes of
 -- the other's, and it doesn't matter which is first.
-abbrev pub TurnsOfOthersCommute : Type 0
-TurnsOfOthersCommute = (s : State) (accesses : List Access) (i j : ℕ) → AreAccessesOf s accesses
+abbrev pub TurnsOfOthersCommute : {V : Type 0} → Values V → Type 0
+TurnsOfOthersCommute values = (s : State values) (accesses : List Access) (i j : ℕ)
+    → AreAccessesOf s accesses
     → i < s.systems → j < s.systems → i ≢ j
     → ¬ Conflict (access_of accesses i) (access_of accesses j)
     → (logged_turn (after_turn_of i s) j ≡ logged_turn s j)
     × (logged_turn (after_turn_of j s) i ≡ logged_turn s i)
     × (after_turn_of j (after_turn_of i s) ≡ after_turn_of i (after_turn_of j s))
 
--- the members, with another one as number i
-abbrev pub with_member : (ℕ → Member) → ℕ → Member → ℕ → Member
-with_member members i m = λ k. if k == i then m else members k
+module _ {V : Type 0} where
+  -- the members, with another one as number i
+  abbrev pub with_member : (ℕ → Member V) → ℕ → Member V → ℕ → Member V
+  with_member members i m = λ k. if k == i then m else members k
 
--- the state s with system i as its turn on the state `start` left it, and with what that wrote
-abbrev pub home : List Access → State → ℕ → State → State
-home accesses start i s = record s {
-  members = with_member s.members i (member_after (turn_of start i) (start.members i));
-  world = merge (access_of accesses i) (turn_of start i).state s.world;
-}
+module _ {V : Type 0} {values : Values V} where
+  -- the state s with system i as its turn on the state `start` left it, and with what that wrote
+  abbrev pub home : List Access → State values → ℕ → State values → State values
+  home accesses start i s = record s {
+    members = with_member s.members i (member_after (turn_of start i) (start.members i));
+    world = merge (access_of accesses i) (turn_of start i).state s.world;
+  }
 
--- the state s with each of these as its turn on the state `start` left it, and what that wrote
-abbrev pub all_home : List Access → State → List ℕ → State → State
-all_home accesses start [] s = s
-all_home accesses start (i ∷ is) s = all_home accesses start is (home accesses start i s)
+  -- the state s with each of these as its turn on the state `start` left it, and what that wrote
+  abbrev pub all_home : List Access → State values → List ℕ → State values → State values
+  all_home accesses start [] s = s
+  all_home accesses start (i ∷ is) s = all_home accesses start is (home accesses start i s)
 
 -- Jobs of which no two conflict may each run on the state as it was at the start, if what they
 -- wrote is merged afterwards: the log and the state are those of one turn after the other.
-abbrev pub BatchesRunSideBySide : Type 0
-BatchesRunSideBySide = (s : State) (accesses : List Access) (batch : List ℕ)
+abbrev pub BatchesRunSideBySide : {V : Type 0} → Values V → Type 0
+BatchesRunSideBySide values = (s : State values) (accesses : List Access) (batch : List ℕ)
     → AreAccessesOf s accesses
     → All (λ i. i < s.systems) batch → AllPairs (λ i j. i ≢ j) batch → NoneConflict accesses batch
     → ((after_turns_of batch s).turns ≡ map (logged_turn s) batch)
     × ((after_turns_of batch s).state ≡ all_home accesses s batch s)
 
--- each batch side by side, on the state that the batches before it left
-abbrev pub by_batches : List Access → List (List ℕ) → State → AfterTurns
-by_batches accesses [] s = record { state = s; turns = [] }
-by_batches accesses (batch ∷ batches) s =
-    let rest : AfterTurns = by_batches accesses batches (all_home accesses s batch s) in
-    record { state = rest.state; turns = map (logged_turn s) batch ++ rest.turns }
+module _ {V : Type 0} {values : Values V} where
+  -- each batch side by side, on the state that the batches before it left
+  abbrev pub by_batches : List Access → List (List ℕ) → State values → AfterTurns values
+  by_batches accesses [] s = record { state = s; turns = [] }
+  by_batches accesses (batch ∷ batches) s =
+      let rest : AfterTurns values = by_batches accesses batches (all_home accesses s batch s) in
+      record { state = rest.state; turns = map (logged_turn s) batch ++ rest.turns }
 
 -- One batch after the other, each side by side, leaves the log and the state of one turn after the
 -- other.
-abbrev pub FramesRunByBatches : Type 0
-FramesRunByBatches = (s : State) (accesses : List Access) (batches : List (List ℕ))
+abbrev pub FramesRunByBatches : {V : Type 0} → Values V → Type 0
+FramesRunByBatches values = (s : State values) (accesses : List Access) (batches : List (List ℕ))
     → AreAccessesOf s accesses
     → All (λ i. i < s.systems) (concat batches) → AllPairs (λ i j. i ≢ j) (concat batches)
     → All (NoneConflict accesses) batches
@@ -109,8 +115,9 @@ FramesRunByBatches = (s : State) (accesses : List Access) (batches : List (List 
 
 -- Two lawful orders of one settled order leave the same state and have the same turns: each
 -- system's comes out alike.
-abbrev pub LawfulOrdersAgree : Type 0
-LawfulOrdersAgree = (s : State) (accesses : List Access) (settled : Graph) (a b : List ℕ)
+abbrev pub LawfulOrdersAgree : {V : Type 0} → Values V → Type 0
+LawfulOrdersAgree values = (s : State values) (accesses : List Access) (settled : Graph)
+    (a b : List ℕ)
     → AreAccessesOf s accesses
     → IsSettledOrder accesses s.rules (join_flags s) settled
     → IsLawfulOrder settled (join_flags s) a → IsLawfulOrder settled (join_flags s) b
@@ -120,7 +127,7 @@ LawfulOrdersAgree = (s : State) (accesses : List Access) (settled : Graph) (a b 
 -- ---- the order of turns
 
 -- How the systems of a state that have joined are ordered.
-pub record AreOrdered (s : State) : Type 0 where
+pub record AreOrdered {V : Type 0} {values : Values V} (s : State values) : Type 0 where
   -- no path leads back
   pub no_cycle : IsAcyclic (settled_order s)
   -- of two in conflict, one comes before the other
@@ -136,17 +143,19 @@ pub record AreOrdered (s : State) : Type 0 where
   pub once : IsLawfulOrder (settled_order s) (join_flags s) (turn_order s)
 
 -- If the rules make no cycle, the systems are ordered so.
-abbrev pub TurnsAreInOrder : Type 0
-TurnsAreInOrder = (s : State) → NoCycle s → AreOrdered s
+abbrev pub TurnsAreInOrder : {V : Type 0} → Values V → Type 0
+TurnsAreInOrder values = (s : State values) → NoCycle s → AreOrdered s
 
 -- The settled order is the one that the rules make, and then the pairs whose accesses conflict.
-abbrev pub OrderIsSettled : Type 0
-OrderIsSettled = (s : State) (accesses : List Access) → UsesParts s → AreAccessesOf s accesses
+abbrev pub OrderIsSettled : {V : Type 0} → Values V → Type 0
+OrderIsSettled values = (s : State values) (accesses : List Access) → UsesParts s
+    → AreAccessesOf s accesses
     → IsSettledOrder accesses s.rules (join_flags s) (settled_order s)
 
 -- In any lawful order a frame's turns come out alike, and it leaves the same state.
-abbrev pub FramesAgreeInLawfulOrders : Type 0
-FramesAgreeInLawfulOrders = (f : Frame) (s : State) (accesses : List Access) (order : List ℕ)
+abbrev pub FramesAgreeInLawfulOrders : {V : Type 0} → Values V → Type 0
+FramesAgreeInLawfulOrders {V} values = (f : Frame V) (s : State values) (accesses : List Access)
+    (order : List ℕ)
     → UsesParts s → NoCycle s → AreAccessesOf s accesses → IsLawfulFor f s order
     → ((frame_in order f s).state ≡ (frame f s).state)
     × TellsTheSame (frame_in order f s).log (frame f s).log
@@ -154,6 +163,7 @@ FramesAgreeInLawfulOrders = (f : Frame) (s : State) (accesses : List Access) (or
 -- ---- lists of messages
 
 -- Over a run each type's history goes on: what was written stays, each message in its place.
-abbrev pub ListsOnlyGrow : Type 0
-ListsOnlyGrow = (frames : List Frame) (s : State) (t : ℕ) → IsSound (s.world.histories t)
+abbrev pub ListsOnlyGrow : {V : Type 0} → Values V → Type 0
+ListsOnlyGrow {V} values = (frames : List (Frame V)) (s : State values) (t : ℕ)
+    → IsSound (s.world.histories t)
     → GoesOn (s.world.histories t) ((run frames s).state.world.histories t)

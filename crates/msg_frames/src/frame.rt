@@ -4,6 +4,6 @@ use msg_world::TypeNo;
 
 /// What the host posts as a frame begins: values, each to a type.
 #[derive(Debug, PartialEq, Eq, Drop)]
-pub struct Frame {
-    pub posts: Items<(TypeNo, i64)>,
+pub struct Frame<V = i64> {
+    pub posts: Items<(TypeNo, V)>,
 }

@@ -1,22 +1,22 @@
 //! Laws of readers: facts that hold of every run of frames.
-ghost use Rattle.msg_frames.specs.Prelude.{AccountsBalance, AllAreAnswered, EachMeetsOneFate, FirstIsSound, FrameStaysSound, LogsTellEntries, NoneBeforeJoining, ReadersTile, ReplaysTellTheSame, RunStaysSound, RunsAreComplete, WhoIsUpToDateMissesNothing, WhoReadsAllCatchesUp, WhoReadsAllHasTheFrameBefore, WhoReadsAllIsUpToDate, WhoReadsEachFrameMissesNothing, WhoseProgramReadsAll, WritersInOrder};
+ghost use Rattle.msg_frames.specs.Prelude.{AccountsBalance, AccountsBeginAtTheStart, AllAreAnswered, EachMeetsOneFate, FirstIsSound, FrameStaysSound, LogsTellEntries, NoneBeforeJoining, ReadersTile, ReplaysTellTheSame, RunStaysSound, RunsAreComplete, RunsCompose, WhoIsUpToDateMissesNothing, WhoReadsAllCatchesUp, WhoReadsAllHasTheFrameBefore, WhoReadsAllIsUpToDate, WhoReadsEachFrameMissesNothing, WhoseProgramReadsAll, WritersInOrder};
 
 use msg_buffer::laws::{histories_only_grow, readers_tile};
 use msg_system::a_program_is_its_ops_in_order;
-use msg_world::Record;
+use msg_world::{Record, Value};
 
 /// A frame leaves a sound state sound, and so does a run of frames.
-pub fn states_stay_sound()
-    ensures frame { FrameStaysSound }
-    ensures run { RunStaysSound }
+pub fn states_stay_sound<V: Value>()
+    ensures frame { FrameStaysSound V.values }
+    ensures run { RunStaysSound V.values }
 {
-    histories_only_grow::<Record>();
-    readers_tile::<Record>();
+    histories_only_grow::<Record<V>>();
+    readers_tile::<Record<V>>();
 }
 
 /// A state before any frame is sound, where its systems are new ones over a sound world.
-pub fn first_states_are_sound()
-    ensures law { FirstIsSound }
+pub fn first_states_are_sound<V: Value>()
+    ensures law { FirstIsSound V.values }
 {}
 
 /// Every run is complete. Each type's list grew by exactly what the steps tell was written, each
@@ -24,63 +24,78 @@ pub fn first_states_are_sound()
 /// stands at the end, its entries tell each number once, in order: those that it went past, and
 /// those that it missed since they had been dropped unread. What it was given is what is there. The
 /// steps' replies are those of the logs.
-pub fn runs_are_complete()
-    ensures law { RunsAreComplete }
-    ensures answered { AllAreAnswered }
+pub fn runs_are_complete<V: Value>()
+    ensures law { RunsAreComplete V.values }
+    ensures answered { AllAreAnswered V.values }
 {
-    histories_only_grow::<Record>();
-    readers_tile::<Record>();
+    histories_only_grow::<Record<V>>();
+    readers_tile::<Record<V>>();
 }
+
+/// Calls in a row are one run: frames, and then more of them from the state that these leave.
+#[tactic(auto, using(crate::proofs::Functions::run_append))]
+pub fn runs_compose<V: Value>()
+    ensures law { RunsCompose V.values }
+{}
 
 /// So each of these messages was given, or cleared, or missed: one of these, and once. What is
 /// given of a writer is what the writer was told that it wrote, under that number and in that
 /// order. And the entries are what the logs tell.
-pub fn each_message_meets_one_fate()
-    ensures fate { EachMeetsOneFate }
-    ensures writers { WritersInOrder }
-    ensures logs { LogsTellEntries }
+pub fn each_message_meets_one_fate<V: Value>()
+    ensures fate { EachMeetsOneFate V.values }
+    ensures writers { WritersInOrder V.values }
+    ensures logs { LogsTellEntries V.values }
 {}
 
 /// The reads and clears of each reader tile over a run.
-pub fn readers_tile_over_runs()
-    ensures law { ReadersTile }
+pub fn readers_tile_over_runs<V: Value>()
+    ensures law { ReadersTile V.values }
 {
-    histories_only_grow::<Record>();
-    readers_tile::<Record>();
+    histories_only_grow::<Record<V>>();
+    readers_tile::<Record<V>>();
 }
 
 /// Logs that tell the same as those of a run tell each system what the run tells it. So frames of
 /// which some are replayed tell each reader what the run of the same frames tells.
-pub fn replays_tell_the_same()
-    ensures law { ReplaysTellTheSame }
+pub fn replays_tell_the_same<V: Value>()
+    ensures law { ReplaysTellTheSame V.values }
 {}
 
 /// A reader's totals lead from its start to its place. One that hasn't joined has none.
-pub fn accounts_add_up()
-    ensures balance { AccountsBalance }
-    ensures before_joining { NoneBeforeJoining }
+pub fn accounts_add_up<V: Value>()
+    ensures balance { AccountsBalance V.values }
+    ensures before_joining { NoneBeforeJoining V.values }
 {}
+
+/// From a first state on, the account of a reader counts all that its entries tell since its start,
+/// whether it joined before the first frame or later.
+pub fn accounts_begin_at_the_start<V: Value>()
+    ensures law { AccountsBeginAtTheStart V.values }
+{
+    histories_only_grow::<Record<V>>();
+    readers_tile::<Record<V>>();
+}
 
 /// A system that reads a type without limit in each frame misses nothing of it after the first of
 /// these frames, unless a system drains the type. At the end of its turn it was given, or went
 /// past, all that had been written when the turn began; so what is written in one frame it has by
 /// the end of the next.
-pub fn who_reads_each_frame_misses_nothing()
-    ensures catches_up { WhoReadsAllCatchesUp }
-    ensures frame_before { WhoReadsAllHasTheFrameBefore }
-    ensures up_to_date { WhoReadsAllIsUpToDate }
-    ensures next_frame { WhoIsUpToDateMissesNothing }
-    ensures law { WhoReadsEachFrameMissesNothing }
+pub fn who_reads_each_frame_misses_nothing<V: Value>()
+    ensures catches_up { WhoReadsAllCatchesUp V.values }
+    ensures frame_before { WhoReadsAllHasTheFrameBefore V.values }
+    ensures up_to_date { WhoReadsAllIsUpToDate V.values }
+    ensures next_frame { WhoIsUpToDateMissesNothing V.values }
+    ensures law { WhoReadsEachFrameMissesNothing V.values }
 {
-    histories_only_grow::<Record>();
-    readers_tile::<Record>();
+    histories_only_grow::<Record<V>>();
+    readers_tile::<Record<V>>();
 }
 
 /// A system that has joined, has no conditions, and whose program of at most 64 ops reads a type
 /// without limit, does so in each frame.
-pub fn programs_read_all()
-    ensures law { WhoseProgramReadsAll }
+pub fn programs_read_all<V: Value>()
+    ensures law { WhoseProgramReadsAll V.values }
 {
-    histories_only_grow::<Record>();
-    a_program_is_its_ops_in_order();
+    histories_only_grow::<Record<V>>();
+    a_program_is_its_ops_in_order::<V>();
 }

@@ -2,12 +2,11 @@
 pub mod Elements
 mod SystemSets
 mod Chains
-mod PathTest
+pub mod PathTest
 -- The settled order
 mod SettledPairs
 pub mod SetPaths
--- One order for all accesses and rules
-mod Uniqueness
+pub mod SettledOrders
 -- Batches and turns
 mod BatchLevels
 mod TurnOrders

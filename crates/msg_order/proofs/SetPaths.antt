@@ -2,9 +2,10 @@
 use Rattle.std.proofs.Common.{◌≡◌, ℕ, ◌+◌, ◌-◌, ◌<◌, ◌≤◌, Bool, true, false, cond, ◌&&◌, ◌||◌, List, [], ◌∷◌, ◌++◌, length, take, map, get_or, replicate, Option, None, Some, refl, sym, ◌∙◌, arith, length-append, ◌==◌, IsTrue, IsFalse, MatchOption, ◌↔◌}
 use Rattle.std.specs.List.{list_any, range_with_len}
 use Rattle.std.proofs.lemmas.{Bool.cases_Bool, List.append-nil, List.get_or-map, List.length-map, List.take-map, List.get_or-take, List.get_or_past, List.get_or_push, List.get_or_append_left, Simd.get_or-replicate, List.Elements.All-head, List.Elements.All-tail, List.Elements.filter_more, List.Elements.Contains-append_left, List.Elements.Contains-push, List.Elements.Contains-push_cases, Bool.Decides.eqb_tells, Bool.cases_eq, Bool.cases_lt, Bool.or_left, Bool.or_right, Bool.or_cases, Bool.and_parts, Bool.false≢true, Bool.false_from_ne_true, Bool.eqb-true, Bool.eq-eqb}
-use Rattle.msg_order.specs.Prelude.{Graph, IsAcyclic, IsAmong, IsLowestOnCycle, NameSystemsBelow, Rule, Settles, SystemSet, edges_of, has_joined, pairs, rules_among}
-use Rattle.msg_order.specs.{inner.SystemSet.has, inner.SystemSet.meets, inner.SystemSet.no_set, Graph.path, inner.Paths.set_at, inner.Paths.comes_before, inner.Paths.ArePaths, inner.Paths.AreStarts}
-use Rattle.msg_order.proofs.{SystemSets.has-no_set, SystemSets.meets-found, SystemSets.meets-true, Elements.Contains-tail, Elements.Contains-cases, Elements.Contains-list_any, Elements.Contains-range, Elements.filter-Contains, Elements.list_any-Contains, Elements.range-Contains, PathTest.path_trans, PathTest.to_Path, PathTest.no_Path, PathTest.no_path, PathTest.same_test, PathTest.same_paths, SettledPairs.grown, SettledPairs.grown_paths, SettledPairs.reaches, SettledPairs.settles_row, SettledPairs.settles_then, SettledPairs.settles_keeps, SettledPairs.pairs_until, SettledPairs.pairs_until-more, SettledPairs.row, SettledPairs.pairs-Contains}
+use Rattle.msg_order.specs.Prelude.{Graph, IsAcyclic, IsLowestOnCycle, NameSystemsBelow, Rule, SystemSet, TellsConflicts, edges_of, has_joined, rules_among, settle}
+use Rattle.msg_world.specs.declared.access.Access.{Access}
+use Rattle.msg_order.specs.{inner.SystemSet.has, inner.SystemSet.meets, inner.SystemSet.no_set, Graph.path, inner.Paths.set_at, inner.Paths.comes_before, inner.Paths.AreInConflict, inner.Paths.ArePaths, inner.Paths.AreStarts, inner.Paths.conflict_among}
+use Rattle.msg_order.proofs.{SystemSets.has-no_set, SystemSets.meets-found, SystemSets.meets-true, Elements.Contains-tail, Elements.Contains-cases, Elements.Contains-list_any, Elements.Contains-range, Elements.list_any-Contains, Elements.range-Contains, PathTest.path_trans, PathTest.to_Path, PathTest.no_Path, PathTest.same_test, PathTest.same_paths, SettledPairs.grown_paths, SettledPairs.reaches, SettledPairs.settle_row, SettledPairs.settle_append, SettledPairs.pairs_until, SettledPairs.pairs_until-more}
 
 -- past the last set there is none
 pub set_past : (before : List SystemSet) (j : ℕ) → length before ≤ j → set_at before j ≡ no_set
@@ -84,10 +85,6 @@ rule_more joined rules k d h i j =
     let last = path-at_end (rules_among joined (take k rules)) (f (get_or rules k d)) i j in
     grind (arith, more, last, length-map rules f, get_or-map f rules k d (f d) h, take-map f, append-nil)
 
--- the sets are the paths of the graph that g becomes by the pairs of the systems below i
-abbrev pub IsOnWay : (ℕ → ℕ → Type 0) → Graph → ℕ → ℕ → List SystemSet → Type 0
-IsOnWay C g n i before = (h : Graph) × (ArePaths h before × Settles C g (pairs_until n i) h)
-
 -- one more number is in the set, or is not, as the property says
 pub gains_one : (P : ℕ → Type 0) {old new : ℕ → Bool} (j : ℕ) → ((k : ℕ) → new k ≡ (k == j || old k))
     → ((k : ℕ) → IsTrue (old k) ↔ ((k < j) × P k)) → P j → (k : ℕ) → IsTrue (new k) ↔ ((k < j + 1) × P k)
@@ -98,36 +95,44 @@ pub gains_none : (P : ℕ → Type 0) {old : ℕ → Bool} (j : ℕ) → ((k : �
 gains_none P j told fails k = grind (arith, cases_eq, told k)
 
 -- what `later_conflicts` says
-abbrev pub TellsLater : (ℕ → ℕ → Type 0) → SystemSet → ℕ → SystemSet → Type 0
-TellsLater C before i later = (j : ℕ) → IsTrue (has later j) ↔ ((i < j) × (C i j × IsFalse (has before j)))
+abbrev pub TellsLater : (ℕ → ℕ → Bool) → SystemSet → ℕ → SystemSet → Type 0
+TellsLater conflict before i later = (j : ℕ) → IsTrue (has later j)
+    ↔ ((i < j) × (IsTrue (conflict i j) × IsFalse (has before j)))
 
-pub row_settles : (C : ℕ → ℕ → Type 0) (g : Graph) (n i : ℕ) (before new : List SystemSet) (later : SystemSet) → n ≤ 256
-    → i < n → ((j : ℕ) → C i j → j < n)
-    → TellsLater C (set_at before i) i later → AddsEdges before i later new → IsOnWay C g n i before
-    → IsOnWay C g n (i + 1) new
-row_settles C g n i before new later few lt below tells adds way =
-    let h : Graph = way.0 in
+-- the pairs of system i with the later ones
+pub row_settles : (conflict : ℕ → ℕ → Bool) (g : Graph) (n i : ℕ) (before new : List SystemSet) (later : SystemSet)
+    → n ≤ 256 → i < n → ((j : ℕ) → IsTrue (conflict i j) → j < n)
+    → TellsLater conflict (set_at before i) i later → AddsEdges before i later new
+    → ArePaths (settle conflict g (pairs_until n i)) before → ArePaths (settle conflict g (pairs_until n (i + 1))) new
+row_settles conflict g n i before new later few lt below tells adds way =
+    let h : Graph = settle conflict g (pairs_until n i) in
     let js : List ℕ = range_with_len (i + 1) (n - (i + 1)) in
-    let found : (j : ℕ) → has later j ≡ true → (i < j) × ((j < n) × ((C i j) × (path h j i ≡ false))) = λ j t.
-    grind (arith, tells j, below j, way.1.0 j i) in
+    let found : (j : ℕ) → has later j ≡ true → (i < j) × ((j < n) × (IsTrue (conflict i j) × (path h j i ≡ false))) = λ j t.
+    grind (arith, tells j, below j, way j i) in
     let tests : (k : ℕ) → (has later k || meets (set_at before k) later) ≡ list_any (reaches (has later) h k) js = λ k.
     let here = list_any-Contains (reaches (has later) h k) js in
     let from = Contains-list_any (reaches (has later) h k) js in
     let meet = meets-found (set_at before k) later in
     let inside = λ (t : ℕ). (Contains-range (i + 1) (n - (i + 1)) t) in
-    same_test _ _ (λ e. grind (arith, eqb_tells, meets-true (set_at before k) later, way.1.0, here, found, inside))
-    (λ e. let r = from e in grind (arith, eqb_tells, r.1.1, found r.0, way.1.0 r.0 k, meet)) in (
-      grown i (has later) js h,
-      (
-        λ x k.
-            let grows = grown_paths h i (has later) js (λ t e. grind (arith, found t e)) x k in
-            grind (arith, adds x k, way.1.0 x, tests k, grows),
-        rw (pairs_until-more n i)
-            (settles_then C (pairs_until n i) (row n i) g h (grown i (has later) js h) way.1.1
-            (settles_row C h i (has later) js (λ j c. grind (arith, range-Contains (i + 1) (n - (i + 1)) j c))
-            (λ t up. grind (arith, found t, tells t, way.1.0 t i)))),
-      ),
-    )
+    same_test _ _ (λ e. grind (arith, eqb_tells, meets-true (set_at before k) later, way, here, found, inside))
+    (λ e. let r = from e in grind (arith, eqb_tells, r.1.1, found r.0, way r.0 k, meet)) in
+    let row_is = settle_row conflict h i (has later) js (λ j c. grind (arith, range-Contains (i + 1) (n - (i + 1)) j c))
+    (λ k up. same_test _ _ (λ e. grind (arith, found k e)) (λ e. grind (arith, cases_Bool (path h k i), and_parts, tells k, way k i))) in
+    rw (pairs_until-more n i, settle_append, row_is) (λ x k.
+    let grows = grown_paths h i (has later) js (λ t e. grind (arith, found t e)) x k in
+    grind (arith, adds x k, way x, tests k, grows))
+
+-- the test is that of two that have joined and are in conflict
+pub tells_among : (accesses : List Access) (joined : List Bool) (conflict : ℕ → ℕ → Bool)
+    → TellsConflicts accesses joined conflict → (i j : ℕ)
+    → IsTrue (conflict_among joined conflict i j) ↔ AreInConflict accesses joined i j
+tells_among accesses joined conflict tells i j = (
+  λ t.
+      let joins = and_parts (has_joined joined i && has_joined joined j) (conflict i j) t in
+      let both = and_parts (has_joined joined i) (has_joined joined j) joins.0 in
+      record { first_joined = both.0; second_joined = both.1; conflict = (tells i j both.0 both.1).0 joins.1 },
+  λ c. grind (arith, (tells i j c.first_joined c.second_joined).1 c.conflict),
+)
 
 -- a system that has joined has a place in the list
 pub joined_in : (joined : List Bool) (i : ℕ) → has_joined joined i ≡ true → i < length joined
@@ -154,24 +159,6 @@ all_rules m n (rule ∷ rules) le below =
     let joined : (i : ℕ) → i < n → has_joined (take n (replicate m true)) i ≡ true = λ i lt.
     grind (arith, get_or-take, get_or-replicate) in
     rw (joined rule.earlier here.0, joined rule.later here.1, rest) refl
-
--- what pairs of joined systems make of the rules leads among those that have joined
-pub settled_joins : (C : ℕ → ℕ → Type 0) (rules : List Rule) (joined : List Bool) (ps h : Graph)
-    → ((i j : ℕ) → C i j → IsTrue (has_joined joined i) × IsTrue (has_joined joined j))
-    → Settles C (rules_among joined rules) ps h → IsAmong joined h
-settled_joins C rules joined ps h joins s =
-    settles_keeps C (IsAmong joined) ps (rules_among joined rules) h s
-    (λ p k m gains among i j e. grind (arith, among i j, Contains-cases p k (i, j) e, joins p.0 p.1 gains.0))
-    (λ i j e. and_parts _ _ (filter-Contains _ (edges_of rules) (i, j) e).1)
-
--- and it has no cycle, where the rules have none
-pub settled_free : (C : ℕ → ℕ → Type 0) (n : ℕ) (g h : Graph) → Settles C g (pairs n) h → IsAcyclic g → IsAcyclic h
-settled_free C n g h s f i =
-    no_Path h i i (settles_keeps C (λ k. (s : ℕ) → path k s s ≡ false) (pairs n) g h s
-    (λ p k m gains free s.
-    let rises = pairs-Contains n p.0 p.1 m in
-    grind (arith, cases_Bool, eqb_tells, free, no_path k p.1 p.0 gains.1, path_trans k, rises))
-    (λ k. no_path _ k k (f k)) i)
 
 -- a set that was just made
 pub sets_push : (before : List SystemSet) (set : SystemSet) → ArePaths [] before → ((k : ℕ) → has set k ≡ false)

@@ -1,48 +1,43 @@
 -- Pairs taken in turn: what they add, keep and reach.
-use Rattle.std.proofs.Common.{◌≡◌, ◌≢◌, ℕ, ◌+◌, ◌-◌, ◌<◌, ◌⊎◌, inl, inr, Bool, true, false, cond, ◌&&◌, ◌||◌, List, [], ◌∷◌, ◌++◌, map, refl, ap, sym, subst, ◌∙◌, arith, ◌==◌, Contains, flat_map}
+use Rattle.std.proofs.Common.{◌≡◌, ◌≢◌, ℕ, ◌+◌, ◌-◌, ◌<◌, ◌⊎◌, inl, inr, Bool, true, false, not, cond, ◌&&◌, ◌||◌, List, [], ◌∷◌, ◌++◌, map, refl, ap, sym, ◌∙◌, arith, ◌==◌, Contains, flat_map, IsTrue}
 use Rattle.std.specs.List.{list_any, range_with_len}
-use Rattle.std.proofs.lemmas.{Bool.Decides.eqb_tells, Bool.cases_Bool, Grind.flat_map-append, List.append-nil}
-use Rattle.msg_order.specs.{Prelude.GainsEdge, Prelude.Graph, Prelude.Path, Prelude.Settles, Prelude.pairs, Graph.path}
-use Rattle.msg_order.proofs.{Elements.Contains-head, Elements.Contains-tail, Elements.Contains-cases, Elements.not_in_none, Elements.range_more, Elements.flat_map-Contains, Elements.Contains-flat_map, Elements.map-Contains, Elements.Contains-map, Elements.range-Contains, Elements.Contains-range, Chains.edge_is_path, PathTest.to_Path, PathTest.no_Path, PathTest.no_path, PathTest.path_more}
+use Rattle.std.proofs.lemmas.{Bool.Decides.eqb_tells, Bool.cases_Bool, Bool.and_parts, Grind.flat_map-append, List.append-nil}
+use Rattle.msg_order.specs.{Prelude.Graph, Prelude.pairs, Prelude.settle, Graph.path}
+use Rattle.msg_order.proofs.{Elements.Contains-head, Elements.Contains-tail, Elements.Contains-cases, Elements.not_in_none, Elements.range_more, Elements.flat_map-Contains, Elements.Contains-flat_map, Elements.map-Contains, Elements.Contains-map, Elements.range-Contains, Elements.Contains-range}
 
--- Some pairs after others.
-pub settles_then : (C : ℕ → ℕ → Type 0) (ps qs g h k : Graph) → Settles C g ps h → Settles C h qs k
-    → Settles C g (ps ++ qs) k
-settles_then C [] qs g h k a b = rw a b
-settles_then C (p ∷ ps) qs g h k a b =
-    grind (arith, settles_then C ps qs (p ∷ g) h k, settles_then C ps qs g h k)
+module _ (test : ℕ → ℕ → Bool) where
+  -- some pairs after others
+  pub settle_append : (ps qs g : Graph) → settle test g (ps ++ qs) ≡ settle test (settle test g ps) qs
+  settle_append [] qs g = refl
+  settle_append (p ∷ ps) qs g = settle_append ps qs _
 
--- Only one graph comes of them.
-pub settles_once : (C : ℕ → ℕ → Type 0) (ps g h k : Graph) → Settles C g ps h → Settles C g ps k → h ≡ k
-settles_once C [] g h k a b = sym a ∙ b
-settles_once C (p ∷ ps) g h k a b =
-    grind (arith, settles_once C ps (p ∷ g) h k, settles_once C ps g h k)
+  -- What holds of the first graph, and is kept as a pair gains its edge, holds of the last.
+  pub settle_keeps : (P : Graph → Type 0) (ps g : Graph)
+      → ((p : ℕ × ℕ) (k : Graph) → Contains ps p → IsTrue (test p.0 p.1) → path k p.1 p.0 ≡ false → P k → P (p ∷ k))
+      → P g → P (settle test g ps)
+  settle_keeps P [] g step first = first
+  settle_keeps P (p ∷ ps) g step first =
+      let later = λ (q : ℕ × ℕ) (k : Graph) (m : Contains ps q). step q k (Contains-tail p ps q m) in
+      elim (cases_Bool (test p.0 p.1 && not (path g p.1 p.0))) [
+        | inl e ↦
+            let gains = and_parts (test p.0 p.1) (not (path g p.1 p.0)) e in
+            rw e (settle_keeps P ps (p ∷ g) later
+            (step p g (Contains-head p ps) gains.0 (grind (arith, cases_Bool (path g p.1 p.0), gains.1)) first))
+        | inr e ↦ rw e (settle_keeps P ps g later first)
+      ]
 
--- What holds of the first graph, and is kept as a pair gains its edge, holds of the last.
-pub settles_keeps : (C : ℕ → ℕ → Type 0) (P : Graph → Type 0) (ps g h : Graph) → Settles C g ps h
-    → ((p : ℕ × ℕ) (k : Graph) → Contains ps p → GainsEdge C k p.0 p.1 → P k → P (p ∷ k)) → P g → P h
-settles_keeps C P [] g h a step first = subst P a first
-settles_keeps C P (p ∷ ps) g h a step first =
-    let later = λ (q : ℕ × ℕ) (k : Graph) (m : Contains ps q). step q k (Contains-tail p ps q m) in
-    elim a [
-      | inl x ↦ settles_keeps C P ps (p ∷ g) h x.1 later (step p g (Contains-head p ps) x.0 first)
-      | inr x ↦ settles_keeps C P ps g h x.1 later first
-    ]
+  -- a path stays
+  settle_grows : (ps g : Graph) (i j : ℕ) → path g i j ≡ true → path (settle test g ps) i j ≡ true
+  settle_grows ps g i j = settle_keeps (λ k. path k i j ≡ true) ps g (λ p k m t f h. grind arith)
 
--- A path stays.
-settles_grows : (C : ℕ → ℕ → Type 0) (ps g h : Graph) → Settles C g ps h → (i j : ℕ) → Path g i j → Path h i j
-settles_grows C ps g h a i j = settles_keeps C (λ k. Path k i j) ps g h a (λ p k m gains. path_more p k i j)
-
--- Between each of the pairs that are in conflict there is a path one way or the other.
-pub settles_covers : (C : ℕ → ℕ → Type 0) (ps g h : Graph) → Settles C g ps h → (i j : ℕ) → Contains ps (i, j) → C i j
-    → Path h i j ⊎ Path h j i
-settles_covers C [] g h a i j m c = absurd (not_in_none (i, j) m)
-settles_covers C (p ∷ ps) g h a i j m c =
-    let this = Contains-cases p ps (i, j) m in
-    let newest = edge_is_path (p ∷ g) p.0 p.1 (Contains-head p g) in
-    let covers = settles_covers C ps in
-    let grows = settles_grows C ps in
-    grind (arith, this, newest, covers (p ∷ g) h, covers g h, grows (p ∷ g) h, grows g h, to_Path g j i, no_Path g j i)
+  -- Between each of the pairs that are in conflict there is a path one way or the other.
+  pub settle_covers : (ps g : Graph) (i j : ℕ) → Contains ps (i, j) → IsTrue (test i j)
+      → (path (settle test g ps) i j ≡ true) ⊎ (path (settle test g ps) j i ≡ true)
+  settle_covers [] g i j m c = absurd (not_in_none (i, j) m)
+  settle_covers (p ∷ ps) g i j m c =
+      let next : Graph = cond (test p.0 p.1 && not (path g p.1 p.0)) (p ∷ g) g in
+      let stays = settle_grows ps next in
+      grind (arith, Contains-cases p ps (i, j) m, cases_Bool (path g j i), eqb_tells, stays i j, stays j i, settle_covers ps next i j)
 
 -- All pairs of numbers below n, up to those of i.
 abbrev pub row : ℕ → ℕ → Graph
@@ -96,19 +91,22 @@ grown_paths g i test (j ∷ js) f x k = elim (cases_Bool (test j)) [
       grind (arith, e, grown_paths h i test js still_free x k, same, eqb_tells, f j)
 ]
 
--- The test tells which pairs of i and a later system gain their edge, whichever of them did before.
-abbrev pub TellsPairs : (ℕ → ℕ → Type 0) → Graph → ℕ → (ℕ → Bool) → Type 0
-TellsPairs C g i test = (t : ℕ) → i < t → (test t ≡ true → C i t × (path g t i ≡ false))
-    × (C i t → path g t i ≡ false → test t ≡ true)
+-- a test of the later systems that gain an edge from i, whichever of them did before
+abbrev pub TellsRow : (ℕ → ℕ → Bool) → Graph → ℕ → (ℕ → Bool) → Type 0
+TellsRow conflict g i test = (k : ℕ) → i < k → test k ≡ (conflict i k && not (path g k i))
 
-pub settles_row : (C : ℕ → ℕ → Type 0) (g : Graph) (i : ℕ) (test : ℕ → Bool) (js : List ℕ)
-    → ((j : ℕ) → Contains js j → i < j) → TellsPairs C g i test
-    → Settles C g (map (λ k. (i, k)) js) (grown i test js g)
-settles_row C g i test [] up h = refl
-settles_row C g i test (j ∷ js) up h =
+pub settle_row : (conflict : ℕ → ℕ → Bool) (g : Graph) (i : ℕ) (test : ℕ → Bool) (js : List ℕ)
+    → ((j : ℕ) → Contains js j → i < j) → TellsRow conflict g i test
+    → settle conflict g (map (λ k. (i, k)) js) ≡ grown i test js g
+settle_row conflict g i test [] up h = refl
+settle_row conflict g i test (j ∷ js) up h =
     let lt : i < j = up j (Contains-head j js) in
     let later : (k : ℕ) → Contains js k → i < k = λ k c. up k (Contains-tail j js k c) in
-    let takes = λ (e : test j ≡ true). settles_row C ((i, j) ∷ g) i test js later
-    (λ t l. grind (arith, h t l, eqb_tells, (h j lt).0 e)) in
-    let drops = settles_row C g i test js later h in
-    grind (arith, cases_Bool (test j), h j lt, no_Path g j i, no_path g j i, takes, drops)
+    let same : settle conflict g ((i, j) ∷ map (λ k. (i, k)) js)
+    ≡ settle conflict (cond (test j) ((i, j) ∷ g) g) (map (λ k. (i, k)) js) =
+    ap (λ b. settle conflict (cond b ((i, j) ∷ g) g) (map (λ k. (i, k)) js)) (sym (h j lt)) in
+    same ∙ elim (cases_Bool (test j)) [
+      | inl e ↦ rw e (settle_row conflict ((i, j) ∷ g) i test js later
+          (λ k l. grind (arith, h k l, h j lt, e, eqb_tells, cases_Bool)))
+      | inr e ↦ rw e (settle_row conflict g i test js later h)
+    ]

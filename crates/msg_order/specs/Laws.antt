@@ -1,7 +1,7 @@
 -- Laws of the settled order. Each is the contract of a function of the same name in src/laws.rt.
 use Rattle.std.specs.Prelude.{◌≡◌, ◌≢◌, ◌<◌, ℕ, Bool, List, length, IsTrue, ◌⊎◌, ◌↔◌}
 use Rattle.msg_world.specs.{Prelude.Conflict, declared.access.Access.Access}
-use Rattle.msg_order.specs.{declared.rule.Rule.Rule, Graph.Graph, Graph.Path, Graph.IsAcyclic, Graph.IsBatchNumber, Settled.has_joined, Order.access_of, Settled.rules_among, Order.IsAmong, Order.IsSettledOrder, Order.AreBatches, Order.IsTurnOrder, Order.StandsBefore, Order.IsLawfulOrder, Settled.batches, Settled.settled, Settled.turns}
+use Rattle.msg_order.specs.{declared.rule.Rule.Rule, Graph.Graph, Graph.Path, Graph.IsAcyclic, Graph.IsBatchNumber, Settled.has_joined, Order.access_of, Settled.rules_among, Order.IsAmong, Order.IsSettledOrder, Order.TellsConflicts, Order.AreBatches, Order.IsTurnOrder, Order.StandsBefore, Order.IsLawfulOrder, Settled.batches, Settled.settled, Settled.turns}
 
 -- Rules that make no cycle among some systems make none among fewer of them.
 abbrev pub FewerSystemsMakeNoCycle : Type 0
@@ -22,20 +22,13 @@ ConflictingSystemsAreOrdered = (accesses : List Access) (rules : List Rule) (joi
     → (i j : ℕ) → i ≢ j → IsTrue (has_joined joined i) → IsTrue (has_joined joined j)
     → Conflict (access_of accesses i) (access_of accesses j) → Path order i j ⊎ Path order j i
 
--- the test says which two of those that have joined are in conflict
-abbrev pub TellsConflicts : List Access → List Bool → (ℕ → ℕ → Bool) → Type 0
-TellsConflicts accesses joined conflict = (i j : ℕ) → IsTrue (has_joined joined i)
-    → IsTrue (has_joined joined j)
-    → IsTrue (conflict i j) ↔ Conflict (access_of accesses i) (access_of accesses j)
-
--- The settled order that is computed is the one that the rules and the pairs in conflict make, and
--- no other order is.
+-- There is a settled order. Whatever test tells the conflicts, it makes that order.
 abbrev pub SettledIsTheOrder : Type 0
 SettledIsTheOrder = (accesses : List Access) (rules : List Rule) (joined : List Bool)
-    (conflict : ℕ → ℕ → Bool) → length joined ≡ length accesses
-    → TellsConflicts accesses joined conflict
-    → IsSettledOrder accesses rules joined (settled conflict rules joined)
-    × ((g : Graph) → IsSettledOrder accesses rules joined g → g ≡ settled conflict rules joined)
+    → length joined ≡ length accesses
+    → ((g : Graph) × IsSettledOrder accesses rules joined g)
+    × ((conflict : ℕ → ℕ → Bool) → TellsConflicts accesses joined conflict
+    → (g : Graph) → IsSettledOrder accesses rules joined g ↔ (g ≡ settled conflict rules joined))
 
 -- If no path leads back, the batches are by batch number, and the turns go in that order.
 abbrev pub BatchesAreByNumber : Type 0

@@ -1,8 +1,8 @@
 -- The settled order of systems, its batches and its lawful orders.
-use Rattle.std.specs.Prelude.{◌≡◌, ◌≢◌, ℕ, ◌<◌, Bool, List, [], ◌∷◌, length, All, AllPairs, Contains, Some, slice_get, slice_index_or, IsTrue, ◌⊎◌, ◌↔◌}
+use Rattle.std.specs.Prelude.{◌≡◌, ◌≢◌, ℕ, ◌<◌, Bool, List, [], length, All, AllPairs, Contains, Some, slice_get, slice_index_or, IsTrue, ◌⊎◌, ◌↔◌}
 use Rattle.std.specs.{List.Sorted.IsStrictlyIncreasing}
 use Rattle.msg_world.specs.{Prelude.Conflict, Prelude.no_access, declared.access.Access.Access}
-use Rattle.msg_order.specs.{declared.rule.Rule.Rule, Graph.Graph, Graph.IsEdge, Graph.Path, Graph.IsBatchNumber, Settled.has_joined, Settled.pairs, Settled.rules_among}
+use Rattle.msg_order.specs.{declared.rule.Rule.Rule, Graph.Graph, Graph.IsEdge, Graph.IsBatchNumber, Settled.has_joined, Settled.settled}
 
 -- the access of system i, which uses nothing where there is no such system
 abbrev pub access_of : List Access → ℕ → Access
@@ -17,27 +17,18 @@ abbrev pub IsAmong : List Bool → Graph → Type 0
 IsAmong joined g = (i j : ℕ) → IsEdge g i j
     → IsTrue (has_joined joined i) × IsTrue (has_joined joined j)
 
--- systems i and j have joined, and their accesses conflict
-pub record AreInConflict (accesses : List Access) (joined : List Bool) (i j : ℕ) : Type 0 where
-  pub first_joined : IsTrue (has_joined joined i)
-  pub second_joined : IsTrue (has_joined joined j)
-  pub conflict : Conflict (access_of accesses i) (access_of accesses j)
+-- the test says which two of those that have joined are in conflict
+abbrev pub TellsConflicts : List Access → List Bool → (ℕ → ℕ → Bool) → Type 0
+TellsConflicts accesses joined conflict = (i j : ℕ) → IsTrue (has_joined joined i)
+    → IsTrue (has_joined joined j)
+    → IsTrue (conflict i j) ↔ Conflict (access_of accesses i) (access_of accesses j)
 
--- g gains the edge from i to j: they are in conflict, and no path of g leads from j to i
-abbrev pub GainsEdge : (ℕ → ℕ → Type 0) → Graph → ℕ → ℕ → Type 0
-GainsEdge InConflict g i j = InConflict i j × ¬ Path g j i
-
--- h is what becomes of g as each of these pairs is taken in turn
-abbrev pub Settles : (ℕ → ℕ → Type 0) → Graph → List (ℕ × ℕ) → Graph → Type 0
-Settles InConflict g [] h = g ≡ h
-Settles InConflict g (p ∷ ps) h =
-    (GainsEdge InConflict g p.0 p.1 × Settles InConflict (p ∷ g) ps h)
-    ⊎ (¬ GainsEdge InConflict g p.0 p.1 × Settles InConflict g ps h)
-
--- the settled order begins as the rules among the joined systems, and then the pairs are taken
-abbrev pub IsSettledOrder : List Access → List Rule → List Bool → Graph → Type 0
-IsSettledOrder accesses rules joined g =
-    Settles (AreInConflict accesses joined) (rules_among joined rules) (pairs (length accesses)) g
+-- g is the settled order, by a test that tells the conflicts
+pub record IsSettledOrder (accesses : List Access) (rules : List Rule) (joined : List Bool)
+    (g : Graph) : Type 0 where
+  pub conflict : ℕ → ℕ → Bool
+  pub tells : TellsConflicts accesses joined conflict
+  pub is : g ≡ settled conflict rules joined
 
 -- batch b, which is empty past the last one
 abbrev pub batch_at : List (List ℕ) → ℕ → List ℕ

@@ -2,7 +2,7 @@
 use Rattle.std.specs.Prelude.{◌≡◌, ℕ, Bool, List, All, AllPairs, ◌↔◌, ⊤}
 use Rattle.std.specs.List.{concat}
 use Rattle.msg_world.specs.{Prelude.Conflict, declared.access.Access.Access}
-use Rattle.msg_order.specs.{declared.rule.Rule.Rule, declared.plan_refusal.PlanRefusal.PlanRefusal, declared.plan_refusal.PlanRefusal.TheVariants.Cycle, declared.plan_refusal.PlanRefusal.TheVariants.NoMemory, Graph.Graph, Graph.IsEdge, Graph.Path, Graph.IsLowestOnCycle, Order.access_of, Order.IsAmong, Order.IsSettledOrder, Order.AreBatches, Order.IsTurnOrder, Order.IsLawfulOrder}
+use Rattle.msg_order.specs.{declared.rule.Rule.Rule, declared.plan_refusal.PlanRefusal.PlanRefusal, declared.plan_refusal.PlanRefusal.TheVariants.Cycle, declared.plan_refusal.PlanRefusal.TheVariants.NoMemory, Graph.Graph, Graph.IsEdge, Graph.Path, Graph.IsLowestOnCycle, Order.access_of, Order.IsAmong, Order.IsSettledOrder, Order.AreBatches, Order.IsLawfulOrder, Settled.batches}
 
 -- What callers see of a plan: which systems have joined, each pair of systems of which the first
 -- precedes the second, and the batches.
@@ -17,8 +17,8 @@ NoneConflict accesses batch =
     AllPairs (λ i j. ¬ Conflict (access_of accesses i) (access_of accesses j)) batch
 
 -- The plan is that of the settled order of the joined systems: it has the paths of the order, and
--- the classes by batch number, in which no two systems conflict. The batches one after the other
--- are the turn order, which is lawful.
+-- its batches, which are the classes by batch number, and in which no two systems conflict. One
+-- after the other they are a lawful order.
 pub record IsPlanOf (accesses : List Access) (rules : List Rule) (joined : List Bool)
     (plan : PlanView) : Type 0 where
   pub order : Graph
@@ -28,7 +28,7 @@ pub record IsPlanOf (accesses : List Access) (rules : List Rule) (joined : List 
   pub paths : (i j : ℕ) → IsEdge plan.precedes i j ↔ Path order i j
   pub classes : AreBatches order joined plan.batches
   pub apart : All (NoneConflict accesses) plan.batches
-  pub turns : IsTurnOrder order joined (concat plan.batches)
+  pub computed : plan.batches ≡ batches order joined
   pub lawful : IsLawfulOrder order joined (concat plan.batches)
 
 -- a refusal for a cycle names the lowest system on one

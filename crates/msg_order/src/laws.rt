@@ -14,12 +14,11 @@ pub fn settling_makes_no_cycle()
 {}
 
 /// Of two joined systems in conflict, the settled order leads from one to the other.
-#[tactic(auto, using(crate::proofs::Uniqueness::conflicts_ordered))]
 pub fn conflicting_systems_are_ordered()
     ensures law { ConflictingSystemsAreOrdered }
 {}
 
-/// The settled order that is computed is the one that the rules and the pairs in conflict make.
+/// There is a settled order, and whatever test tells the conflicts makes that one.
 pub fn settled_is_the_order()
     ensures law { SettledIsTheOrder }
 {}

@@ -1,7 +1,7 @@
 // Batches, taken level by level from the systems that are left.
 ghost use Rattle.std.specs.Prelude.{◌≡◌, ◌&&◌, ℕ, ◌<◌, ◌≤◌, Bool, List, true, length, map, filter, IfOk, OnErr};
 ghost use Rattle.std.specs.List.{range_with_len};
-ghost use Rattle.msg_order.specs.{Prelude.AreBatches, Prelude.Graph, Prelude.IsAcyclic, Prelude.IsAmong, inner.Paths.ArePaths, inner.Paths.IsSetOf, inner.Paths.is_ready, inner.Paths.set_at, inner.SystemSet.has, inner.SystemSet.meets};
+ghost use Rattle.msg_order.specs.{Prelude.Graph, Prelude.IsAcyclic, Prelude.batches, inner.Paths.ArePaths, inner.Paths.IsSetOf, inner.Paths.is_ready, inner.Paths.set_at, inner.SystemSet.has, inner.SystemSet.meets};
 
 use crate::system_set::SystemSet;
 use std::alloc::{AllocError, Allocator};
@@ -45,9 +45,10 @@ pub fn batches_of<A: Allocator + Copy>(
 ) -> Result<Vec<Vec<u32, A>, A>, AllocError>
     requires few { length before.now ≤ 256 }
     requires within { (k : ℕ) → has joined.now k ≡ true → k < length before.now }
-    ensures batches { IfOk result (λ batches. (g : Graph) (systems : List Bool)
-        → ArePaths g before.now → IsSetOf systems joined.now → IsAmong systems g → IsAcyclic g
-        → AreBatches g systems (map (λ batch. batch.items) batches.items)) }
+    ensures batches { IfOk result (λ made. (g : Graph) (systems : List Bool)
+        → ArePaths g before.now → IsSetOf systems joined.now
+        → length systems ≡ length before.now → IsAcyclic g
+        → map (λ batch. batch.items) made.items ≡ batches g systems) }
     ensures asked { OnErr result (0 < length before.now) }
 {
     let mut batches = Vec::new(alloc);

@@ -17,7 +17,7 @@ use std::process::Abort;
 fn write(lent: &mut Lent, t: TypeNo, record: Record) -> Option<MessageId>
     ensures same { SameLoan lent.old lent.new }
 {
-    writes_stand();
+    writes_stand::<i64>();
     match lent.writer(t) {
         Some(messages) => messages.write(record).ok(),
         None => None,
@@ -28,7 +28,7 @@ fn write(lent: &mut Lent, t: TypeNo, record: Record) -> Option<MessageId>
 fn set(lent: &mut Lent, r: ResNo, value: i64) -> Option<i64>
     ensures same { SameLoan lent.old lent.new }
 {
-    writes_stand();
+    writes_stand::<i64>();
     match lent.res_mut(r) {
         Some(place) => {
             let old = *place;
@@ -52,7 +52,7 @@ fn a_loan_shows_what_its_access_uses(rt: HostRuntime) {
     let mut world = World::new(rt.alloc(), &[4, 4], &[7]).expect(&rt, "a world");
     let access = Access::none().with_write_type(t).with_read_res(r);
     assert!(rt; world.is_home(&access));
-    lent_parts_are_a_loan();
+    lent_parts_are_a_loan::<i64>();
     let taken = world.lend_out(&access).expect(&rt, "a loan");
     let mut lent = Lent::open(&world, &access, taken);
     let of_types = [t, u].map(|t| Access::none().with_read_type(t));
@@ -71,7 +71,7 @@ fn a_written_resource_comes_home(rt: HostRuntime) {
     let mut world = World::new(rt.alloc(), &[], &[7, 70]).expect(&rt, "a world");
     let access = Access::none().with_write_res(r).with_registry();
     assert!(rt; world.is_home(&access));
-    lent_parts_are_a_loan();
+    lent_parts_are_a_loan::<i64>();
     let taken = world.lend_out(&access).expect(&rt, "a loan");
     assert!(rt; !world.is_home(&Access::none().with_registry()));
     assert!(rt; world.is_home(&Access::none().with_read_res(q)));
@@ -80,7 +80,7 @@ fn a_written_resource_comes_home(rt: HostRuntime) {
     assert_eq!(rt; set(&mut lent, r, 8), Some(7));
     assert_eq!(rt; lent.res(r), Some(8));
     assert_eq!(rt; set(&mut lent, q, 71), None);
-    lent_parts_may_come_home();
+    lent_parts_may_come_home::<i64>();
     let taken = lent.into_taken();
     world.take_back(taken);
     assert!(rt; world.is_home(&access));
@@ -90,9 +90,9 @@ fn a_written_resource_comes_home(rt: HostRuntime) {
 
 #[test]
 fn an_empty_world(rt: HostRuntime) {
-    let world = World::new(rt.alloc(), &[], &[]).expect(&rt, "a world");
+    let world = World::<i64>::new(rt.alloc(), &[], &[]).expect(&rt, "a world");
     world.stands_for_some();
-    loans_stand_side_by_side();
+    loans_stand_side_by_side::<i64>();
     assert!(rt; world.is_home(&Access::none()));
     assert!(rt; !world.is_home(&Access::none().with_read_type(type_no(0))));
     assert_eq!(rt; world.resource(res_no(0)), None);
@@ -121,13 +121,13 @@ fn signal_twice(rt: &impl Abort, world: &mut World) -> bool
     ensures shape { SameShape world.old world.new }
 {
     let access = Access::none().with_registry();
-    lent_parts_are_a_loan();
+    lent_parts_are_a_loan::<i64>();
     let taken = world.lend_out(&access).expect(rt, "a loan");
     let mut lent = Lent::open(world, &access, taken);
     let first = lent.signal();
     let second = lent.signal();
-    lent_parts_may_come_home();
-    written_parts_come_home();
+    lent_parts_may_come_home::<i64>();
+    written_parts_come_home::<i64>();
     let taken = lent.into_taken();
     world.take_back(taken);
     first && second
@@ -184,7 +184,7 @@ fn a_loan_that_ends_leaves_what_it_wrote(rt: HostRuntime) {
     let mut world = World::new(rt.alloc(), &[4, 4], &[7]).expect(&rt, "a world");
     let access = Access::none().with_write_type(t).with_read_res(r);
     assert!(rt; world.is_home(&access));
-    lent_parts_are_a_loan();
+    lent_parts_are_a_loan::<i64>();
     let taken = world.lend_out(&access).expect(&rt, "a loan");
     assert!(rt; !world.is_home(&access));
     assert!(rt; world.messages(t).is_none());
@@ -195,7 +195,7 @@ fn a_loan_that_ends_leaves_what_it_wrote(rt: HostRuntime) {
         value: 9,
     };
     assert_eq!(rt; write(&mut lent, t, record), Some(MessageId(0)));
-    loans_end();
+    loans_end::<i64>();
     let taken = lent.into_taken();
     world.take_back(taken);
     match world.messages(t) {

@@ -60,7 +60,7 @@ module _ (t r n : ℕ) where
   abbrev Known : Declared → Type 0
   Known = HasNames t r n
 
-  abbrev OpsFit : Kind → List Op × Declared → Type 0
+  abbrev OpsFit : Kind → List (Op ℤ) × Declared → Type 0
   OpsFit kind x = All (OpFits t r) x.0 × (length x.0 ≤ 64) × Known x.1 × IsTrue (fits_kind kind x.0)
 
   ops_fit : (names : Declared) (kind : Kind) (d : Data) → Known names → IfOk (Spec.ops_of names kind d) (OpsFit kind)
@@ -72,7 +72,7 @@ module _ (t r n : ℕ) where
       let fit = IfOk-at_ok _ is all in
       of_wanted (OpsFit kind) (fits_kind kind x.0) _ _ (λ as_kind. (fit.0, fit.1, fit.2, as_kind)))
 
-  abbrev ConditionsFit : List Condition × Declared → Type 0
+  abbrev ConditionsFit : List (Condition ℤ) × Declared → Type 0
   ConditionsFit x = All (ConditionFits t r) x.0 × (length x.0 ≤ 8) × Known x.1
 
   conditions_fit : (names : Declared) (d : Data) → Known names → IfOk (Spec.conditions_of names d) ConditionsFit
@@ -137,11 +137,11 @@ rules_fit t r n names d has = list_fits Spec.rule_at (IsBelow n) (λ k. HasNames
     (λ m k e h. kept (IsBelow n) (HasNames t r n) m (in_element k (Spec.rule_of m e)) h
     (within (IsBelow n) (step.Element k) (Spec.rule_of m e) (rule_fits t r n m h e))) 1024 names d has
 
-abbrev FrameFits : ℕ → Frame → Type 0
+abbrev FrameFits : ℕ → Frame ℤ → Type 0
 FrameFits t frame = All (λ p. p.0 < t) frame.posts
 
 module _ (t r n : ℕ) where
-  abbrev FrameRead : Frame × Declared → Type 0
+  abbrev FrameRead : Frame ℤ × Declared → Type 0
   FrameRead x = FrameFits t x.0 × HasNames t r n x.1
 
   posts_fit : (names : Declared) (d : Data) → HasNames t r n names → IfOk (Spec.frame_of names d) FrameRead

@@ -27,11 +27,11 @@ module _ (T R : ℕ) where
   Has p = HasPart T R p
 
   -- what an op reads and writes is there
-  abbrev pub OpFits : Op → Type 0
+  abbrev pub OpFits : Op ℤ → Type 0
   OpFits op = IfSome (op_parts op).read Has × IfSome (op_parts op).written Has
 
   -- what a condition asks about is there
-  abbrev pub ConditionFits : Condition → Type 0
+  abbrev pub ConditionFits : Condition ℤ → Type 0
   ConditionFits c = Has (probe_part c.probe)
 
   some_there : {X : Type 0} (part : X → Option Part) (xs : List X) (p : Part) → All (λ x. IfSome (part x) Has) xs
@@ -43,7 +43,7 @@ module _ (T R : ℕ) where
       grind (arith, eqb-true, here, later)
 
   -- so a job needs nothing else
-  pub job_fits : (ops : List Op) (cs : List Condition) → All OpFits ops → All ConditionFits cs
+  pub job_fits : (ops : List (Op ℤ)) (cs : List (Condition ℤ)) → All OpFits ops → All ConditionFits cs
       → (p : Part) → IsTrue (needs_any (job_needs ops cs) p) → Has p
   job_fits ops cs ops_fit cs_fit p h =
       let read = some_there (λ op. (op_parts op).read) ops p (All-weaker OpFits _ (λ op fits. fits.0) ops ops_fit) in
@@ -126,7 +126,7 @@ module _ (T R n : ℕ) (names : Declared) (of : HasNames T R n names) where
       (λ r at. (here_type 1 p.0 t is, here_resource 2 p.1 r at))))
 
   -- what an op of this part is, if the part is there
-  made : {X : Type 0} (P : X → Type 0) (r : Reading X) (f : X → Op) → IfOk r P → ((x : X) → P x → OpFits T R (f x))
+  made : {X : Type 0} (P : X → Type 0) (r : Reading X) (f : X → Op ℤ) → IfOk r P → ((x : X) → P x → OpFits T R (f x))
       → IfOk (r >>= λ x. Ok (f x)) (OpFits T R)
   made P r f h fits = in_then (OpFits T R) r _ (λ x is. fits x (IfOk-at_ok P is h))
 
@@ -166,7 +166,7 @@ module _ (T R n : ℕ) (names : Declared) (of : HasNames T R n names) where
 
   -- ---- conditions and posts
 
-  abbrev ProbeFits : Probe → Type 0
+  abbrev ProbeFits : Probe ℤ → Type 0
   ProbeFits probe = Has T R (probe_part probe)
 
   on_message_fits : (nots : ℕ) (d : Data) → IfOk (Spec.on_message names nots d) ProbeFits

@@ -176,11 +176,11 @@ type_and_resource names d e =
     Ok (t, r)
 
 -- an op of a head alone
-abbrev pub bare_op : Text → Reading Op
+abbrev pub bare_op : Text → Reading (Op ℤ)
 bare_op head = if bytes_eq head (codes "signal") then Ok op.Signal else fails reason.Parts
 
 -- an op of a head and one part
-abbrev pub op_with_one : Declared → Text → Data → Reading Op
+abbrev pub op_with_one : Declared → Text → Data → Reading (Op ℤ)
 op_with_one names head d =
     if bytes_eq head (codes "read") then (type_part names d >>= λ t. Ok (op.Read t None))
     else if bytes_eq head (codes "len") then (type_part names d >>= λ t. Ok (op.Len t))
@@ -191,7 +191,7 @@ op_with_one names head d =
     else fails reason.Parts
 
 -- an op of a head and two parts
-abbrev pub op_with_two : Declared → Text → Data → Data → Reading Op
+abbrev pub op_with_two : Declared → Text → Data → Data → Reading (Op ℤ)
 op_with_two names head d e =
     if bytes_eq head (codes "write")
     then (type_and_value names 1 d e >>= λ p. Ok (op.Write p.0 p.1))
@@ -210,14 +210,14 @@ op_with_two names head d e =
     else fails reason.Parts
 
 -- an op of a head, and of what stands after it
-abbrev pub op_with : Declared → Text → List Data → Reading Op
+abbrev pub op_with : Declared → Text → List Data → Reading (Op ℤ)
 op_with names head [] = bare_op head
 op_with names head (d ∷ []) = op_with_one names head d
 op_with names head (d ∷ e ∷ []) = op_with_two names head d e
 op_with names head (d ∷ e ∷ f ∷ rest) = fails reason.Parts
 
 -- an op: a list that begins with its head
-abbrev pub op_of : Declared → Data → Reading Op
+abbrev pub op_of : Declared → Data → Reading (Op ℤ)
 op_of names d = headed d >>= λ h. op_with names h.0 h.1
 
 -- ---- conditions
@@ -247,7 +247,7 @@ abbrev pub few_nots : ℕ → Reading ⊤
 few_nots nots = wanted (nat_le nots 16) (reason.AtMost 16)
 
 -- a probe of whether messages came: its part, the number of `not`s, and then the type
-abbrev pub on_message : Declared → ℕ → Data → Reading Probe
+abbrev pub on_message : Declared → ℕ → Data → Reading (Probe ℤ)
 on_message names nots d =
     in_nots nots (in_part 1 (text_in d)) >>= λ name.
     few_nots nots >>= λ _.
@@ -255,7 +255,7 @@ on_message names nots d =
     Ok (probe.OnMessage t)
 
 -- a probe of a resource: its parts, the number of `not`s, and then the resource and the value
-abbrev pub resource_equals : Declared → ℕ → Data → Data → Reading Probe
+abbrev pub resource_equals : Declared → ℕ → Data → Data → Reading (Probe ℤ)
 resource_equals names nots d e =
     in_nots nots (text_and_number 1 d e) >>= λ p.
     few_nots nots >>= λ _.
@@ -264,7 +264,7 @@ resource_equals names nots d e =
     Ok (probe.ResourceEquals r v)
 
 -- a probe of a head, and of what stands after it, round which there are so many `not`s
-abbrev pub probe_with : Declared → ℕ → Text → List Data → Reading Probe
+abbrev pub probe_with : Declared → ℕ → Text → List Data → Reading (Probe ℤ)
 probe_with names nots head [] = in_nots nots (fails reason.Parts)
 probe_with names nots head (d ∷ []) =
     if bytes_eq head (codes "on_message") then on_message names nots d
@@ -275,11 +275,11 @@ probe_with names nots head (d ∷ e ∷ []) =
 probe_with names nots head (d ∷ e ∷ f ∷ rest) = in_nots nots (fails reason.Parts)
 
 -- what is asked for inside so many `not`s
-abbrev pub probe_in : Declared → ℕ → Data → Reading Probe
+abbrev pub probe_in : Declared → ℕ → Data → Reading (Probe ℤ)
 probe_in names nots d = in_nots nots (headed d) >>= λ h. probe_with names nots h.0 h.1
 
 -- a condition: a probe, and the `not`s round it; no JSON text nests as deep as 128 of them
-abbrev pub condition_of : Declared → Data → Reading Condition
+abbrev pub condition_of : Declared → Data → Reading (Condition ℤ)
 condition_of names d =
     let nots = nots_round 128 d in
     probe_in names nots (inside_nots 128 d) >>= λ probe.
@@ -325,22 +325,22 @@ abbrev pub kind_of : Data → Reading Kind
 kind_of d = found (kind_named (as_str (value_or key.Kind (string (codes "script")) d))) reason.Kind
 
 -- op n of a system
-abbrev pub op_at : Declared → ℕ → Data → Reading (Op × Declared)
+abbrev pub op_at : Declared → ℕ → Data → Reading (Op ℤ × Declared)
 op_at names n d = keeping names (in_item n (op_of names d))
 
 -- the ops of a system of this kind: at most 64, and those of the kind
-abbrev pub ops_of : Declared → Kind → Data → Reading (List Op × Declared)
+abbrev pub ops_of : Declared → Kind → Data → Reading (List (Op ℤ) × Declared)
 ops_of names kind d =
     each_of 64 op_at names d >>= λ x.
     wanted (fits_kind kind x.0) reason.NotOfKind >>= λ _.
     Ok x
 
 -- condition n of a system
-abbrev pub condition_at : Declared → ℕ → Data → Reading (Condition × Declared)
+abbrev pub condition_at : Declared → ℕ → Data → Reading (Condition ℤ × Declared)
 condition_at names n d = keeping names (in_item n (condition_of names d))
 
 -- the conditions of a system: at most 8, and none if there is no list of them
-abbrev pub conditions_of : Declared → Data → Reading (List Condition × Declared)
+abbrev pub conditions_of : Declared → Data → Reading (List (Condition ℤ) × Declared)
 conditions_of names d = each_of 8 condition_at names (value_or key.If nothing d)
 
 -- a number, if it isn't 0
@@ -417,7 +417,7 @@ abbrev pub post_at : Declared → ℕ → Data → Reading ((ℕ × ℤ) × Decl
 post_at names n d = keeping names (in_item n (post_of names d))
 
 -- a frame: at most 1,024 posts
-abbrev pub frame_of : Declared → Data → Reading (Frame × Declared)
+abbrev pub frame_of : Declared → Data → Reading (Frame ℤ × Declared)
 frame_of names d = each_of 1024 post_at names d >>= λ x. Ok (record { posts = x.0 }, x.1)
 
 -- ---- the file
@@ -439,7 +439,7 @@ abbrev pub rule_at : Declared → ℕ → Data → Reading (Rule × Declared)
 rule_at names n d = keeping names (in_element n (rule_of names d))
 
 -- frame n
-abbrev pub frame_at : Declared → ℕ → Data → Reading (Frame × Declared)
+abbrev pub frame_at : Declared → ℕ → Data → Reading (Frame ℤ × Declared)
 frame_at names n d = in_element n (frame_of names d)
 
 -- the keys that a scenario file may have
@@ -476,7 +476,7 @@ rules_of names d =
     in_section key.Rules (each_of 1024 rule_at names (value_or key.Rules nothing d))
 
 -- the frames: at most 10,000
-unfoldable pub frames_of : Declared → Data → Reading (List Frame × Declared)
+unfoldable pub frames_of : Declared → Data → Reading (List (Frame ℤ) × Declared)
 frames_of names d = in_section key.Frames (each_of 10000 frame_at names d)
 
 -- the sections of a file one after another; those that it needs are given

@@ -7,7 +7,7 @@ ghost use Rattle.msg_scenario_data.specs.Prelude.{IsRunnable, state_of};
 
 use msg_exec::{EngineOf, Workers};
 use msg_scenario::{Scenario, SystemSpec, add_system, engine_of};
-use msg_system::{Access, NoMemory, Reply, Scripted, Start, System};
+use msg_system::{Access, NoMemory, Reply, Scripted, Start, SystemOf};
 use msg_world::{Counts, Lent, Taken, TypeNo};
 use std::alloc::Global;
 use std::process::Abort;
@@ -29,7 +29,7 @@ pub struct Sparing {
 impl Sparing {
     fn new(spec: &SystemSpec, alloc: Global, writer: u32, runs: u32) -> Result<Sparing, NoMemory>
         requires few { length spec.now.program.ops ≤ 64 }
-        ensures new { IfOk result (λ s. ⟦<Sparing as System>⟧.meaning s
+        ensures new { IfOk result (λ s. ⟦<Sparing as SystemOf>⟧.meaning s
             ≡ new_system spec.now.program writer) }
     {
         let script = Scripted::new(spec.program.copy(alloc)?, writer);
@@ -37,8 +37,14 @@ impl Sparing {
     }
 }
 
-impl System for Sparing {
-    ghost meaning = { λ s. ⟦<Scripted as System>⟧.meaning s.script };
+impl SystemOf for Sparing {
+    type Value = i64;
+
+    ghost use Rattle.std.specs.Prelude.{IfOk};
+    ghost use Rattle.msg_world.specs.Prelude.{SameShape, i64_values, taken_of};
+    ghost use Rattle.msg_system.specs.Prelude.{Covers, Ran};
+
+    ghost meaning = { λ s. ⟦<Scripted as SystemOf>⟧.meaning s.script };
 
     fn access(&self) -> Access {
         self.script.access()
@@ -56,7 +62,14 @@ impl System for Sparing {
         self.script.start(counts);
     }
 
-    fn run(&mut self, alloc: Global, lent: Lent, out: &mut Vec<Reply>) -> Result<Taken, NoMemory> {
+    fn run(&mut self, alloc: Global, lent: Lent, out: &mut Vec<Reply>) -> Result<Taken, NoMemory>
+        requires covers { Covers (⟦<Scripted as SystemOf>⟧.meaning self.old.script).needs lent }
+        ensures ran { IfOk result
+            (λ taken. Ran i64_values (⟦<Scripted as SystemOf>⟧.meaning self.old.script)
+            (⟦<Scripted as SystemOf>⟧.meaning self.new.script)
+            lent.entry taken out.old.items out.new.items) }
+        ensures shape { IfOk result (λ taken. SameShape (taken_of lent.entry) taken) }
+    {
         if self.runs == 0 {
             return Err(NoMemory);
         }
@@ -74,7 +87,7 @@ pub fn sparing_systems(
     requires runnable { IsRunnable scenario.now }
     ensures as_many { IfOk result (λ v. length v.items ≡ length scenario.now.systems) }
     ensures each { IfOk result (λ v.
-        EachIs (IsSystemAt ⟦<Sparing as System>⟧.meaning scenario.now.systems) v.items) }
+        EachIs (IsSystemAt ⟦<Sparing as SystemOf>⟧.meaning scenario.now.systems) v.items) }
 {
     let mut systems = Vec::new(alloc);
     let specs = scenario.systems.as_slice();
@@ -94,7 +107,7 @@ pub fn sparing_engine(
 ) -> Result<EngineOf<Sparing>, NoMemory>
     requires runnable { IsRunnable scenario.now }
     ensures stands { IfOk result (λ e.
-        EngineStands ⟦<Sparing as System>⟧.meaning e (state_of scenario.now)) }
+        EngineStands ⟦<Sparing as SystemOf>⟧.meaning e (state_of scenario.now)) }
 {
     engine_of(alloc, scenario, sparing_systems(alloc, scenario, runs)?)
 }

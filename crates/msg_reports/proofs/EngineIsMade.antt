@@ -1,5 +1,5 @@
 -- The systems of an engine that is made of a scenario.
-use Rattle.std.proofs.Common.{◌≡◌, ℕ, suc, ◌+◌, List, [], ◌∷◌, length, map, zero-add, Some, refl, sym, ap, ◌∙◌, inl, inr, arith, option_map, slice_get}
+use Rattle.std.proofs.Common.{◌≡◌, ℕ, suc, ◌+◌, List, [], ◌∷◌, length, map, zero-add, Some, refl, sym, ap, ◌∙◌, inl, inr, arith, option_map, slice_get, ℤ}
 use Rattle.std.specs.List.{All, enumerate_from}
 use Rattle.std.proofs.lemmas.{Option.same_Some, Option.slice_get_cases, Option.slice_get_within, Option.slice_get-map}
 use Rattle.msg_world.specs.Prelude.{Parts}
@@ -20,7 +20,7 @@ found_there P xs ys i x same all there =
       | inr past ↦ absurd (let late = past.0 in omega (arith, lt, same, late))
     ]
 
-module _ {S : Type 0} (m : S → Meaning) where
+module _ {S : Type 0} (m : S → Meaning ℤ) where
   -- the system of the spec at a place is the one at that place
   pub is_system_at : (specs : List SystemSpec) (n : ℕ) (x : S) (spec : SystemSpec) → slice_get specs n ≡ Some spec
       → m x ≡ new_system spec.program n → IsSystemAt m specs n x
@@ -47,13 +47,13 @@ module _ {S : Type 0} (m : S → Meaning) where
         all_from s.systems xs 0 same (λ i j x spec is here there. rw (← is, zero-add) (each i x here spec there))
 
     -- each may be added
-    pub may_add : (w : Parts) → IsRunnable s → length w.types ≡ length s.types
+    pub may_add : (w : Parts ℤ) → IsRunnable s → length w.types ≡ length s.types
         → length w.resources ≡ length s.resources → EachIs (MayBeAdded m w (places_of s)) xs
     may_add w runnable types resources i x here =
         let found = found_there (IsRunnableSystem s) xs s.systems i x same runnable.systems here in
         let spec = found.0 in
         let is = each i x here spec found.1 in
-        let placed : (place : Place) → slice_get (places_of s) i ≡ Some place → spec.place ≡ place =
+        let placed : (place : Place ℤ) → slice_get (places_of s) i ≡ Some place → spec.place ≡ place =
         λ place sp. same_Some _ _ (sym (slice_get-map (λ (y : SystemSpec). y.place) s.systems i
         ∙ ap (option_map (λ y. y.place)) found.1) ∙ sp) in
         record {

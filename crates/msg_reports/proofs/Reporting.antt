@@ -1,5 +1,5 @@
 -- The frames of a scenario, run one after another, and what the sink took of their text.
-use Rattle.std.proofs.Common.{◌≡◌, ℕ, ◌+◌, ◌-◌, ◌<◌, List, [], ◌∷◌, ◌++◌, length, get_or, take, drop, refl, sym, ◌∙◌, append_assoc, append-nil, Option, Result, Err, arith, inl, inr, eq-eqb, ◌==◌, if◌then◌else◌, ◌⊎◌}
+use Rattle.std.proofs.Common.{min, ◌^◌, ◌≡◌, ℕ, ◌+◌, ◌-◌, ◌<◌, List, [], ◌∷◌, ◌++◌, length, get_or, take, drop, refl, sym, ◌∙◌, append_assoc, append-nil, Option, Result, Err, arith, inl, inr, eq-eqb, ◌==◌, if◌then◌else◌, ◌⊎◌, ℤ}
 use Rattle.std.proofs.lemmas.{Grind.common_steps, List.drop_more, List.take_more, List.take-append-drop}
 use Rattle.std.proofs.Math.Seq.{take-append_seam, take-length}
 use Rattle.std.specs.Io.KnownBytes.{Appends}
@@ -11,7 +11,7 @@ use Rattle.msg_exec.specs.Prelude.{HasRunFrame, IsSpoiled, EngineStands, frame_n
 use Rattle.msg_frames.specs.{declared.account.Account.Account, declared.frame.Frame.Frame, declared.log.Log.Log}
 use Rattle.msg_exec.specs.declared.engine.EngineOf.{EngineOf}
 use Rattle.msg_frames.proofs.Functions.{run_more}
-use Rattle.msg_world.specs.{declared.run_fault.RunFault.RunFault, declared.run_fault.RunFault.TheVariants.BadOrder, declared.run_fault.RunFault.TheVariants.NoMemory, declared.run_fault.RunFault.TheVariants.Spoiled}
+use Rattle.msg_world.specs.{declared.run_fault.RunFault.RunFault, declared.run_fault.RunFault.TheVariants.BadOrder, declared.run_fault.RunFault.TheVariants.NoMemory, declared.run_fault.RunFault.TheVariants.Spoiled, Prelude.i64_values}
 use Rattle.msg_files.specs.Prelude.{AppendsPrefix, Text}
 use Rattle.msg_reports.specs.Prelude.{HasPrinted, HasReported, HasRunOut, HasStopped, accounts_text, frame_text, frames_text, text_so_far}
 use Rattle.msg_scenario_data.specs.Prelude.{state_of}
@@ -23,39 +23,39 @@ use Rattle.msg_reports.proofs.TextsByPieces.{zip-nil}
 -- ---- texts
 
 -- what follows the text of the frames: the readers' lines, where all frames were run
-abbrev rest_of : Scenario → List Log → List Account → Text
+abbrev rest_of : Scenario → List (Log ℤ) → List Account → Text
 rest_of s logs accounts = if length logs == length s.frames then accounts_text s accounts else []
 
-text_so_far_parts : (s : Scenario) (logs : List Log) (accounts : List Account)
+text_so_far_parts : (s : Scenario) (logs : List (Log ℤ)) (accounts : List Account)
     → text_so_far s logs accounts ≡ frames_text s 1 s.frames logs ++ rest_of s logs accounts
 text_so_far_parts s logs accounts = grind (arith, append-nil (frames_text s 1 s.frames logs))
 
 -- the text of some frames, and then that of the frames after them
-frames_text-append : (s : Scenario) (number : ℕ) (frames : List Frame) (first later : List Log)
+frames_text-append : (s : Scenario) (number : ℕ) (frames : List (Frame ℤ)) (first later : List (Log ℤ))
     → frames_text s number frames (first ++ later) ≡ frames_text s number frames first
     ++ frames_text s (number + length first) (drop (length first) frames) later
-frames_text-append s number frames [] later = grind (arith, zip-nil {B = Log} frames)
+frames_text-append s number frames [] later = grind (arith, zip-nil {B = Log ℤ} frames)
 frames_text-append s number [] (log ∷ first) later = refl
 frames_text-append s number (frame ∷ frames) (log ∷ first) later =
     grind (arith, append_assoc, frames_text-append s (number + 1) frames first later)
 
 -- the text of some frames, and of the next one
-text_more : (s : Scenario) (k : ℕ) (logs : List Log) (frame : Frame) (log : Log) → length logs ≡ k
+text_more : (s : Scenario) (k : ℕ) (logs : List (Log ℤ)) (frame : Frame ℤ) (log : Log ℤ) → length logs ≡ k
     → k < length s.frames → frame ≡ get_or s.frames k frame
     → frames_text s 1 s.frames (logs ++ log ∷ []) ≡ frames_text s 1 s.frames logs ++ frame_text s (k + 1) frame log
 text_more s k logs frame log many lt is =
     let more = frames_text-append s 1 s.frames logs (log ∷ []) in
-    let none = zip-nil {B = Log} (drop (k + 1) s.frames) in
+    let none = zip-nil {B = Log ℤ} (drop (k + 1) s.frames) in
     let whole = append-nil (frame_text s (k + 1) frame log) in
     grind (arith, more, many, is, drop_more s.frames k frame lt, none, whole)
 
 -- ---- runs
 
-module _ {X : Type 0} (meaning : X → Meaning) (s : Scenario) where
+module _ {X : Type 0} (meaning : X → Meaning ℤ) (s : Scenario) where
   -- nothing was run, and nothing put
-  pub stopped_before_all : (known : Option (List ℕ)) (e : EngineOf X) → EngineStands meaning e (state_of s)
-      → HasStopped meaning s known known e
-  stopped_before_all known e stands = record {
+  pub stopped_before_all : (known : Option (List ℕ)) (e : EngineOf X ℤ) → EngineStands meaning e (state_of s)
+      → frame_number e ≡ 0 → HasStopped meaning s known known e
+  stopped_before_all known e stands none = record {
     printed = record {
       front = record {
         logs = [];
@@ -67,28 +67,29 @@ module _ {X : Type 0} (meaning : X → Meaning) (s : Scenario) where
       last = inl ([], frames_text s 1 s.frames [], refl, Appends-nil known);
     };
     stands = stands;
-    counted = stands.frames;
+    counted = none;
   }
 
   -- ---- after the first k frames
 
-  module _ (k : ℕ) (before now : Option (List ℕ)) (e : EngineOf X) (far : ReportSoFar meaning s k before now e) where
+  module _ (k : ℕ) (before now : Option (List ℕ)) (e : EngineOf X ℤ) (far : ReportSoFar meaning s k before now e) where
     -- ---- a frame
 
     -- the frame after the first k was run, and its text isn't put yet
-    module _ (keep : FramesKeepSystems) (f : EngineOf X) (frame : Frame) (log : Log) (lt : k < length s.frames)
+    module _ (keep : FramesKeepSystems i64_values) (f : EngineOf X ℤ) (frame : Frame ℤ) (log : Log ℤ) (lt : k < length s.frames)
         (is : frame ≡ get_or s.frames k frame)
-        (ran : (u : State) → EngineStands meaning e u → HasRunFrame meaning frame u log f) where
+        (ran : (u : State i64_values) → EngineStands meaning e u → HasRunFrame meaning frame u log f)
+        (counted : frame_number f ≡ min (frame_number e + 1) (2 ^ 32 - 1)) where
       abbrev one : HasRunFrame meaning frame far.state log f
       one = ran far.state far.stands
 
-      abbrev logs_now : List Log
+      abbrev logs_now : List (Log ℤ)
       logs_now = far.logs ++ log ∷ []
 
       many_now : length logs_now ≡ k + 1
       many_now = grind (arith, common_steps, far.as_many)
 
-      abbrev left : State
+      abbrev left : State i64_values
       left = (frame_of frame far.state).state
 
       was_run : (logs_now ≡ (run (take (k + 1) s.frames) (state_of s)).logs)
@@ -106,10 +107,11 @@ module _ {X : Type 0} (meaning : X → Meaning) (s : Scenario) where
       text_now = text_more s k far.logs frame log far.as_many lt is
 
       -- its text was put
-      pub frame_put : (after : Option (List ℕ)) (g : EngineOf X)
-          → ((u : State) → EngineStands meaning f u → EngineStands meaning g u)
+      pub frame_put : (after : Option (List ℕ)) (g : EngineOf X ℤ)
+          → ((u : State i64_values) → EngineStands meaning f u → EngineStands meaning g u)
+          → frame_number g ≡ frame_number f → ¬ IsSpoiled g
           → Appends now after (frame_text s (k + 1) frame log) → ReportSoFar meaning s (k + 1) before after g
-      frame_put after g stays puts = record {
+      frame_put after g stays same alive puts = record {
         logs = logs_now;
         state = left;
         as_many = many_now;
@@ -119,6 +121,8 @@ module _ {X : Type 0} (meaning : X → Meaning) (s : Scenario) where
         printed = rw text_now (Appends-trans before now after (frames_text s 1 s.frames far.logs)
             (frame_text s (k + 1) frame log) far.printed puts);
         stands = stays left one.stands;
+        counted = omega (arith, same, counted, far.counted);
+        alive = alive;
       }
 
       -- its text was put in part
@@ -143,13 +147,13 @@ module _ {X : Type 0} (meaning : X → Meaning) (s : Scenario) where
               earlier = (puts.0, rw earlier (Appends-trans before now after first puts.0 far.printed puts.3));
             };
             stands = one.stands;
-            counted = grind (arith, one.stands.frames, counted_now, many_now);
+            counted = omega (arith, counted, far.counted, many_now);
           }
 
     -- ---- no memory
 
     -- what was run and put so far is all that was
-    out_after : (f : EngineOf X) → frame_number f ≡ frame_number e
+    out_after : (f : EngineOf X ℤ) → frame_number f ≡ frame_number e
         → (IsSpoiled f × (length far.logs < length s.frames))
         ⊎ (EngineStands meaning f far.state × (length far.logs ≡ length s.frames)) → HasRunOut meaning s before now f
     out_after f counted left = record {
@@ -159,16 +163,15 @@ module _ {X : Type 0} (meaning : X → Meaning) (s : Scenario) where
         is_run = rw far.as_many far.is_run;
         printed = far.printed;
       };
-      counted = grind (arith, counted, far.stands.frames, far.frames, far.as_many);
+      counted = omega (arith, counted, far.counted, far.as_many);
       left = left;
     }
 
     -- a frame answers nothing else, as the engine wasn't spoiled
-    pub no_memory_for_frame : (f : EngineOf X) (r : Result Log RunFault) (fault : RunFault) → k < length s.frames
+    pub no_memory_for_frame : (f : EngineOf X ℤ) (r : Result (Log ℤ) RunFault) (fault : RunFault) → k < length s.frames
         → r ≡ Err fault → (r ≡ Err Spoiled → IsSpoiled e) → ¬ (r ≡ Err BadOrder) → (r ≡ Err NoMemory → IsSpoiled f)
         → (r ≡ Err NoMemory → frame_number f ≡ frame_number e) → HasRunOut meaning s before now f
-    no_memory_for_frame f r Spoiled lt is spoiled in_order out counted =
-        let is_spoiled = spoiled is in absurd (grind (arith, far.stands.core, is_spoiled))
+    no_memory_for_frame f r Spoiled lt is spoiled in_order out counted = absurd (far.alive (spoiled is))
     no_memory_for_frame f r BadOrder lt is spoiled in_order out counted = absurd (in_order is)
     no_memory_for_frame f r NoMemory lt is spoiled in_order out counted =
         out_after f (counted is) (inl (out is, omega (arith, lt, far.as_many)))
@@ -179,9 +182,9 @@ module _ {X : Type 0} (meaning : X → Meaning) (s : Scenario) where
     -- ---- the readers
 
     module _ (after : Option (List ℕ)) (accounts : List Account) (all : k ≡ length s.frames)
-        (are : (u : State) → EngineStands meaning e u → accounts ≡ accounts_of u) where
+        (are : (u : State i64_values) → EngineStands meaning e u → accounts ≡ accounts_of u) where
       -- their lines were put
-      pub readers_put : ((frames : List Frame) → IsCompleteRun frames (state_of s))
+      pub readers_put : ((frames : List (Frame ℤ)) → IsCompleteRun frames (state_of s))
           → Appends now after (accounts_text s accounts) → HasReported meaning s before after e
       readers_put complete puts =
           let whole = rw (all, take-length) at far.is_run in
@@ -222,12 +225,12 @@ module _ {X : Type 0} (meaning : X → Meaning) (s : Scenario) where
               );
             };
             stands = far.stands;
-            counted = grind (arith, far.stands.frames, far.frames, many);
+            counted = omega (arith, far.counted, many);
           }
 
   -- ---- where memory has run out, a front of the text so far was put
 
-  pub out_printed : (before after : Option (List ℕ)) (e : EngineOf X) → HasRunOut meaning s before after e
+  pub out_printed : (before after : Option (List ℕ)) (e : EngineOf X ℤ) → HasRunOut meaning s before after e
       → HasPrinted s before after
   out_printed before after e out = let out = out.printed in record {
     logs = out.logs;

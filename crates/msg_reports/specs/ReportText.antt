@@ -8,48 +8,35 @@ use Rattle.msg_system.specs.{declared.op.Op.Op, declared.op.Op.TheVariants.Write
 use Rattle.msg_system.specs.declared.reply.Reply.TheVariants as reply
 use Rattle.msg_frames.specs.{declared.account.Account.Account, declared.frame.Frame.Frame, declared.log.Log.Log, declared.log.Turn.Turn, declared.log.Outcome.Outcome, declared.log.Outcome.TheVariants.Skipped, declared.log.Outcome.TheVariants.Ran}
 use Rattle.msg_files.specs.Prelude.{Text}
+use Rattle.msg_scenario_data.specs.Prelude.{resource_name, system_name, type_name}
 use Rattle.msg_scenario_data.specs.{declared.scenario.Scenario.Scenario, declared.scenario.SystemSpec.SystemSpec}
 
--- ---- names; a number that nothing has goes without one
-
--- the name of type t
-abbrev pub type_name : Scenario → ℕ → Text
-type_name s t = option_map_or (λ named. named.0) (slice_get s.types t) []
-
--- the name of resource r
-abbrev pub resource_name : Scenario → ℕ → Text
-resource_name s r = option_map_or (λ named. named.0) (slice_get s.resources r) []
-
--- the name of system i
-abbrev pub system_name : Scenario → ℕ → Text
-system_name s i = option_map_or (λ system. system.name) (slice_get s.systems i) []
+-- ---- parts of a line
 
 -- who wrote a message: a system, or the host
 abbrev pub writer_name : Scenario → ℕ → Text
 writer_name s writer = if writer == HOST then codes "host" else system_name s writer
 
--- ---- parts of a line
-
 -- NUMBER=VALUE@WRITER
-abbrev pub item_text : Scenario → ℕ → Record → Text
+abbrev pub item_text : Scenario → ℕ → Record ℤ → Text
 item_text s number m =
     decimal number ++ codes "=" ++ signed_decimal m.value ++ codes "@" ++ writer_name s m.writer
 
 -- the same with a space in front
-abbrev pub next_item : Scenario → ℕ × Record → Text
+abbrev pub next_item : Scenario → ℕ × Record ℤ → Text
 next_item s m = codes " " ++ item_text s m.0 m.1
 
 -- messages numbered from here on, each with a space in front
-abbrev pub more_items : Scenario → ℕ → List Record → Text
+abbrev pub more_items : Scenario → ℕ → List (Record ℤ) → Text
 more_items s first ms = flat_map (next_item s) (enumerate_from first ms)
 
 -- messages numbered from here on, with a space between two, or `none`
-abbrev pub items_text : Scenario → ℕ → List Record → Text
+abbrev pub items_text : Scenario → ℕ → List (Record ℤ) → Text
 items_text s first [] = codes "none"
 items_text s first (m ∷ ms) = item_text s first m ++ more_items s (first + 1) ms
 
 -- what a read took
-abbrev pub took_text : Scenario → Took → Text
+abbrev pub took_text : Scenario → Took ℤ → Text
 took_text s took =
     codes "missed " ++ decimal took.missed ++ codes ": " ++ items_text s took.first took.items
 
@@ -63,7 +50,7 @@ written_text None = codes "spent"
 written_text (Some numbers) = numbers_text numbers
 
 -- an op by its head, and by what it works on
-abbrev pub op_text : Scenario → Op → Text
+abbrev pub op_text : Scenario → Op ℤ → Text
 op_text s (Write t value) = codes "write " ++ type_name s t
 op_text s (Batch t values) = codes "batch " ++ type_name s t
 op_text s (Read t limit) = codes "read " ++ type_name s t
@@ -79,7 +66,7 @@ op_text s (Drain t) = codes "drain " ++ type_name s t
 op_text s Signal = codes "signal"
 
 -- what it was answered, as that follows it on the line
-abbrev pub reply_text : Scenario → Reply → Text
+abbrev pub reply_text : Scenario → Reply ℤ → Text
 reply_text s (reply.Wrote numbers) = codes " " ++ numbers_text numbers
 reply_text s reply.Spent = codes " spent"
 reply_text s (reply.Read took) = codes " " ++ took_text s took
@@ -98,42 +85,42 @@ reply_text s reply.Signalled = []
 -- ---- the lines of a frame
 
 -- a line: how it begins, what was answered, and a line feed
-abbrev pub answered_line : Scenario → Text → Reply → Text
+abbrev pub answered_line : Scenario → Text → Reply ℤ → Text
 answered_line s start answer = start ++ reply_text s answer ++ codes "\n"
 
 -- the line of a post of the host to a type
-abbrev pub post_line : Scenario → ℕ → Reply → Text
+abbrev pub post_line : Scenario → ℕ → Reply ℤ → Text
 post_line s t answer = answered_line s (codes "host post " ++ type_name s t) answer
 
 -- a line for each post
-abbrev pub posts_text : Scenario → List (ℕ × ℤ) → List Reply → Text
+abbrev pub posts_text : Scenario → List (ℕ × ℤ) → List (Reply ℤ) → Text
 posts_text s posts answers = flat_map (λ p. post_line s p.0.0 p.1) (zip posts answers)
 
 -- how the line of an op begins, of the system with this name
-abbrev pub op_start : Scenario → Text → Op → Text
+abbrev pub op_start : Scenario → Text → Op ℤ → Text
 op_start s name op = name ++ codes " " ++ op_text s op
 
 -- the line of an op of the system with this name
-abbrev pub op_line : Scenario → Text → Op → Reply → Text
+abbrev pub op_line : Scenario → Text → Op ℤ → Reply ℤ → Text
 op_line s name op answer = answered_line s (op_start s name op) answer
 
 -- a line for each op
-abbrev pub ops_text : Scenario → Text → List Op → List Reply → Text
+abbrev pub ops_text : Scenario → Text → List (Op ℤ) → List (Reply ℤ) → Text
 ops_text s name ops answers = flat_map (λ p. op_line s name p.0 p.1) (zip ops answers)
 
 -- what came of a system's turn
-abbrev pub outcome_text : Scenario → SystemSpec → Outcome → Text
+abbrev pub outcome_text : Scenario → SystemSpec → Outcome ℤ → Text
 outcome_text s system Skipped = system.name ++ codes " skipped\n"
 outcome_text s system (Ran answers) = ops_text s system.name system.program.ops answers
 
 -- a turn; one of a system that the scenario hasn't got prints nothing
-abbrev pub turn_text : Scenario → Turn → Text
+abbrev pub turn_text : Scenario → Turn ℤ → Text
 turn_text s turn =
     option_map_or (λ system. outcome_text s system turn.outcome)
     (slice_get s.systems turn.system) []
 
 -- the text of a frame: its number, the posts, and the turns
-abbrev pub frame_text : Scenario → ℕ → Frame → Log → Text
+abbrev pub frame_text : Scenario → ℕ → Frame ℤ → Log ℤ → Text
 frame_text s number frame log =
     codes "frame " ++ decimal number ++ codes "\n" ++ posts_text s frame.posts log.posts
     ++ flat_map (turn_text s) log.turns
@@ -161,18 +148,18 @@ accounts_text s accounts = flat_map (account_line s) accounts
 -- ---- the whole
 
 -- frames one after another, numbered from here on
-abbrev pub frames_text : Scenario → ℕ → List Frame → List Log → Text
+abbrev pub frames_text : Scenario → ℕ → List (Frame ℤ) → List (Log ℤ) → Text
 frames_text s number frames logs =
     flat_map (λ f. frame_text s f.0 f.1.0 f.1.1) (enumerate_from number (zip frames logs))
 
 -- the text of a scenario whose frames had these logs, and whose readers had these accounts at the
 -- end
-abbrev pub report_text : Scenario → List Log → List Account → Text
+abbrev pub report_text : Scenario → List (Log ℤ) → List Account → Text
 report_text s logs accounts = frames_text s 1 s.frames logs ++ accounts_text s accounts
 
 -- the text of the frames that had these logs; and the readers' lines too, where these are all
 -- frames
-abbrev pub text_so_far : Scenario → List Log → List Account → Text
+abbrev pub text_so_far : Scenario → List (Log ℤ) → List Account → Text
 text_so_far s logs accounts =
     if length logs == length s.frames then report_text s logs accounts
     else frames_text s 1 s.frames logs

@@ -9,7 +9,7 @@ ghost use Rattle.msg_scenario_data.specs.Prelude.{IsRunnable, first_world, place
 use msg_exec::{BuildRefusal, EngineOf, Items, NoMemory, Place};
 use msg_order::Rule;
 use msg_scenario_data::{Scenario, SystemSpec};
-use msg_system::System;
+use msg_system::SystemOf;
 use msg_world::World;
 use std::alloc::Global;
 
@@ -75,7 +75,7 @@ fn rules_of(alloc: Global, scenario: &Scenario) -> Result<Vec<Rule>, NoMemory>
 /// Adds a system to the systems of a scenario: the one that was made of the next spec. `specs` and
 /// `spec` are there for the contract alone.
 #[tactic(auto, using(crate::proofs::EngineIsMade::is_system_at))]
-pub fn add_system<S: System>(
+pub fn add_system<S: SystemOf<Value = i64>>(
     specs: &[SystemSpec],
     spec: &SystemSpec,
     systems: &mut Vec<S>,
@@ -96,7 +96,7 @@ pub fn add_system<S: System>(
 /// Makes the engine that `report` runs, of a scenario and of its systems. The caller chooses what
 /// the systems are: system i means the program of the scenario's system i, and writes as number i.
 /// A scenario that can be run has no clash and no cycle, so the only error is `NoMemory`.
-pub fn engine_of<S: System>(
+pub fn engine_of<S: SystemOf<Value = i64>>(
     alloc: Global,
     scenario: &Scenario,
     systems: Vec<S>,

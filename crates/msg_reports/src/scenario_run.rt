@@ -11,7 +11,7 @@ use crate::reports::report;
 use msg_exec::{Gate, NoMemory, Workers};
 use msg_files::{ReportFault, Sink};
 use msg_scenario_data::Scenario;
-use msg_system::System;
+use msg_system::SystemOf;
 use std::alloc::Global;
 use std::thread::Threads;
 
@@ -22,7 +22,7 @@ use std::thread::Threads;
 ///
 /// `NoMemory` where there was no engine. What the report came to, a fault of it too, is within
 /// `Ok`.
-pub fn run_scenario<R: Threads + Sync, X: System, S: Sink, G: Gate>(
+pub fn run_scenario<R: Threads + Sync, X: SystemOf<Value = i64> + Send, S: Sink, G: Gate>(
     rt: &R,
     alloc: Global,
     scenario: &Scenario,

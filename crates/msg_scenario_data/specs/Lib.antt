@@ -1,3 +1,4 @@
 pub mod Names
+pub mod NamesOf
 pub mod Prelude
 pub mod Runnable

@@ -1,7 +1,7 @@
 -- The state that an engine of a scenario begins in, and what every scenario that was read keeps to.
-use Rattle.std.specs.Prelude.{◌≤◌, ◌<◌, IsTrue, All, Bool, true, false, List, [], ◌∷◌, length, map, if◌then◌else◌}
+use Rattle.std.specs.Prelude.{◌≤◌, ◌<◌, IsTrue, All, Bool, true, false, List, [], ◌∷◌, length, map, if◌then◌else◌, ℤ}
 use Rattle.std.specs.List.{enumerate_from}
-use Rattle.msg_world.specs.Prelude.{HasPart, Part, WorldState, held_world, new_world}
+use Rattle.msg_world.specs.Prelude.{HasPart, Part, WorldState, held_world, new_world, i64_values}
 use Rattle.msg_order.specs.Prelude.{IsAcyclic, NameSystemsBelow, edges_of}
 use Rattle.msg_system.specs.Prelude.{HasClash, Meaning, job_needs, needs_any, new_system, program_needs}
 use Rattle.msg_frames.specs.Prelude.{State, first_state}
@@ -12,27 +12,29 @@ use Rattle.msg_scenario_data.specs.{declared.kind.Kind.Kind, declared.kind.Kind.
 -- ---- the first state
 
 -- the world before the first frame
-abbrev pub first_world : Scenario → WorldState
+abbrev pub first_world : Scenario → WorldState i64_values
 first_world s =
-    let world = new_world (map (λ named. named.1) s.types) (map (λ named. named.1) s.resources) in
+    let world =
+    new_world i64_values (map (λ named. named.1) s.types)
+    (map (λ named. named.1) s.resources) in
     if s.held then held_world world else world
 
 -- the systems, which were given nothing yet; each writes as its number
-abbrev pub meanings_of : Scenario → List Meaning
+abbrev pub meanings_of : Scenario → List (Meaning ℤ)
 meanings_of s = map (λ x. new_system x.1.program x.0) (enumerate_from 0 s.systems)
 
 -- the conditions and the join frame of each
-abbrev pub places_of : Scenario → List Place
+abbrev pub places_of : Scenario → List (Place ℤ)
 places_of s = map (λ x. x.place) s.systems
 
 -- no frame was run, and those of join 1 have joined
-abbrev pub state_of : Scenario → State
+abbrev pub state_of : Scenario → State i64_values
 state_of s = first_state (meanings_of s) (places_of s) s.rules (length s.types) (first_world s)
 
 -- ---- what may be run
 
 -- a relay's program is one `forward`, a tally's one `sum`, a script's anything
-abbrev pub fits_kind : Kind → List Op → Bool
+abbrev pub fits_kind : Kind → List (Op ℤ) → Bool
 fits_kind Script ops = true
 fits_kind Relay (Forward t u ∷ []) = true
 fits_kind Tally (Sum t r ∷ []) = true
@@ -48,7 +50,7 @@ pub record IsRunnableSystem (s : Scenario) (x : SystemSpec) : Type 0 where
   pub joins : (1 ≤ x.place.join) × (x.place.join ≤ 10000)
 
 -- each post of a frame is to a type that there is
-abbrev pub PostsAreToTypes : Scenario → Frame → Type 0
+abbrev pub PostsAreToTypes : Scenario → Frame ℤ → Type 0
 PostsAreToTypes s frame = All (λ p. p.0 < length s.types) frame.posts
 
 -- An engine can be made of the scenario, and all its frames can be run.

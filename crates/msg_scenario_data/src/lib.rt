@@ -5,6 +5,7 @@
 mod kind;
 mod limits;
 mod name;
+pub mod names;
 mod runnable;
 mod scenario;
 

@@ -1,19 +1,19 @@
 -- Turns that a behavior decides, op after op.
 use Rattle.std.proofs.Common.{refl, ◌≡◌, ℕ, zero, suc, ◌+◌, ◌≤◌, ◌++◌, List, [], ◌∷◌, length, Option, Some, None, sym, arith, inl, inr, append_assoc, drop}
 use Rattle.std.proofs.{Math.Seq.drop-append_seam, lemmas.Bool.cases_Bool, lemmas.Bool.cases_eq, lemmas.Bool.false≢true, lemmas.List.length_push}
-use Rattle.msg_world.specs.{Prelude.SameLoan, Prelude.WorldState, declared.lent.Lent.Lent}
+use Rattle.msg_world.specs.{Prelude.SameLoan, Prelude.WorldState, declared.lent.Lent.Lent, Prelude.Values}
 use Rattle.msg_system.specs.{Prelude.Covers, Prelude.Needs, Prelude.Op, Prelude.OpRan, Prelude.Reply, Prelude.after_at_most, Prelude.one_more, Prelude.op_needs, inner.TurnRuns.AreAnswered, inner.TurnRuns.IsAfterProgram}
 use Rattle.msg_system.proofs.{Lendings.writable_is_shown, Runs.op_more, Turns.IsKept, Turns.ops_answered-snoc}
 
 -- ---- a turn, op after op
 
 -- a loan that covers what is needed covers each op that keeps to it, also after a change of what it lets be written
-pub covers_kept : (op : Op) (n : Needs) (l m : Lent) → IsKept n op → SameLoan l m → Covers n l → Covers (op_needs op) m
+pub covers_kept : {V : Type 0} (op : Op V) (n : Needs) (l m : Lent V) → IsKept n op → SameLoan l m → Covers n l → Covers (op_needs op) m
 covers_kept op n l m keeps same covers =
     let later : Covers n m = grind (arith, same, covers) in
     grind (arith, keeps, later, cases_Bool, writable_is_shown, false≢true)
 
-module _ (next : List Reply → Option Op) (w : ℕ) (ps : ℕ → ℕ) (s : WorldState) where
+module _ {V : Type 0} {values : Values V} (next : List (Reply V) → Option (Op V)) (w : ℕ) (ps : ℕ → ℕ) (s : WorldState values) where
   -- where the rule says that the turn is over, it stays as it is
   stays : (n k : ℕ) → k ≤ n → next (after_at_most k next w ps s).replies ≡ None → after_at_most n next w ps s
       ≡ after_at_most k next w ps s
@@ -21,7 +21,7 @@ module _ (next : List Reply → Option Op) (w : ℕ) (ps : ℕ → ℕ) (s : Wor
   stays (suc n) k le h =
       elim (cases_eq k (suc n)) [ inl e ↦ rw e refl | inr ne ↦ grind (arith, stays n k (omega (arith, le, ne)) h) ]
 
-  module _ (n k : ℕ) (qs : ℕ → ℕ) (l : Lent) (before out : List Reply) (long : n ≡ length before)
+  module _ (n k : ℕ) (qs : ℕ → ℕ) (l : Lent V) (before out : List (Reply V)) (long : n ≡ length before)
       (far : IsAfterProgram (after_at_most k next w ps s) qs l before out) where
     asked : drop n out ≡ (after_at_most k next w ps s).replies
     asked = rw (long, far.same_replies) (drop-append_seam before _)
@@ -29,7 +29,7 @@ module _ (next : List Reply → Option Op) (w : ℕ) (ps : ℕ → ℕ) (s : Wor
     pub turn_over : k ≤ 64 → None ≡ next (drop n out) → IsAfterProgram (after_at_most 64 next w ps s) qs l before out
     turn_over le h = rw (stays 64 k le (rw (← asked) (sym h))) far
 
-    pub turn_more : (op : Op) (rs : ℕ → ℕ) (m : Lent) (r : Reply) → Some op ≡ next (drop n out) → OpRan op w qs rs l m r
+    pub turn_more : (op : Op V) (rs : ℕ → ℕ) (m : Lent V) (r : Reply V) → Some op ≡ next (drop n out) → OpRan values op w qs rs l m r
         → IsAfterProgram (after_at_most (k + 1) next w ps s) rs m before (out ++ r ∷ [])
     turn_more op rs m r is ran =
         let longer : after_at_most (k + 1) next w ps s ≡ one_more (Some op) w (after_at_most k next w ps s) =
@@ -39,12 +39,12 @@ module _ (next : List Reply → Option Op) (w : ℕ) (ps : ℕ → ℕ) (s : Wor
 -- ---- which ops were answered
 
 -- what was appended, without what stood before
-pub appended : (next : List Reply → Option Op) (ops : List Op) (before after : List Reply)
+pub appended : {V : Type 0} (next : List (Reply V) → Option (Op V)) (ops : List (Op V)) (before after : List (Reply V))
     (are : AreAnswered next ops before after) → drop (length before) after ≡ are.0
 appended next ops before after are = rw are.1 (drop-append_seam before are.0)
 
 -- one op more
-pub answered_more : (next : List Reply → Option Op) (ops : List Op) (before after : List Reply) (op : Op) (r : Reply)
+pub answered_more : {V : Type 0} (next : List (Reply V) → Option (Op V)) (ops : List (Op V)) (before after : List (Reply V)) (op : Op V) (r : Reply V)
     (are : AreAnswered next ops before after)
     → Some op ≡ next are.0 → AreAnswered next (ops ++ op ∷ []) before (after ++ r ∷ [])
 answered_more next ops before after op r are is = (

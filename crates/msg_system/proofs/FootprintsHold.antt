@@ -1,13 +1,15 @@
 -- Ops, turns, conditions and jobs use no more than they need.
-use Rattle.std.proofs.Common.{◌≡◌, ℕ, zero, suc, Bool, false, List, [], ◌∷◌, length, map, Option, None, Some, refl, ap, ◌∙◌, arith, IfSome, IsTrue}
+use Rattle.std.proofs.Common.{◌≡◌, ℕ, zero, suc, Bool, false, List, [], ◌∷◌, length, map, Option, None, Some, refl, ap, ◌∙◌, arith, IfSome, IsTrue, nat_lt}
 use Rattle.std.proofs.{Math.Bool.or-false, Math.Path.fun_ext, lemmas.Bool.cases_Bool, lemmas.Bool.false≢true, lemmas.Bool.or_left, lemmas.Bool.or_right}
-use Rattle.msg_world.specs.Prelude.{OfResource, OfType, Part, Registry, WorldState, content}
+use Rattle.msg_buffer.specs.Prelude.{History, count, unread}
+use Rattle.msg_world.specs.Prelude.{OfResource, OfType, Part, Registry, WorldState, content, Values}
+use Rattle.msg_world.specs.declared.record.Record.{Record}
 use Rattle.msg_system.specs.Prelude.{AfterProgram, Agree, Asked, ConditionFootprint, HasFootprint, IsWithin, Job, JobFootprint, Meaning, OnMessage, Op, OpFootprint, Probe, Program, ProgramFootprint, Reply, ResourceEquals, TurnFootprint, Zero, after_asking, after_at_most, after_op, all_hold, conditions_of, probe_answer, given_by_program, is_part, needs_any, next_op, of_program, one_more, op_needs, op_parts, place_after, probe_part, some_condition_reads, turn, with_conditions}
 use Rattle.msg_system.proofs.{Runs.same_part_refl, Turns.IsKept, Turns.next_kept_to, Turns.program_so_far}
 
 -- ---- what is kept
 
-op_kept : (op : Op) (w : ℕ) (ps : ℕ → ℕ) (s : WorldState) (p : Part) → (op_needs op).writes p ≡ false
+op_kept : {V : Type 0} {values : Values V} (op : Op V) (w : ℕ) (ps : ℕ → ℕ) (s : WorldState values) (p : Part) → (op_needs op).writes p ≡ false
     → content p (after_op op w ps s).state ≡ content p s
 op_kept op w ps s (OfType t) h = grind arith
 op_kept op w ps s (OfResource r) h = grind arith
@@ -15,8 +17,8 @@ op_kept op w ps s Registry h = grind arith
 
 -- ---- what is given, and what is left
 
-module _ (m : Part → Bool) (s t : WorldState) (agree : Agree m s t) where
-  module _ (op : Op) (w : ℕ) (ps : ℕ → ℕ) (within : IsWithin (op_needs op) m) where
+module _ {V : Type 0} {values : Values V} (m : Part → Bool) (s t : WorldState values) (agree : Agree m s t) where
+  module _ (op : Op V) (w : ℕ) (ps : ℕ → ℕ) (within : IsWithin (op_needs op) m) where
     part_agrees : (o : Option Part) → ((p : Part) → IsTrue (is_part o p) → IsTrue (needs_any (op_needs op) p))
         → IfSome o (λ p. content p s ≡ content p t)
     part_agrees None used = tt
@@ -31,7 +33,7 @@ module _ (m : Part → Bool) (s t : WorldState) (agree : Agree m s t) where
     op_alike (OfResource r) h = grind (arith, agrees, agree (OfResource r) h)
     op_alike Registry h = grind (arith, agree Registry h)
 
-pub op_footprint : OpFootprint
+pub op_footprint : {V : Type 0} {values : Values V} → OpFootprint values
 op_footprint op w ps = record {
   kept = op_kept op w ps;
   same = λ m s t within agree. grind (arith, agrees m s t agree op w ps within);
@@ -40,28 +42,28 @@ op_footprint op w ps = record {
 
 -- ---- turns
 
-module _ (m : Meaning) where
+module _ {V : Type 0} (values : Values V) (m : Meaning V) where
   -- the first ops of a turn
-  abbrev after : ℕ → WorldState → AfterProgram
+  abbrev after : ℕ → WorldState values → AfterProgram values
   after k s = after_at_most k (next_op m) m.writer m.places s
 
-  more_kept : (o : Option Op) (far : AfterProgram) (p : Part) → ((op : Op) → o ≡ Some op → IsKept m.needs op)
+  more_kept : (o : Option (Op V)) (far : AfterProgram values) (p : Part) → ((op : Op V) → o ≡ Some op → IsKept m.needs op)
       → m.needs.writes p ≡ false → content p (one_more o m.writer far).state ≡ content p far.state
   more_kept None far p kept h = refl
   more_kept (Some op) far p kept h =
       op_kept op m.writer far.places far.state p (grind (arith, kept op refl, cases_Bool, false≢true))
 
-  turn_kept : (k : ℕ) (s : WorldState) (p : Part) → m.needs.writes p ≡ false → content p (after k s).state ≡ content p s
+  turn_kept : (k : ℕ) (s : WorldState values) (p : Part) → m.needs.writes p ≡ false → content p (after k s).state ≡ content p s
   turn_kept zero s p h = refl
   turn_kept (suc k) s p h =
       more_kept (next_op m (after k s).replies) (after k s) p (next_kept_to m.needs _) h ∙ turn_kept k s p h
 
   module _ (among : Part → Bool) (within : IsWithin m.needs among) where
-    record AreAlike (a b : AfterProgram) : Type 0 where
+    record AreAlike (a b : AfterProgram values) : Type 0 where
       same : given_by_program a ≡ given_by_program b
       agree : Agree among a.state b.state
 
-    more_alike : (o : Option Op) (a b : AfterProgram) → ((op : Op) → o ≡ Some op → IsKept m.needs op) → AreAlike a b
+    more_alike : (o : Option (Op V)) (a b : AfterProgram values) → ((op : Op V) → o ≡ Some op → IsKept m.needs op) → AreAlike a b
         → AreAlike (one_more o m.writer a) (one_more o m.writer b)
     more_alike None a b kept alike = alike
     more_alike (Some op) a b kept alike =
@@ -72,44 +74,45 @@ module _ (m : Meaning) where
           agree = λ p h. grind (arith, alike.same, foot.alike among a.state b.state in_m alike.agree p h);
         }
 
-    turn_alike : (k : ℕ) (s t : WorldState) → Agree among s t → AreAlike (after k s) (after k t)
+    turn_alike : (k : ℕ) (s t : WorldState values) → Agree among s t → AreAlike (after k s) (after k t)
     turn_alike zero s t agree = record { same = refl; agree = agree }
     turn_alike (suc k) s t agree =
-        let far = turn_alike k s t agree in let next = λ (g : (ℕ → ℕ) × List Reply). next_op m g.1 in
+        let far = turn_alike k s t agree in let next = λ (g : (ℕ → ℕ) × List (Reply V)). next_op m g.1 in
         rw (← ap next far.same)
         (more_alike (next_op m (after k s).replies) (after k s) (after k t) (next_kept_to m.needs _) far)
 
-  first_ops : (k : ℕ) → HasFootprint m.needs (λ (e : AfterProgram). e.state) given_by_program (after k)
+  first_ops : (k : ℕ) → HasFootprint m.needs (λ (e : AfterProgram values). e.state) given_by_program (after k)
   first_ops k = record {
     kept = turn_kept k;
     same = λ among s t within agree. (turn_alike among within k s t agree).same;
     alike = λ among s t within agree. (turn_alike among within k s t agree).agree;
   }
 
-pub turn_footprint : TurnFootprint
+pub turn_footprint : {V : Type 0} {values : Values V} → TurnFootprint values
 unfolding turn
-turn_footprint m = first_ops m 64
+turn_footprint {values} m = first_ops values m 64
 
-pub program_footprint : ProgramFootprint
-program_footprint ops w ps =
-    let program : Program = record { ops = ops; start = Zero } in
-    rw (← fun_ext (λ s. program_so_far program (length ops) w ps s (omega arith)))
-    (first_ops (of_program program w ps) (length ops))
+pub program_footprint : {V : Type 0} {values : Values V} → ProgramFootprint values
+program_footprint {V} {values} ops w ps =
+    let program : Program V = record { ops = ops; start = Zero } in
+    rw (← fun_ext {A = WorldState values} (λ s. program_so_far program (length ops) w ps s (omega arith)))
+    (first_ops values (of_program program w ps) (length ops))
 
 -- ---- conditions
 
-probe_alike : (q : Probe) (place : ℕ) (s t : WorldState) → content (probe_part q) s ≡ content (probe_part q) t
+probe_alike : {V : Type 0} {values : Values V} (q : Probe V) (place : ℕ) (s t : WorldState values) → content (probe_part q) s ≡ content (probe_part q) t
     → (probe_answer q place s ≡ probe_answer q place t) × (place_after q place s ≡ place_after q place t)
-probe_alike (OnMessage k) place s t e = (rw e refl, rw e refl)
-probe_alike (ResourceEquals r v) place s t e = (rw e refl, refl)
+probe_alike {V} {values} (OnMessage k) place s t e =
+    (ap (λ (h : History (Record V)). nat_lt 0 (length (unread h place))) e, ap (λ (h : History (Record V)). count h) e)
+probe_alike {V} {values} (ResourceEquals r v) place s t e = (ap (λ x. values.same x v) e, refl)
 
-pub condition_footprint : ConditionFootprint
+pub condition_footprint : {V : Type 0} {values : Values V} → ConditionFootprint values
 condition_footprint a m s t within agree =
     let p : Part = probe_part a.condition.probe in
-    let alike = probe_alike _ a.place s t (agree p (within p (or_left _ false (same_part_refl p)))) in
+    let alike = probe_alike a.condition.probe a.place s t (agree p (within p (or_left _ false (same_part_refl p)))) in
     (rw alike.0 refl, rw alike.1 refl)
 
-all_alike : (asked : List Asked) (m : Part → Bool) (s t : WorldState)
+all_alike : {V : Type 0} {values : Values V} (asked : List (Asked V)) (m : Part → Bool) (s t : WorldState values)
     → ((p : Part) → IsTrue (some_condition_reads (map (λ a. a.condition) asked) p) → IsTrue (m p)) → Agree m s t
     → (all_hold asked s ≡ all_hold asked t) × (map (after_asking s) asked ≡ map (after_asking t) asked)
 all_alike [] m s t within agree = (refl, refl)
@@ -121,14 +124,14 @@ all_alike (a ∷ asked) m s t within agree =
 -- ---- jobs
 
 -- what a system and its conditions use, their job uses
-module _ (j : Job) (m : Part → Bool) (within : IsWithin (with_conditions j.system.needs (conditions_of j)) m) where
+module _ {V : Type 0} (j : Job V) (m : Part → Bool) (within : IsWithin (with_conditions j.system.needs (conditions_of j)) m) where
   system_in : IsWithin j.system.needs m
   system_in p h = within p (grind (arith, or_right, false≢true))
 
   conditions_in : (p : Part) → IsTrue (some_condition_reads (conditions_of j) p) → IsTrue (m p)
   conditions_in p h = within p (grind (arith, or_right))
 
-pub job_footprint : JobFootprint
+pub job_footprint : {V : Type 0} {values : Values V} → JobFootprint values
 job_footprint j = record {
   kept = λ s p h. grind (arith, (turn_footprint j.system).kept s p h);
   same = λ m s t within agree.

@@ -1,19 +1,19 @@
 -- What is read from a loan, and written through it.
-use Rattle.std.proofs.Common.{◌≡◌, ℕ, List, [], ◌∷◌, map, Some, refl, arith, ℤ, IsSome}
+use Rattle.std.proofs.Common.{◌≡◌, ℕ, List, [], ◌∷◌, map, Some, refl, arith, IsSome}
 use Rattle.std.specs.List.{AllZip}
-use Rattle.std.proofs.lemmas.{Bool.cases_Bool, Bool.cases_lt, Bool.false≢true, Grind.common_steps, Int.to_z-of_z, Bool.Decides.nat_tests}
+use Rattle.std.proofs.lemmas.{Bool.cases_Bool, Bool.cases_lt, Bool.false≢true, Grind.common_steps, Bool.Decides.nat_tests}
 use Rattle.msg_buffer.specs.Prelude.{Kept, StandsFor}
-use Rattle.msg_world.specs.{Prelude.LoanStands, Prelude.OfResource, Prelude.OfType, Prelude.Part, Prelude.WorldState, Prelude.shown, Prelude.writable, declared.lent.Lent.Lent, declared.record.Record.Record}
+use Rattle.msg_world.specs.{Prelude.LoanStands, Prelude.OfResource, Prelude.OfType, Prelude.Part, Prelude.WorldState, Prelude.shown, Prelude.writable, declared.lent.Lent.Lent, declared.record.Record.Record, Prelude.Values}
 
 -- what may be written is shown
-pub writable_is_shown : (p : Part) (l : Lent) → IsSome (writable p l) → shown p l ≡ writable p l
+pub writable_is_shown : {V : Type 0} (p : Part) (l : Lent V) → IsSome (writable p l) → shown p l ≡ writable p l
 writable_is_shown p l there = grind (arith, cases_Bool, false≢true)
 
-pub value_stands : (l : Lent) (s : WorldState) (r : ℕ) (z : ℤ) → Some z ≡ shown (OfResource r) l → LoanStands l s → z
+pub value_stands : {V : Type 0} {values : Values V} (l : Lent V) (s : WorldState values) (r : ℕ) (z : V) → Some z ≡ shown (OfResource r) l → LoanStands l s → z
     ≡ s.resources r
 value_stands l s r z is stand = rw (← is) at (stand (OfResource r))
 
-pub written_messages_stand : (l : Lent) (s : WorldState) (t : ℕ) (k : Kept Record) → IsSome (writable (OfType t) l)
+pub written_messages_stand : {V : Type 0} {values : Values V} (l : Lent V) (s : WorldState values) (t : ℕ) (k : Kept (Record V)) → IsSome (writable (OfType t) l)
     → Some k ≡ writable (OfType t) l → LoanStands l s
     → StandsFor k (s.histories t)
 written_messages_stand l s t k there is stand =
@@ -27,4 +27,4 @@ made_by R f is (x ∷ xs) (m ∷ ms) made = rw (is x m made.0, made_by R f is xs
 made_by R f is xs ms made = absurd made
 
 -- what functions on a loan go by
-pub ruleset of_loans = (common_steps, to_z-of_z, value_stands, written_messages_stand, cases_lt, nat_tests)
+pub ruleset of_loans = (common_steps, value_stands, written_messages_stand, cases_lt, nat_tests)

@@ -3,25 +3,27 @@ use Rattle.std.specs.Prelude.{ℕ, List, [], Option, Some, fold}
 use Rattle.msg_world.specs.declared.record.Record.{Record}
 use Rattle.msg_system.specs.{declared.op.Op.Op, declared.reply.Reply.Reply, declared.reply.Reply.TheVariants.Read, declared.reply.Reply.TheVariants.Forwarded, declared.reply.Reply.TheVariants.Summed, declared.start.Start.Start, Needs.Needs, Systems.Meaning, Systems.Rule}
 
--- Its rule: the next op by what it remembers of the turns that it took, one after the other, and by
--- the replies so far.
-abbrev pub behaves : {M : Type 0} → (M → List Reply → Option Op) → (M → List Reply → M) → M → Rule
-behaves next remember memory turns replies = next (fold remember memory turns) replies
+module _ {V : Type 0} where
+  -- Its rule: the next op by what it remembers of the turns that it took, one after the other, and
+  -- by the replies so far.
+  abbrev pub behaves : {M : Type 0} → (M → List (Reply V) → Option (Op V))
+      → (M → List (Reply V) → M) → M → Rule V
+  behaves next remember memory turns replies = next (fold remember memory turns) replies
 
--- a system that goes by a rule and was given nothing yet
-abbrev pub new_by_rule : Needs → Start → ℕ → Rule → Meaning
-new_by_rule needs start writer rule = record {
-  needs = needs;
-  start = start;
-  writer = writer;
-  places = λ t. 0;
-  rule = rule;
-  last = [];
-}
+  -- a system that goes by a rule and was given nothing yet
+  abbrev pub new_by_rule : Needs → Start → ℕ → Rule V → Meaning V
+  new_by_rule needs start writer rule = record {
+    needs = needs;
+    start = start;
+    writer = writer;
+    places = λ t. 0;
+    rule = rule;
+    last = [];
+  }
 
--- the messages that a reply brought: those that its op read
-abbrev pub brought : Option Reply → List Record
-brought (Some (Read took)) = took.items
-brought (Some (Forwarded took wrote)) = took.items
-brought (Some (Summed took z)) = took.items
-brought _ = []
+  -- the messages that a reply brought: those that its op read
+  abbrev pub brought : Option (Reply V) → List (Record V)
+  brought (Some (Read took)) = took.items
+  brought (Some (Forwarded took wrote)) = took.items
+  brought (Some (Summed took z)) = took.items
+  brought _ = []

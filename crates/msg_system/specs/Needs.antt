@@ -13,34 +13,36 @@ pub record OpParts : Type 0 where
   pub read : Option Part
   pub written : Option Part
 
--- the part that an op reads, and the part that it writes
-abbrev pub op_parts : Op → OpParts
-op_parts (Write t v) = record { read = None; written = Some (OfType t) }
-op_parts (Batch t vs) = record { read = None; written = Some (OfType t) }
-op_parts (Read t limit) = record { read = Some (OfType t); written = None }
-op_parts (Len t) = record { read = Some (OfType t); written = None }
-op_parts (Missed t) = record { read = Some (OfType t); written = None }
-op_parts (Clear t) = record { read = Some (OfType t); written = None }
-op_parts (Forward t u) = record { read = Some (OfType t); written = Some (OfType u) }
-op_parts (Sum t r) = record { read = Some (OfType t); written = Some (OfResource r) }
-op_parts (Get r) = record { read = Some (OfResource r); written = None }
-op_parts (Set r v) = record { read = None; written = Some (OfResource r) }
-op_parts (Add r v) = record { read = None; written = Some (OfResource r) }
-op_parts (Drain t) = record { read = None; written = Some (OfType t) }
-op_parts Signal = record { read = None; written = Some Registry }
+module _ {V : Type 0} where
+  -- the part that an op reads, and the part that it writes
+  abbrev pub op_parts : Op V → OpParts
+  op_parts (Write t v) = record { read = None; written = Some (OfType t) }
+  op_parts (Batch t vs) = record { read = None; written = Some (OfType t) }
+  op_parts (Read t limit) = record { read = Some (OfType t); written = None }
+  op_parts (Len t) = record { read = Some (OfType t); written = None }
+  op_parts (Missed t) = record { read = Some (OfType t); written = None }
+  op_parts (Clear t) = record { read = Some (OfType t); written = None }
+  op_parts (Forward t u) = record { read = Some (OfType t); written = Some (OfType u) }
+  op_parts (Sum t r) = record { read = Some (OfType t); written = Some (OfResource r) }
+  op_parts (Get r) = record { read = Some (OfResource r); written = None }
+  op_parts (Set r v) = record { read = None; written = Some (OfResource r) }
+  op_parts (Add r v) = record { read = None; written = Some (OfResource r) }
+  op_parts (Drain t) = record { read = None; written = Some (OfType t) }
+  op_parts Signal = record { read = None; written = Some Registry }
 
 -- the type, where the part is one
 abbrev pub type_in_part : Part → Option ℕ
 type_in_part (OfType t) = Some t
 type_in_part _ = None
 
--- the type that an op reads
-abbrev pub type_read : Op → Option ℕ
-type_read op = option_and_then type_in_part (op_parts op).read
+module _ {V : Type 0} where
+  -- the type that an op reads
+  abbrev pub type_read : Op V → Option ℕ
+  type_read op = option_and_then type_in_part (op_parts op).read
 
--- the type that op k of a program reads; none where there is no such op
-abbrev pub type_read_by : List Op → ℕ → Option ℕ
-type_read_by ops k = option_and_then type_read (slice_get ops k)
+  -- the type that op k of a program reads; none where there is no such op
+  abbrev pub type_read_by : List (Op V) → ℕ → Option ℕ
+  type_read_by ops k = option_and_then type_read (slice_get ops k)
 
 -- Which parts are read, and which are written.
 pub record Needs : Type 0 where
@@ -60,64 +62,68 @@ abbrev pub is_part : Option Part → Part → Bool
 is_part None p = false
 is_part (Some q) p = same_part p q
 
--- what an op reads and writes
-abbrev pub op_needs : Op → Needs
-op_needs op = record { reads = is_part (op_parts op).read; writes = is_part (op_parts op).written }
+module _ {V : Type 0} where
+  -- what an op reads and writes
+  abbrev pub op_needs : Op V → Needs
+  op_needs op =
+      record { reads = is_part (op_parts op).read; writes = is_part (op_parts op).written }
 
--- an op of the list reads the part
-abbrev pub some_op_reads : List Op → Part → Bool
-some_op_reads ops p = list_any (λ op. (op_needs op).reads p) ops
+  -- an op of the list reads the part
+  abbrev pub some_op_reads : List (Op V) → Part → Bool
+  some_op_reads ops p = list_any (λ op. (op_needs op).reads p) ops
 
--- an op of the list writes the part
-abbrev pub some_op_writes : List Op → Part → Bool
-some_op_writes ops p = list_any (λ op. (op_needs op).writes p) ops
+  -- an op of the list writes the part
+  abbrev pub some_op_writes : List (Op V) → Part → Bool
+  some_op_writes ops p = list_any (λ op. (op_needs op).writes p) ops
 
 -- the part is a resource
 abbrev pub is_resource : Part → Bool
 is_resource (OfResource r) = true
 is_resource _ = false
 
--- A program writes what an op of it writes, and reads what an op of it reads. A resource that is
--- also written isn't listed as read: it is used once, for writing. A type that is both read and
--- written stays both: that is the clash.
-abbrev pub program_needs : List Op → Needs
-program_needs ops = record {
-  reads = λ p. some_op_reads ops p && not (is_resource p && some_op_writes ops p);
-  writes = some_op_writes ops;
-}
+module _ {V : Type 0} where
+  -- A program writes what an op of it writes, and reads what an op of it reads. A resource that is
+  -- also written isn't listed as read: it is used once, for writing. A type that is both read and
+  -- written stays both: that is the clash.
+  abbrev pub program_needs : List (Op V) → Needs
+  program_needs ops = record {
+    reads = λ p. some_op_reads ops p && not (is_resource p && some_op_writes ops p);
+    writes = some_op_writes ops;
+  }
 
--- the part that a probe looks at, which is all that its condition needs
-abbrev pub probe_part : Probe → Part
-probe_part (OnMessage t) = OfType t
-probe_part (ResourceEquals r v) = OfResource r
+  -- the part that a probe looks at, which is all that its condition needs
+  abbrev pub probe_part : Probe V → Part
+  probe_part (OnMessage t) = OfType t
+  probe_part (ResourceEquals r v) = OfResource r
 
--- a condition reads the part that its probe looks at, and writes none
-abbrev pub condition_needs : Condition → Needs
-condition_needs c = record { reads = λ p. same_part p (probe_part c.probe); writes = λ p. false }
+  -- a condition reads the part that its probe looks at, and writes none
+  abbrev pub condition_needs : Condition V → Needs
+  condition_needs c = record { reads = λ p. same_part p (probe_part c.probe); writes = λ p. false }
 
 -- the part may be read: it is listed as read, or it is a resource that is written
 abbrev pub may_read : Needs → Part → Bool
 may_read n p = n.reads p || (is_resource p && n.writes p)
 
--- the op reads and writes no more than these
-abbrev pub keeps_to : Needs → Op → Bool
-keeps_to n op = is_none_or (may_read n) (op_parts op).read && is_none_or n.writes
-    (op_parts op).written
+module _ {V : Type 0} where
+  -- the op reads and writes no more than these
+  abbrev pub keeps_to : Needs → Op V → Bool
+  keeps_to n op = is_none_or (may_read n) (op_parts op).read && is_none_or n.writes
+      (op_parts op).written
 
--- one of the conditions reads the part
-abbrev pub some_condition_reads : List Condition → Part → Bool
-some_condition_reads cs p = list_any (λ c. (condition_needs c).reads p) cs
+  -- one of the conditions reads the part
+  abbrev pub some_condition_reads : List (Condition V) → Part → Bool
+  some_condition_reads cs p = list_any (λ c. (condition_needs c).reads p) cs
 
--- what is needed with conditions, which write nothing; what is written isn't listed as read
-abbrev pub with_conditions : Needs → List Condition → Needs
-with_conditions n cs = record {
-  reads = λ p. (n.reads p || some_condition_reads cs p) && not (n.writes p);
-  writes = n.writes;
-}
+  -- what is needed with conditions, which write nothing; what is written isn't listed as read
+  abbrev pub with_conditions : Needs → List (Condition V) → Needs
+  with_conditions n cs = record {
+    reads = λ p. (n.reads p || some_condition_reads cs p) && not (n.writes p);
+    writes = n.writes;
+  }
 
--- A job needs what its program and its conditions need.
-abbrev pub job_needs : List Op → List Condition → Needs
-job_needs ops cs = with_conditions (program_needs ops) cs
+  -- A job needs what its program and its conditions need.
+  abbrev pub job_needs : List (Op V) → List (Condition V) → Needs
+  job_needs ops cs = with_conditions (program_needs ops) cs
 
 -- what an access reads and writes
 abbrev pub needs_of : Access → Needs

@@ -1,7 +1,7 @@
 -- What one op on a loan does, by the cursors of its system.
 use Rattle.std.specs.Prelude.{◌≡◌, ℕ, ◌<◌, IsSome, None, length, slice_index}
 use Rattle.msg_buffer.specs.Prelude.{given, present}
-use Rattle.msg_world.specs.{Prelude.LoanStands, Prelude.WorldState, declared.lent.Lent.Lent}
+use Rattle.msg_world.specs.{Prelude.LoanStands, Prelude.WorldState, declared.lent.Lent.Lent, Prelude.Values}
 use Rattle.msg_system.specs.{declared.cursors.Cursors.Cursors, declared.op.Op.Op, declared.op.Op.TheVariants.Write, declared.op.Op.TheVariants.Batch, declared.op.Op.TheVariants.Read, declared.op.Op.TheVariants.Forward, declared.op.Op.TheVariants.Sum, declared.op.Op.TheVariants.Drain, declared.reply.Reply.Reply, Programs.AfterOp, Programs.after_op, Programs.numbers_for}
 
 -- the place in each type, by the type's number
@@ -9,29 +9,33 @@ abbrev pub cursor_places : Cursors → ℕ → ℕ
 cursor_places cursors t = slice_index cursors.by_type t
 
 -- the places, the loan and the reply are those after an op
-pub record IsAfterOp (after : AfterOp) (places : ℕ → ℕ) (lent : Lent)
-    (answer : Reply) : Type 0 where
+pub record IsAfterOp {V : Type 0} {values : Values V} (after : AfterOp values) (places : ℕ → ℕ)
+    (lent : Lent V)
+    (answer : Reply V) : Type 0 where
   pub same_places : places ≡ after.places
   pub stands : LoanStands lent after.state
   pub same_reply : answer ≡ after.reply
 
 -- For each state that the loan stood for, the new places, loan and reply are those after the op.
-abbrev pub OpRan : Op → ℕ → (ℕ → ℕ) → (ℕ → ℕ) → Lent → Lent → Reply → Type 0
-OpRan op writer old_places new_places old new answer =
-    (s : WorldState) → LoanStands old s
+abbrev pub OpRan : {V : Type 0} (values : Values V) → Op V → ℕ → (ℕ → ℕ) → (ℕ → ℕ) → Lent V → Lent V
+    → Reply V → Type 0
+OpRan values op writer old_places new_places old new answer =
+    (s : WorldState values) → LoanStands old s
     → IsAfterOp (after_op op writer old_places s) new_places new answer
 
--- An op asks for memory only where it writes, gives or drops something.
-abbrev pub AsksForMemory : Op → (ℕ → ℕ) → WorldState → Type 0
-AsksForMemory (Write t v) places s = IsSome (numbers_for (s.histories t) 1)
-AsksForMemory (Batch t vs) places s = 0 < length vs
-AsksForMemory (Read t limit) places s = 0 < length (given (s.histories t) (places t) limit)
-AsksForMemory (Forward t u) places s = 0 < length (given (s.histories t) (places t) None)
-AsksForMemory (Sum t r) places s = 0 < length (given (s.histories t) (places t) None)
-AsksForMemory (Drain t) places s = 0 < length (present (s.histories t))
-AsksForMemory _ places s = ⊥
+module _ {V : Type 0} {values : Values V} where
+  -- An op asks for memory only where it writes, gives or drops something.
+  abbrev pub AsksForMemory : Op V → (ℕ → ℕ) → WorldState values → Type 0
+  AsksForMemory (Write t v) places s = IsSome (numbers_for (s.histories t) 1)
+  AsksForMemory (Batch t vs) places s = 0 < length vs
+  AsksForMemory (Read t limit) places s = 0 < length (given (s.histories t) (places t) limit)
+  AsksForMemory (Forward t u) places s = 0 < length (given (s.histories t) (places t) None)
+  AsksForMemory (Sum t r) places s = 0 < length (given (s.histories t) (places t) None)
+  AsksForMemory (Drain t) places s = 0 < length (present (s.histories t))
+  AsksForMemory _ places s = ⊥
 
 -- The op may be refused for want of memory: it asks for memory in each state that the loan stands
 -- for.
-abbrev pub MayBeRefused : Op → (ℕ → ℕ) → Lent → Type 0
-MayBeRefused op places lent = (s : WorldState) → LoanStands lent s → AsksForMemory op places s
+abbrev pub MayBeRefused : {V : Type 0} (values : Values V) → Op V → (ℕ → ℕ) → Lent V → Type 0
+MayBeRefused values op places lent = (s : WorldState values) → LoanStands lent s
+    → AsksForMemory op places s

@@ -1,75 +1,80 @@
 -- What a system means, and what its turn is.
 use Rattle.std.specs.Prelude.{◌≡◌, ℕ, zero, suc, ◌≤◌, ◌++◌, Option, Some, None, option_and_then, option_to_list, unwrap_or, List, [], ◌∷◌, length, slice_get, if◌then◌else◌}
-use Rattle.msg_world.specs.Prelude.{OfType, WorldState}
+use Rattle.msg_world.specs.Prelude.{OfType, WorldState, Values}
 use Rattle.msg_system.specs.{declared.op.Op.Op, declared.program.Program.Program, declared.reply.Reply.Reply, declared.start.Start.Start, declared.start.Start.TheVariants.Zero, declared.start.Start.TheVariants.Current, Needs.Needs, Needs.keeps_to, Needs.program_needs, Programs.AfterOp, Programs.AfterProgram, Programs.after_op, Programs.after_program}
 
 -- What a system does next, by the replies of its turns from now on, and by those so far of this
 -- turn; None ends the turn.
-abbrev pub Rule : Type 0
-Rule = List (List Reply) → List Reply → Option Op
+abbrev pub Rule : Type 0 → Type 0
+Rule V = List (List (Reply V)) → List (Reply V) → Option (Op V)
 
 -- A system is what it needs, where its cursors start, the number that it writes as, its place in
 -- each type, and its rule.
-pub record Meaning : Type 0 where
+pub record Meaning (V : Type 0) : Type 0 where
   pub needs : Needs
   pub start : Start
   pub writer : ℕ
   pub places : ℕ → ℕ
-  pub rule : Rule
+  pub rule : Rule V
   -- the ops of its last turn; of a program, always its ops
-  pub last : List Op
+  pub last : List (Op V)
 
 -- ---- a turn
 
--- the op, where it keeps to what is needed; else the turn is over
-abbrev pub if_kept : Needs → Option Op → Option Op
-if_kept n next = option_and_then (λ op. if keeps_to n op then Some op else None) next
+module _ {V : Type 0} where
+  -- the op, where it keeps to what is needed; else the turn is over
+  abbrev pub if_kept : Needs → Option (Op V) → Option (Op V)
+  if_kept n next = option_and_then (λ op. if keeps_to n op then Some op else None) next
 
--- the next op of its turn, by the replies so far
-abbrev pub next_op : Meaning → List Reply → Option Op
-next_op m replies = if_kept m.needs (m.rule [] replies)
+  -- the next op of its turn, by the replies so far
+  abbrev pub next_op : Meaning V → List (Reply V) → Option (Op V)
+  next_op m replies = if_kept m.needs (m.rule [] replies)
 
--- one op more; or nothing, where the turn is over
-abbrev pub one_more : Option Op → ℕ → AfterProgram → AfterProgram
-one_more None w far = far
-one_more (Some op) w far =
-    let here : AfterOp = after_op op w far.places far.state in
-    record {
-      places = here.places;
-      state = here.state;
-      replies = far.replies ++ here.reply ∷ [];
-      steps = far.steps
-          ++ record { op = op; places = far.places; world = far.state; reply = here.reply } ∷ [];
-    }
+module _ {V : Type 0} {values : Values V} where
+  -- one op more; or nothing, where the turn is over
+  abbrev pub one_more : Option (Op V) → ℕ → AfterProgram values → AfterProgram values
+  one_more None w far = far
+  one_more (Some op) w far =
+      let here : AfterOp values = after_op op w far.places far.state in
+      record {
+        places = here.places;
+        state = here.state;
+        replies = far.replies ++ here.reply ∷ [];
+        steps = far.steps
+            ++ record { op = op; places = far.places; world = far.state; reply = here.reply } ∷ [];
+      }
 
--- After at most so many ops: what comes next is asked by the replies so far, and that op is done.
-abbrev pub after_at_most : ℕ → (List Reply → Option Op) → ℕ → (ℕ → ℕ) → WorldState → AfterProgram
-after_at_most zero next w ps s = record { places = ps; state = s; replies = []; steps = [] }
-after_at_most (suc n) next w ps s =
-    let far : AfterProgram = after_at_most n next w ps s in
-    one_more (next far.replies) w far
+  -- After at most so many ops: what comes next is asked by the replies so far, and that op is done.
+  abbrev pub after_at_most : ℕ → (List (Reply V) → Option (Op V))
+      → ℕ → (ℕ → ℕ) → WorldState values → AfterProgram values
+  after_at_most zero next w ps s = record { places = ps; state = s; replies = []; steps = [] }
+  after_at_most (suc n) next w ps s =
+      let far : AfterProgram values = after_at_most n next w ps s in
+      one_more (next far.replies) w far
 
--- its turn on a world: at most 64 ops, from its places
-unfoldable pub turn : Meaning → WorldState → AfterProgram
-turn m s = after_at_most 64 (next_op m) m.writer m.places s
+  -- its turn on a world: at most 64 ops, from its places
+  unfoldable pub turn : Meaning V → WorldState values → AfterProgram values
+  turn m s = after_at_most 64 (next_op m) m.writer m.places s
 
--- the ops that these are the replies to
-abbrev pub ops_answered : (List Reply → Option Op) → List Reply → List Op
-ops_answered next [] = []
-ops_answered next (r ∷ rs) = option_to_list (next [])
-    ++ ops_answered (λ replies. next (r ∷ replies)) rs
+module _ {V : Type 0} where
+  -- the ops that these are the replies to
+  abbrev pub ops_answered : (List (Reply V) → Option (Op V)) → List (Reply V) → List (Op V)
+  ops_answered next [] = []
+  ops_answered next (r ∷ rs) = option_to_list (next [])
+      ++ ops_answered (λ replies. next (r ∷ replies)) rs
 
--- what a system means once it was told the replies of a turn; its places are as before
-abbrev pub after_replies : List Reply → Meaning → Meaning
-after_replies replies m =
-    record m {
-      rule = λ turns now. m.rule (replies ∷ turns) now;
-      last = ops_answered (next_op m) replies;
-    }
+  -- what a system means once it was told the replies of a turn; its places are as before
+  abbrev pub after_replies : List (Reply V) → Meaning V → Meaning V
+  after_replies replies m =
+      record m {
+        rule = λ turns now. m.rule (replies ∷ turns) now;
+        last = ops_answered (next_op m) replies;
+      }
 
--- what it means after its turn
-abbrev pub after_turn : Meaning → WorldState → Meaning
-after_turn m s = record (after_replies (turn m s).replies m) { places = (turn m s).places }
+module _ {V : Type 0} {values : Values V} where
+  -- what it means after its turn
+  abbrev pub after_turn : Meaning V → WorldState values → Meaning V
+  after_turn m s = record (after_replies (turn m s).replies m) { places = (turn m s).places }
 
 -- ---- where it starts
 
@@ -83,39 +88,41 @@ abbrev pub started_places : Needs → Start → List ℕ → (ℕ → ℕ) → �
 started_places n start counts places t = if n.reads (OfType t) then start_place start counts t
     else places t
 
--- the system with its cursors where they start
-abbrev pub after_start : List ℕ → Meaning → Meaning
-after_start counts m = record m { places = started_places m.needs m.start counts m.places }
+module _ {V : Type 0} where
+  -- the system with its cursors where they start
+  abbrev pub after_start : List ℕ → Meaning V → Meaning V
+  after_start counts m = record m { places = started_places m.needs m.start counts m.places }
 
 -- ---- programs
 
--- op k after k replies, whatever they were
-abbrev pub program_rule : List Op → Rule
-program_rule ops turns replies = slice_get ops (length replies)
+module _ {V : Type 0} where
+  -- op k after k replies, whatever they were
+  abbrev pub program_rule : List (Op V) → Rule V
+  program_rule ops turns replies = slice_get ops (length replies)
 
--- a system whose rule is this program
-abbrev pub of_program : Program → ℕ → (ℕ → ℕ) → Meaning
-of_program program writer places = record {
-  needs = program_needs program.ops;
-  start = program.start;
-  writer = writer;
-  places = places;
-  rule = program_rule program.ops;
-  last = program.ops;
-}
+  -- a system whose rule is this program
+  abbrev pub of_program : Program V → ℕ → (ℕ → ℕ) → Meaning V
+  of_program program writer places = record {
+    needs = program_needs program.ops;
+    start = program.start;
+    writer = writer;
+    places = places;
+    rule = program_rule program.ops;
+    last = program.ops;
+  }
 
--- a system of this program that was given nothing yet
-abbrev pub new_system : Program → ℕ → Meaning
-new_system program writer = of_program program writer (λ t. 0)
+  -- a system of this program that was given nothing yet
+  abbrev pub new_system : Program V → ℕ → Meaning V
+  new_system program writer = of_program program writer (λ t. 0)
 
--- the program of one op
-abbrev pub only : Op → Start → Program
-only op start = record { ops = op ∷ []; start = start }
+  -- the program of one op
+  abbrev pub only : Op V → Start → Program V
+  only op start = record { ops = op ∷ []; start = start }
 
 -- The turn of a program is its ops in order, and after it the system is that program still.
-abbrev pub IsInOrder : Type 0
-IsInOrder = (program : Program) (writer : ℕ) (places : ℕ → ℕ) (s : WorldState)
+abbrev pub IsInOrder : {V : Type 0} → Values V → Type 0
+IsInOrder {V} values = (program : Program V) (writer : ℕ) (places : ℕ → ℕ) (s : WorldState values)
     → length program.ops ≤ 64 →
-    let m : Meaning = of_program program writer places in
+    let m : Meaning V = of_program program writer places in
     (turn m s ≡ after_program program.ops writer places s)
     × (after_turn m s ≡ of_program program writer (turn m s).places)

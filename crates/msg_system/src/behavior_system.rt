@@ -4,12 +4,12 @@ ghost use Rattle.msg_world.specs.Prelude.{SameLoan};
 ghost use Rattle.msg_system.specs.{Behaviors.behaves, Needs.needs_of, OpRuns.cursor_places, inner.TurnRuns.AreAnswered, inner.TurnRuns.TurnRan, inner.TurnRuns.next_kept, Promises.Covers};
 
 use crate::behavior::Behavior;
-use crate::{Access, Cursors, Items, NoMemory, Numbered, Op, Reply, Start, System};
+use crate::{Access, Cursors, Items, NoMemory, Numbered, Op, Reply, Start, SystemOf};
 use msg_world::{Counts, Lent, Taken, TypeNo};
 use std::alloc::Global;
 
 /// The replies from number `from` on.
-fn since(replies: &[Reply], from: usize) -> &[Reply]
+fn since<V>(replies: &[Reply<V>], from: usize) -> &[Reply<V>]
     requires within { from ≤ length replies.now }
     ensures rest { result.now ≡ drop from replies.now }
 {
@@ -21,8 +21,8 @@ fn next_within<B: Behavior>(
     alloc: Global,
     behavior: &B,
     access: &Access,
-    replies: &[Reply],
-) -> Result<Option<Op>, NoMemory>
+    replies: &[Reply<B::Value>],
+) -> Result<Option<Op<B::Value>>, NoMemory>
     ensures next { IfOk result (λ op. op
         ≡ next_kept (needs_of access.now) B.next_op (B.memory behavior.now) replies.now) }
 {
@@ -40,11 +40,11 @@ fn run_turn<B: Behavior>(
     access: &Access,
     writer: u32,
     cursors: &mut Cursors,
-    lent: &mut Lent,
-    out: &mut Vec<Reply>,
-) -> Result<Vec<Op>, NoMemory>
+    lent: &mut Lent<B::Value>,
+    out: &mut Vec<Reply<B::Value>>,
+) -> Result<Vec<Op<B::Value>>, NoMemory>
     requires covers { Covers (needs_of access.now) lent.old }
-    ensures ran { OnOk result (TurnRan
+    ensures ran { OnOk result (TurnRan B.Value.values
         (next_kept (needs_of access.now) B.next_op (B.memory behavior.now)) writer
         (cursor_places cursors.old) (cursor_places cursors.new) lent.old lent.new
         out.old.items out.new.items) }
@@ -75,7 +75,7 @@ pub struct BehaviorSystem<B: Behavior> {
     start: Start,
     writer: u32,
     cursors: Cursors,
-    last: Items<Op>,
+    last: Items<Op<B::Value>>,
 }
 
 impl<B: Behavior + Send> BehaviorSystem<B> {
@@ -89,7 +89,7 @@ impl<B: Behavior + Send> BehaviorSystem<B> {
         start: Start,
         writer: u32,
     ) -> BehaviorSystem<B>
-        ensures new { ⟦<BehaviorSystem<B> as System>⟧.meaning result ≡ new_by_rule
+        ensures new { ⟦<BehaviorSystem<B> as SystemOf>⟧.meaning result ≡ new_by_rule
             (needs_of access) start writer (behaves B.next_op B.remembered (B.memory behavior)) }
     {
         BehaviorSystem {
@@ -103,7 +103,13 @@ impl<B: Behavior + Send> BehaviorSystem<B> {
     }
 }
 
-impl<B: Behavior + Send> System for BehaviorSystem<B> {
+impl<B: Behavior + Send> SystemOf for BehaviorSystem<B> {
+    type Value = B::Value;
+
+    ghost use Rattle.std.specs.Prelude.{IfOk};
+    ghost use Rattle.msg_world.specs.Prelude.{SameShape, taken_of};
+    ghost use Rattle.msg_system.specs.{Promises.Covers, Promises.Ran};
+
     ghost meaning = { λ s. record {
       needs = needs_of s.access;
       start = s.start;
@@ -132,9 +138,16 @@ impl<B: Behavior + Send> System for BehaviorSystem<B> {
     fn run(
         &mut self,
         alloc: Global,
-        mut lent: Lent,
-        out: &mut Vec<Reply>,
-    ) -> Result<Taken, NoMemory> {
+        mut lent: Lent<B::Value>,
+        out: &mut Vec<Reply<B::Value>>,
+    ) -> Result<Taken<B::Value>, NoMemory>
+        requires covers { Covers (⟦<BehaviorSystem<B> as SystemOf>⟧.meaning self.old).needs lent }
+        ensures ran { IfOk result
+            (λ taken. Ran B.Value.values (⟦<BehaviorSystem<B> as SystemOf>⟧.meaning self.old)
+            (⟦<BehaviorSystem<B> as SystemOf>⟧.meaning self.new)
+            lent.entry taken out.old.items out.new.items) }
+        ensures shape { IfOk result (λ taken. SameShape (taken_of lent.entry) taken) }
+    {
         let before = out.len();
         let ops = run_turn(
             alloc,

@@ -1,23 +1,23 @@
 use crate::Access;
-use msg_world::{ResNo, TypeNo};
+use msg_world::{ResNo, TypeNo, Value};
 
 /// What a condition looks at.
 #[derive(Clone, Copy, Debug, PartialEq, Eq)]
-pub enum Probe {
+pub enum Probe<V = i64> {
     /// Whether messages are unread by its own cursor. It goes past them.
     OnMessage(TypeNo),
-    /// Whether a resource has this value.
-    ResourceEquals(ResNo, i64),
+    /// Whether a resource has this value, as `Value::same` says.
+    ResourceEquals(ResNo, V),
 }
 
 /// A probe whose answer is inverted `nots` times.
 #[derive(Clone, Copy, Debug, PartialEq, Eq)]
-pub struct Condition {
+pub struct Condition<V = i64> {
     pub nots: u8,
-    pub probe: Probe,
+    pub probe: Probe<V>,
 }
 
-impl Condition {
+impl<V: Value> Condition<V> {
     ghost use Rattle.msg_system.specs.Needs.{IsAccessOf, condition_needs};
 
     /// What its probe reads.

@@ -7,20 +7,20 @@ use crate::cursors::start_cursor;
 use crate::lending::{messages_of, value_of};
 use crate::{Condition, Probe, Start};
 use msg_buffer::MessageCursor;
-use msg_world::{Counts, Lent};
+use msg_world::{Counts, Lent, Value};
 use std::marker::Model;
 
 /// A condition with a cursor of its own.
 #[derive(Drop)]
-pub struct Guard {
-    condition: Condition,
+pub struct Guard<V = i64> {
+    condition: Condition<V>,
     cursor: MessageCursor,
 }
 
-impl Model for Guard {
+impl<V> Model for Guard<V> {
     ghost use Rattle.msg_system.specs.Conditions.{Asked};
 
-    ghost Value = { Asked };
+    ghost Value = { Asked V };
 
     ghost view = { λ g. record { condition = g.condition; place = g.cursor } };
 }
@@ -36,9 +36,9 @@ fn invert(nots: u8, found: bool) -> bool
     answer
 }
 
-impl Guard {
+impl<V: Value> Guard<V> {
     /// It has read nothing yet.
-    pub fn new(condition: Condition) -> Guard
+    pub fn new(condition: Condition<V>) -> Guard<V>
         ensures new { result ≡ new_asked condition }
     {
         Guard {
@@ -58,10 +58,11 @@ impl Guard {
     }
 
     /// What its condition answers. It goes past the messages that it finds.
-    pub fn check(&mut self, lent: &Lent) -> bool
+    pub fn check(&mut self, lent: &Lent<V>) -> bool
         requires covers { Covers (condition_needs self.old.condition) lent.now }
-        ensures answer { (s : WorldState) → LoanStands lent.now s → result ≡ answer self.old s }
-        ensures moved { (s : WorldState) → LoanStands lent.now s
+        ensures answer { (s : WorldState V.values) → LoanStands lent.now s
+            → result ≡ answer self.old s }
+        ensures moved { (s : WorldState V.values) → LoanStands lent.now s
             → self.new ≡ after_asking s self.old }
         ensures same { self.new.condition ≡ self.old.condition }
     {
@@ -73,18 +74,18 @@ impl Guard {
                 self.cursor.clear(messages);
                 unread > 0
             }
-            Probe::ResourceEquals(r, value) => value_of(lent, r) == value,
+            Probe::ResourceEquals(r, value) => value_of(lent, r).same(value),
         };
         invert(self.condition.nots, found)
     }
 
     /// Whether all conditions hold. Each of them is asked, whatever the others answer.
-    pub fn check_all(guards: &mut [Guard], lent: &Lent) -> bool
+    pub fn check_all(guards: &mut [Guard<V>], lent: &Lent<V>) -> bool
         requires covers { All (λ c. Covers (condition_needs c) lent.now)
             (map (λ g. g.condition) guards.old) }
-        ensures answer { (s : WorldState) → LoanStands lent.now s
+        ensures answer { (s : WorldState V.values) → LoanStands lent.now s
             → result ≡ all_hold guards.old s }
-        ensures moved { (s : WorldState) → LoanStands lent.now s
+        ensures moved { (s : WorldState V.values) → LoanStands lent.now s
             → guards.new ≡ map (after_asking s) guards.old }
         ensures same { map (λ g. g.condition) guards.new ≡ map (λ g. g.condition) guards.old }
     {

@@ -1,40 +1,42 @@
 // Laws: facts that hold of every op, program, condition and job, and need no code.
 ghost use Rattle.msg_system.specs.Prelude.{CompleteCovers, ConditionFootprint, IsInOrder, JobFootprint, JobsCover, OneOpIsATurn, OneOpIsCovered, OpFootprint, ProgramFootprint, TurnFootprint, WrittenIsAll};
 
+use msg_world::Value;
+
 /// What is done depends on no part but those that are needed, and changes no part but those that
 /// are written.
 #[tactic(auto, using(crate::proofs::FootprintsHold::footprints))]
-pub fn nothing_else_is_used()
-    ensures ops { OpFootprint }
-    ensures programs { ProgramFootprint }
-    ensures turns { TurnFootprint }
-    ensures conditions { ConditionFootprint }
-    ensures jobs { JobFootprint }
+pub fn nothing_else_is_used<V: Value>()
+    ensures ops { OpFootprint V.values }
+    ensures programs { ProgramFootprint V.values }
+    ensures turns { TurnFootprint V.values }
+    ensures conditions { ConditionFootprint V.values }
+    ensures jobs { JobFootprint V.values }
 {}
 
 /// The turn of a program is its ops in order, and the system stays that program.
 #[tactic(auto, using(crate::proofs::Turns::in_order))]
-pub fn a_program_is_its_ops_in_order()
-    ensures law { IsInOrder }
+pub fn a_program_is_its_ops_in_order<V: Value>()
+    ensures law { IsInOrder V.values }
 {}
 
 /// One op that ran on a loan is the turn of the system whose program is that op, and a loan that
 /// covers that system covers the op.
 #[tactic(auto, using(crate::proofs::Turns::one_op_is_a_turn))]
-pub fn one_op_is_a_turn()
-    ensures covered { OneOpIsCovered }
-    ensures law { OneOpIsATurn }
+pub fn one_op_is_a_turn<V: Value>()
+    ensures covered { OneOpIsCovered V }
+    ensures law { OneOpIsATurn V.values }
 {}
 
 /// What a run gives back stands for the world after it, where the loan owned nothing but what its
 /// access writes.
-pub fn what_is_given_back_stands()
-    ensures law { WrittenIsAll }
+pub fn what_is_given_back_stands<V: Value>()
+    ensures law { WrittenIsAll V.values }
 {}
 
 /// A loan that `Lent::open` makes for an access covers whatever is within that access; for a job's
 /// access, its system and its conditions.
-pub fn open_loans_cover()
-    ensures law { CompleteCovers }
-    ensures jobs { JobsCover }
+pub fn open_loans_cover<V: Value>()
+    ensures law { CompleteCovers V }
+    ensures jobs { JobsCover V }
 {}

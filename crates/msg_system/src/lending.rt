@@ -8,13 +8,13 @@ ghost use Rattle.msg_system.specs.Prelude.{numbers_for, sum_onto};
 use crate::{Items, NoMemory};
 use msg_buffer::{Instance, Messages, WriteRefusal, Written};
 use msg_world::laws::writes_stand;
-use msg_world::{Lent, Record, ResNo, TypeNo};
+use msg_world::{Lent, Record, ResNo, TypeNo, Value};
 use std::alloc::Global;
 
 /// The messages of a type that is lent.
-pub(crate) fn messages_of<'a>(lent: &'a Lent<'_>, t: TypeNo) -> &'a Messages<Record>
+pub(crate) fn messages_of<'a, V: Value>(lent: &'a Lent<'_, V>, t: TypeNo) -> &'a Messages<Record<V>>
     requires lent { IsSome (shown (OfType t) lent.now) }
-    ensures stands { (s : WorldState) → LoanStands lent.now s
+    ensures stands { (s : WorldState V.values) → LoanStands lent.now s
         → StandsFor result.now (s.histories t) }
 {
     match lent.reader(t) {
@@ -25,9 +25,9 @@ pub(crate) fn messages_of<'a>(lent: &'a Lent<'_>, t: TypeNo) -> &'a Messages<Rec
 
 /// The value of a resource that is lent.
 #[tactic(auto, using(crate::proofs::Lendings::of_loans))]
-pub(crate) fn value_of(lent: &Lent, r: ResNo) -> i64
+pub(crate) fn value_of<V: Value>(lent: &Lent<V>, r: ResNo) -> V
     requires lent { IsSome (shown (OfResource r) lent.now) }
-    ensures value { (s : WorldState) → LoanStands lent.now s → result ≡ s.resources r }
+    ensures value { (s : WorldState V.values) → LoanStands lent.now s → result ≡ s.resources r }
 {
     match lent.res(r) {
         Some(value) => value,
@@ -37,23 +37,23 @@ pub(crate) fn value_of(lent: &Lent, r: ResNo) -> i64
 
 /// Writes one message, or none where no number is left.
 #[tactic(auto, using(crate::proofs::Lendings::of_loans))]
-pub(crate) fn write_one(
-    lent: &mut Lent,
+pub(crate) fn write_one<V: Value>(
+    lent: &mut Lent<V>,
     t: TypeNo,
-    message: Record,
+    message: Record<V>,
 ) -> Result<Option<Written>, NoMemory>
     requires lent { IsSome (writable (OfType t) lent.old) }
-    ensures numbers { IfOk result (λ numbers. (s : WorldState) → LoanStands lent.old s
+    ensures numbers { IfOk result (λ numbers. (s : WorldState V.values) → LoanStands lent.old s
         → numbers ≡ numbers_for (s.histories t) 1) }
-    ensures written { OnOk result ((s : WorldState) → LoanStands lent.old s
+    ensures written { OnOk result ((s : WorldState V.values) → LoanStands lent.old s
         → LoanStands lent.new (with_history s t (write (message ∷ []) (s.histories t)))) }
     ensures same { OnOk result (SameLoan lent.old lent.new) }
 
     // Memory is refused only where a number was left.
-    ensures refused { OnErr result ((s : WorldState) → LoanStands lent.old s
+    ensures refused { OnErr result ((s : WorldState V.values) → LoanStands lent.old s
         → IsSome (numbers_for (s.histories t) 1)) }
 {
-    writes_stand();
+    writes_stand::<V>();
     match lent.writer(t) {
         None => unreachable!(),
         Some(messages) => match messages.write(message) {
@@ -66,30 +66,30 @@ pub(crate) fn write_one(
 
 /// Writes what the function makes of each item, or nothing where too few numbers are left.
 #[tactic(auto, using(crate::proofs::Lendings::of_loans))]
-pub(crate) fn write_each<T, F: Fn(&T) -> Record>(
-    lent: &mut Lent,
+pub(crate) fn write_each<V: Value, T, F: Fn(&T) -> Record<V>>(
+    lent: &mut Lent<V>,
     t: TypeNo,
     items: &[T],
     message_of: F,
 ) -> Result<Option<Written>, NoMemory>
     requires lent { IsSome (writable (OfType t) lent.old) }
     requires callable { F.IsAlwaysCallable message_of }
-    ensures numbers { IfOk result (λ numbers. (s : WorldState) → LoanStands lent.old s
+    ensures numbers { IfOk result (λ numbers. (s : WorldState V.values) → LoanStands lent.old s
         → numbers ≡ numbers_for (s.histories t) (length items.now)) }
 
     // Where the function makes `f x` of each item x, these are the messages that are written.
-    ensures written { OnOk result ((f : T → Record)
-        → ((x : T) (m : Record) → FnReturnsAt F.Fn message_of x m → m ≡ f x)
-        → (s : WorldState) → LoanStands lent.old s
+    ensures written { OnOk result ((f : T → Record V)
+        → ((x : T) (m : Record V) → FnReturnsAt F.Fn message_of x m → m ≡ f x)
+        → (s : WorldState V.values) → LoanStands lent.old s
         → LoanStands lent.new (with_history s t (write (map f items.now) (s.histories t)))) }
     ensures same { OnOk result (SameLoan lent.old lent.new) }
 
     // Memory is refused only where there is something to write, and numbers enough were left.
     ensures some { OnErr result (0 < length items.now) }
-    ensures refused { OnErr result ((s : WorldState) → LoanStands lent.old s
+    ensures refused { OnErr result ((s : WorldState V.values) → LoanStands lent.old s
         → IsSome (numbers_for (s.histories t) (length items.now))) }
 {
-    writes_stand();
+    writes_stand::<V>();
     match lent.writer(t) {
         None => unreachable!(),
         Some(messages) => match messages.write_each(items, message_of) {
@@ -102,25 +102,25 @@ pub(crate) fn write_each<T, F: Fn(&T) -> Record>(
 
 /// Drops all messages of a type; gives them, and the number of the first.
 #[tactic(auto, using(crate::proofs::Lendings::of_loans))]
-pub(crate) fn drain_all(
+pub(crate) fn drain_all<V: Value>(
     alloc: Global,
-    lent: &mut Lent,
+    lent: &mut Lent<V>,
     t: TypeNo,
-) -> Result<(u64, Items<Record>), NoMemory>
+) -> Result<(u64, Items<Record<V>>), NoMemory>
     requires lent { IsSome (writable (OfType t) lent.old) }
-    ensures first { IfOk result (λ d. (s : WorldState) → LoanStands lent.old s
+    ensures first { IfOk result (λ d. (s : WorldState V.values) → LoanStands lent.old s
         → d.0 ≡ oldest (s.histories t)) }
-    ensures items { IfOk result (λ d. (s : WorldState) → LoanStands lent.old s
+    ensures items { IfOk result (λ d. (s : WorldState V.values) → LoanStands lent.old s
         → d.1 ≡ map message_of (present (s.histories t))) }
-    ensures dropped { OnOk result ((s : WorldState) → LoanStands lent.old s
+    ensures dropped { OnOk result ((s : WorldState V.values) → LoanStands lent.old s
         → LoanStands lent.new (with_history s t (clear (s.histories t)))) }
     ensures same { OnOk result (SameLoan lent.old lent.new) }
 
     // Where nothing is there it asks for no memory.
-    ensures refused { OnErr result ((s : WorldState) → LoanStands lent.old s
+    ensures refused { OnErr result ((s : WorldState V.values) → LoanStands lent.old s
         → 0 < length (present (s.histories t))) }
 {
-    writes_stand();
+    writes_stand::<V>();
     match lent.writer(t) {
         None => unreachable!(),
         Some(messages) => {
@@ -132,7 +132,10 @@ pub(crate) fn drain_all(
 }
 
 /// The messages alone.
-fn without_numbers(alloc: Global, instances: &[Instance<Record>]) -> Result<Items<Record>, NoMemory>
+fn without_numbers<V: Value>(
+    alloc: Global,
+    instances: &[Instance<Record<V>>],
+) -> Result<Items<Record<V>>, NoMemory>
     ensures items { IfOk result (λ records. records ≡ map message_of instances.now) }
     ensures refused { OnErr result (0 < length instances.now) }
 {
@@ -144,26 +147,26 @@ fn without_numbers(alloc: Global, instances: &[Instance<Record>]) -> Result<Item
 }
 
 /// Gives a resource another value.
-pub(crate) fn set_value(lent: &mut Lent, r: ResNo, value: i64)
+pub(crate) fn set_value<V: Value>(lent: &mut Lent<V>, r: ResNo, value: V)
     requires lent { IsSome (writable (OfResource r) lent.old) }
-    ensures written { (s : WorldState) → LoanStands lent.old s
+    ensures written { (s : WorldState V.values) → LoanStands lent.old s
         → LoanStands lent.new (with_value_of s r value) }
     ensures same { SameLoan lent.old lent.new }
 {
-    writes_stand();
+    writes_stand::<V>();
     match lent.res_mut(r) {
         None => unreachable!(),
         Some(kept) => *kept = value,
     }
 }
 
-/// Adds the values of messages to `start`, one by one. Each sum is held within the range of `i64`.
-pub fn added_up(start: i64, records: &[Record]) -> i64
-    ensures sum { result ≡ sum_onto start records.now }
+/// Adds the values of messages to `start`, one by one, as `Value::plus` says.
+pub fn added_up<V: Value>(start: V, records: &[Record<V>]) -> V
+    ensures sum { result ≡ sum_onto V.values start records.now }
 {
     let mut sum = start;
     for record in records {
-        sum = sum.saturating_add(record.value);
+        sum = sum.plus(record.value);
     }
     sum
 }

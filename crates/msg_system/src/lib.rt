@@ -41,5 +41,5 @@ pub use relay::Relay;
 pub use reply::{Reply, Took, brought};
 pub use scripted::Scripted;
 pub use start::Start;
-pub use system::System;
+pub use system::{System, SystemOf};
 pub use tally::Tally;

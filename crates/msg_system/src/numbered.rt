@@ -1,9 +1,9 @@
 // Systems that take their number.
-use crate::System;
+use crate::SystemOf;
 
 /// A system that can be told the number that it writes as, so that a builder of engines gives each
 /// its own.
-pub trait Numbered: System {
+pub trait Numbered: SystemOf {
     ghost use Rattle.std.specs.Prelude.{◌≡◌};
 
     /// From now on it writes as this number, and has read nothing. All else stays.

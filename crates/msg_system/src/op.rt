@@ -1,17 +1,17 @@
-ghost use Rattle.std.specs.Prelude.{◌≡◌, ◌||◌, ◌<◌, ℕ, ℤ, List, IfOk, OnErr, OnOk, length};
+ghost use Rattle.std.specs.Prelude.{◌≡◌, ◌||◌, ◌<◌, ℕ, List, IfOk, OnErr, OnOk, length};
 ghost use Rattle.msg_world.specs.Prelude.{Part, reads, writes};
 
 use crate::{Access, Cursors, Items, NoMemory, Reply, steps};
-use msg_world::{Lent, ResNo, TypeNo};
+use msg_world::{Lent, ResNo, TypeNo, Value};
 use std::alloc::Global;
 
 /// One step of a program. All reading ops of one type in a program share one place.
 #[derive(Debug, PartialEq, Eq, Drop)]
-pub enum Op {
+pub enum Op<V = i64> {
     /// Writes one message.
-    Write(TypeNo, i64),
+    Write(TypeNo, V),
     /// Writes all values, or none.
-    Batch(TypeNo, Items<i64>),
+    Batch(TypeNo, Items<V>),
     /// Reads at most so many unread messages, or all.
     Read(TypeNo, Option<u64>),
     /// How many messages are unread.
@@ -23,22 +23,22 @@ pub enum Op {
     /// Reads all unread messages of the first type, and writes their values to the second as one
     /// batch. Where that is refused for the limit, what was read stays read.
     Forward(TypeNo, TypeNo),
-    /// Reads all unread messages, and adds their values to a resource one by one. Each sum is held
-    /// within the range of `i64`.
+    /// Reads all unread messages, and adds their values to a resource one by one, as `Value::plus`
+    /// says: sums of `i64` are held within its range.
     Sum(TypeNo, ResNo),
     /// Answers with the value of a resource.
     Get(ResNo),
     /// Gives a resource this value, and answers with it.
-    Set(ResNo, i64),
-    /// Adds to a resource. The sum is held within the range of `i64`.
-    Add(ResNo, i64),
+    Set(ResNo, V),
+    /// Adds to a resource, as `Value::plus` says.
+    Add(ResNo, V),
     /// Drops all messages, and answers with them.
     Drain(TypeNo),
     /// Asks for an update of a held world.
     Signal,
 }
 
-impl Op {
+impl<V: Value> Op<V> {
     ghost use Rattle.msg_world.specs.Prelude.{SameLoan};
     ghost use Rattle.msg_system.specs.{Needs.keeps_to, Needs.needs_of, Needs.op_needs, Needs.type_read, OpRuns.MayBeRefused, OpRuns.OpRan, OpRuns.cursor_places, Promises.Covers};
 
@@ -109,14 +109,14 @@ impl Op {
         alloc: Global,
         writer: u32,
         cursors: &mut Cursors,
-        lent: &mut Lent,
-    ) -> Result<Reply, NoMemory>
+        lent: &mut Lent<V>,
+    ) -> Result<Reply<V>, NoMemory>
         requires covers { Covers (op_needs self.now) lent.old }
-        ensures ran { IfOk result (OpRan self.now writer (cursor_places cursors.old)
+        ensures ran { IfOk result (OpRan V.values self.now writer (cursor_places cursors.old)
             (cursor_places cursors.new) lent.old lent.new) }
         ensures same { OnOk result (SameLoan lent.old lent.new) }
         ensures refused { OnErr result
-            (MayBeRefused self.now (cursor_places cursors.old) lent.old) }
+            (MayBeRefused V.values self.now (cursor_places cursors.old) lent.old) }
     {
         match self {
             Op::Write(t, value) => steps::write(lent, writer, *t, *value),
@@ -155,10 +155,10 @@ impl Op {
     }
 
     /// A copy of the op. Only the values of a batch take memory.
-    pub fn copy(&self, alloc: Global) -> Result<Op, NoMemory>
+    pub fn copy(&self, alloc: Global) -> Result<Op<V>, NoMemory>
         ensures equal { IfOk result (λ op. op ≡ self.now) }
         ensures refused { OnErr result
-            ((t : ℕ) × (values : List ℤ) × (self.now ≡ Op.Batch t values) × (0 < length values)) }
+            ((t : ℕ) × (values : List V) × (self.now ≡ Op.Batch t values) × (0 < length values)) }
     {
         Ok(match self {
             Op::Write(t, value) => Op::Write(*t, *value),

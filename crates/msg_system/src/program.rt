@@ -1,16 +1,17 @@
 ghost use Rattle.std.specs.Prelude.{◌≡◌, ◌<◌, ◌↔◌, IfOk, OnErr, length};
 
 use crate::{Access, Items, NoMemory, Op, Start};
+use msg_world::Value;
 use std::alloc::Global;
 
 /// Ops in order, and where their cursors start.
 #[derive(Debug, PartialEq, Eq, Drop)]
-pub struct Program {
-    pub ops: Items<Op>,
+pub struct Program<V = i64> {
+    pub ops: Items<Op<V>>,
     pub start: Start,
 }
 
-impl Program {
+impl<V: Value> Program<V> {
     ghost use Rattle.msg_world.specs.Prelude.{IsClash};
     ghost use Rattle.msg_system.specs.Needs.{HasClash, IsAccessOf, program_needs};
 
@@ -32,7 +33,7 @@ impl Program {
     }
 
     /// A copy of the program. Where it has no ops it takes no memory.
-    pub fn copy(&self, alloc: Global) -> Result<Program, NoMemory>
+    pub fn copy(&self, alloc: Global) -> Result<Program<V>, NoMemory>
         ensures equal { IfOk result (λ p. p ≡ self.now) }
         ensures refused { OnErr result (0 < length self.now.ops) }
     {

@@ -6,23 +6,23 @@ ghost use Rattle.msg_system.specs.Prelude.{place_after_read, took};
 
 use crate::{Items, NoMemory, Took};
 use msg_buffer::{MessageCursor, Messages};
-use msg_world::Record;
+use msg_world::{Record, Value};
 use std::alloc::Global;
 
 /// Copies at most `limit` unread messages, or all, and moves the cursor past them.
-fn copy_unread(
+fn copy_unread<V: Value>(
     alloc: Global,
-    messages: &Messages<Record>,
+    messages: &Messages<Record<V>>,
     cursor: &mut MessageCursor,
     limit: Option<u64>,
-) -> Result<Vec<Record>, NoMemory>
-    ensures items { IfOk result (λ v. (h : History Record) → StandsFor messages.now h
+) -> Result<Vec<Record<V>>, NoMemory>
+    ensures items { IfOk result (λ v. (h : History (Record V)) → StandsFor messages.now h
         → v.items ≡ map message_of (given h cursor.old limit)) }
-    ensures place { IfOk result (λ v. (h : History Record) → StandsFor messages.now h
+    ensures place { IfOk result (λ v. (h : History (Record V)) → StandsFor messages.now h
         → cursor.new ≡ first h cursor.old + length v.items) }
 
     // Where nothing is given it asks for no memory.
-    ensures refused { OnErr result ((h : History Record) → StandsFor messages.now h
+    ensures refused { OnErr result ((h : History (Record V)) → StandsFor messages.now h
         → 0 < length (given h cursor.old limit)) }
 {
     let unread = cursor.len(messages);
@@ -39,17 +39,17 @@ fn copy_unread(
 }
 
 /// Reads at most `limit` unread messages, or all.
-pub(crate) fn read_unread(
+pub(crate) fn read_unread<V: Value>(
     alloc: Global,
-    messages: &Messages<Record>,
+    messages: &Messages<Record<V>>,
     cursor: &mut MessageCursor,
     limit: Option<u64>,
-) -> Result<Took, NoMemory>
-    ensures took { IfOk result (λ k. (h : History Record) → StandsFor messages.now h
+) -> Result<Took<V>, NoMemory>
+    ensures took { IfOk result (λ k. (h : History (Record V)) → StandsFor messages.now h
         → k ≡ took h cursor.old limit) }
-    ensures place { OnOk result ((h : History Record) → StandsFor messages.now h
+    ensures place { OnOk result ((h : History (Record V)) → StandsFor messages.now h
         → cursor.new ≡ place_after_read h cursor.old limit) }
-    ensures refused { OnErr result ((h : History Record) → StandsFor messages.now h
+    ensures refused { OnErr result ((h : History (Record V)) → StandsFor messages.now h
         → 0 < length (given h cursor.old limit)) }
 {
     let missed = cursor.missed(messages);

@@ -1,26 +1,28 @@
 ghost use Rattle.std.specs.Prelude.{◌≡◌};
 
-use crate::{Access, Cursors, NoMemory, Numbered, Op, Reply, Start, System, one_op_is_a_turn};
-use msg_world::{Counts, Lent, Taken, TypeNo};
+use crate::{Access, Cursors, NoMemory, Numbered, Op, Reply, Start, SystemOf, one_op_is_a_turn};
+use msg_world::{Counts, Lent, Taken, TypeNo, Value};
 use std::alloc::Global;
+use std::marker::PhantomData;
 
 /// A system that forwards the messages of one type to another. Its program is that one op.
 #[derive(Drop)]
-pub struct Relay {
+pub struct Relay<V = i64> {
     from: TypeNo,
     to: TypeNo,
     start: Start,
     writer: u32,
     cursors: Cursors,
+    values: PhantomData<V>,
 }
 
-impl Relay {
+impl<V: Value> Relay<V> {
     ghost use Rattle.msg_system.specs.{declared.op.Op.TheVariants.Forward, Systems.new_system, Systems.only};
 
     /// It has read nothing yet. It writes as the number `writer`. Where `from` and `to` are one
     /// type, it reads and writes that type, and no engine can be built with it.
-    pub fn new(from: TypeNo, to: TypeNo, start: Start, writer: u32) -> Relay
-        ensures new { ⟦<Relay as System>⟧.meaning result
+    pub fn new(from: TypeNo, to: TypeNo, start: Start, writer: u32) -> Relay<V>
+        ensures new { ⟦<Relay<V> as SystemOf>⟧.meaning result
             ≡ new_system (only (Forward from to) start) writer }
     {
         Relay {
@@ -29,11 +31,17 @@ impl Relay {
             start,
             writer,
             cursors: Cursors::new(),
+            values: PhantomData,
         }
     }
 }
 
-impl System for Relay {
+impl<V: Value> SystemOf for Relay<V> {
+    type Value = V;
+
+    ghost use Rattle.std.specs.Prelude.{IfOk};
+    ghost use Rattle.msg_world.specs.Prelude.{SameShape, taken_of};
+    ghost use Rattle.msg_system.specs.{Promises.Covers, Promises.Ran};
     ghost use Rattle.msg_system.specs.{declared.op.Op.TheVariants.Forward, OpRuns.cursor_places, Systems.of_program, Systems.only};
 
     ghost meaning = { λ s.
@@ -61,10 +69,17 @@ impl System for Relay {
     fn run(
         &mut self,
         alloc: Global,
-        mut lent: Lent,
-        out: &mut Vec<Reply>,
-    ) -> Result<Taken, NoMemory> {
-        one_op_is_a_turn();
+        mut lent: Lent<V>,
+        out: &mut Vec<Reply<V>>,
+    ) -> Result<Taken<V>, NoMemory>
+        requires covers { Covers (⟦<Relay<V> as SystemOf>⟧.meaning self.old).needs lent }
+        ensures ran { IfOk result
+            (λ taken. Ran V.values (⟦<Relay<V> as SystemOf>⟧.meaning self.old)
+            (⟦<Relay<V> as SystemOf>⟧.meaning self.new)
+            lent.entry taken out.old.items out.new.items) }
+        ensures shape { IfOk result (λ taken. SameShape (taken_of lent.entry) taken) }
+    {
+        one_op_is_a_turn::<V>();
         out.reserve_exact(1)?;
         let op = Op::Forward(self.from, self.to);
         out.push(op.run(alloc, self.writer, &mut self.cursors, &mut lent)?)?;
@@ -72,7 +87,7 @@ impl System for Relay {
     }
 }
 
-impl Numbered for Relay {
+impl<V: Value> Numbered for Relay<V> {
     fn set_number(&mut self, number: u32) {
         self.writer = number;
         self.cursors = Cursors::new();

@@ -7,42 +7,55 @@ use msg_world::Record;
 
 /// What a read took: the messages from the number `first` on, and how many it had missed.
 #[derive(Debug, PartialEq, Eq, Drop)]
-pub struct Took {
+pub struct Took<V = i64> {
     pub missed: u64,
     pub first: u64,
-    pub items: Items<Record>,
+    pub items: Items<Record<V>>,
 }
 
 /// What an op answers.
 #[derive(Debug, PartialEq, Eq, Drop)]
-pub enum Reply {
+pub enum Reply<V = i64> {
     /// The numbers that the messages of a write got.
     Wrote(Written),
     /// A write that was refused whole: too few numbers are left.
     Spent,
     /// What a read took.
-    Read(Took),
+    Read(Took<V>),
     /// How many messages are unread.
     Len(u64),
     /// How many messages were missed.
     Missed(u64),
     /// The cursor missed some messages, and went past `n` from the number `first` on.
-    Cleared { missed: u64, first: u64, n: u64 },
+    Cleared {
+        missed: u64,
+        first: u64,
+        n: u64,
+    },
     /// What was read, and the numbers that it got; None where too few were left.
-    Forwarded { took: Took, wrote: Option<Written> },
+    Forwarded {
+        took: Took<V>,
+        wrote: Option<Written>,
+    },
     /// What was read, and the resource's value after it.
-    Summed { took: Took, value: i64 },
+    Summed {
+        took: Took<V>,
+        value: V,
+    },
     /// A resource's value after the op.
-    Value(i64),
+    Value(V),
     /// The messages that were dropped, from the number `first` on.
-    Drained { first: u64, items: Items<Record> },
+    Drained {
+        first: u64,
+        items: Items<Record<V>>,
+    },
     /// An update was asked for.
     Signalled,
 }
 
 /// The messages that the op of reply `k` read. There are none where it read none, or where there is
 /// no such reply.
-pub fn brought(replies: &[Reply], k: usize) -> &[Record]
+pub fn brought<V>(replies: &[Reply<V>], k: usize) -> &[Record<V>]
     ensures brought { result.now ≡ brought (slice_get replies.now k) }
 {
     match replies.get(k) {

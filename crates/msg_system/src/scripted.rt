@@ -3,21 +3,21 @@ ghost use Rattle.std.specs.Prelude.{◌≡◌, ◌<◌, ◌≤◌, OnErr, OnOk, 
 ghost use Rattle.msg_world.specs.Prelude.{SameLoan};
 ghost use Rattle.msg_system.specs.{Needs.program_needs, OpRuns.cursor_places, inner.TurnRuns.HasReplies, inner.TurnRuns.ProgramRan, Promises.Covers};
 
-use crate::{Access, Cursors, NoMemory, Numbered, Op, Program, Reply, Start, System};
-use msg_world::{Counts, Lent, Taken, TypeNo};
+use crate::{Access, Cursors, NoMemory, Numbered, Op, Program, Reply, Start, SystemOf};
+use msg_world::{Counts, Lent, Taken, TypeNo, Value};
 use std::alloc::Global;
 
 /// The ops one after the other.
-fn run_ops(
+fn run_ops<V: Value>(
     alloc: Global,
-    ops: &[Op],
+    ops: &[Op<V>],
     writer: u32,
     cursors: &mut Cursors,
-    lent: &mut Lent,
-    out: &mut Vec<Reply>,
+    lent: &mut Lent<V>,
+    out: &mut Vec<Reply<V>>,
 ) -> Result<(), NoMemory>
     requires covers { Covers (program_needs ops.now) lent.old }
-    ensures ran { OnOk result (ProgramRan ops.now writer (cursor_places cursors.old)
+    ensures ran { OnOk result (ProgramRan V.values ops.now writer (cursor_places cursors.old)
         (cursor_places cursors.new) lent.old lent.new out.old.items out.new.items) }
     ensures replies { OnOk result (HasReplies out.old.items out.new.items (length ops.now)) }
     ensures same { OnOk result (SameLoan lent.old lent.new) }
@@ -33,20 +33,20 @@ fn run_ops(
 
 /// A system that interprets a program.
 #[derive(Drop)]
-pub struct Scripted {
-    program: Program,
+pub struct Scripted<V = i64> {
+    program: Program<V>,
     writer: u32,
     cursors: Cursors,
     ghost few: { length program.ops ≤ 64 },
 }
 
-impl Scripted {
+impl<V: Value> Scripted<V> {
     ghost use Rattle.msg_system.specs.Systems.{new_system};
 
     /// It has read nothing yet. It writes as the number `writer`.
-    pub fn new(program: Program, writer: u32) -> Scripted
+    pub fn new(program: Program<V>, writer: u32) -> Scripted<V>
         requires few { length program.ops ≤ 64 }
-        ensures new { ⟦<Scripted as System>⟧.meaning result ≡ new_system program writer }
+        ensures new { ⟦<Scripted<V> as SystemOf>⟧.meaning result ≡ new_system program writer }
     {
         Scripted {
             program,
@@ -56,7 +56,12 @@ impl Scripted {
     }
 }
 
-impl System for Scripted {
+impl<V: Value> SystemOf for Scripted<V> {
+    type Value = V;
+
+    ghost use Rattle.std.specs.Prelude.{IfOk};
+    ghost use Rattle.msg_world.specs.Prelude.{SameShape, taken_of};
+    ghost use Rattle.msg_system.specs.{Promises.Covers, Promises.Ran};
     ghost use Rattle.msg_system.specs.Systems.{of_program};
 
     ghost meaning = { λ s. of_program s.program s.writer (cursor_places s.cursors) };
@@ -82,9 +87,16 @@ impl System for Scripted {
     fn run(
         &mut self,
         alloc: Global,
-        mut lent: Lent,
-        out: &mut Vec<Reply>,
-    ) -> Result<Taken, NoMemory> {
+        mut lent: Lent<V>,
+        out: &mut Vec<Reply<V>>,
+    ) -> Result<Taken<V>, NoMemory>
+        requires covers { Covers (⟦<Scripted<V> as SystemOf>⟧.meaning self.old).needs lent }
+        ensures ran { IfOk result
+            (λ taken. Ran V.values (⟦<Scripted<V> as SystemOf>⟧.meaning self.old)
+            (⟦<Scripted<V> as SystemOf>⟧.meaning self.new)
+            lent.entry taken out.old.items out.new.items) }
+        ensures shape { IfOk result (λ taken. SameShape (taken_of lent.entry) taken) }
+    {
         let ops = self.program.ops.as_slice();
         out.reserve_exact(ops.len())?;
         run_ops(alloc, ops, self.writer, &mut self.cursors, &mut lent, out)?;
@@ -92,7 +104,7 @@ impl System for Scripted {
     }
 }
 
-impl Numbered for Scripted {
+impl<V: Value> Numbered for Scripted<V> {
     fn set_number(&mut self, number: u32) {
         self.writer = number;
         self.cursors = Cursors::new();

@@ -9,10 +9,10 @@ use crate::lending::{
 use crate::reading::read_unread;
 use crate::{Items, NoMemory, Reply};
 use msg_buffer::{MessageCursor, Written};
-use msg_world::{Lent, Record, ResNo, TypeNo};
+use msg_world::{Lent, Record, ResNo, TypeNo, Value};
 use std::alloc::Global;
 
-fn wrote_or_spent(numbers: Option<Written>) -> Reply
+fn wrote_or_spent<V: Value>(numbers: Option<Written>) -> Reply<V>
     ensures reply { result ≡ write_reply numbers }
 {
     match numbers {
@@ -21,75 +21,80 @@ fn wrote_or_spent(numbers: Option<Written>) -> Reply
     }
 }
 
-pub(crate) fn write(lent: &mut Lent, writer: u32, t: TypeNo, value: i64) -> Result<Reply, NoMemory>
+pub(crate) fn write<V: Value>(
+    lent: &mut Lent<V>,
+    writer: u32,
+    t: TypeNo,
+    value: V,
+) -> Result<Reply<V>, NoMemory>
     requires lent { IsSome (writable (OfType t) lent.old) }
     ensures ran { IfOk result (λ reply. (places : ℕ → ℕ)
-        → OpRan (Write t value) writer places places lent.old lent.new reply) }
+        → OpRan V.values (Write t value) writer places places lent.old lent.new reply) }
     ensures same { OnOk result (SameLoan lent.old lent.new) }
     ensures refused { OnErr result ((places : ℕ → ℕ)
-        → MayBeRefused (Write t value) places lent.old) }
+        → MayBeRefused V.values (Write t value) places lent.old) }
 {
     let numbers = write_one(lent, t, Record { writer, value })?;
     Ok(wrote_or_spent(numbers))
 }
 
-pub(crate) fn batch(
-    lent: &mut Lent,
+pub(crate) fn batch<V: Value>(
+    lent: &mut Lent<V>,
     writer: u32,
     t: TypeNo,
-    values: &Items<i64>,
-) -> Result<Reply, NoMemory>
+    values: &Items<V>,
+) -> Result<Reply<V>, NoMemory>
     requires lent { IsSome (writable (OfType t) lent.old) }
     ensures ran { IfOk result (λ reply. (places : ℕ → ℕ)
-        → OpRan (Batch t values.now) writer places places lent.old lent.new reply) }
+        → OpRan V.values (Batch t values.now) writer places places lent.old lent.new reply) }
     ensures same { OnOk result (SameLoan lent.old lent.new) }
     ensures refused { OnErr result ((places : ℕ → ℕ)
-        → MayBeRefused (Batch t values.now) places lent.old) }
+        → MayBeRefused V.values (Batch t values.now) places lent.old) }
 {
-    let message_of = |value: &i64| Record {
+    let message_of = |value: &V| Record {
         writer,
         value: *value,
     };
     Ok(wrote_or_spent(write_each(lent, t, values.as_slice(), message_of)?))
 }
 
-pub(crate) fn read(
+pub(crate) fn read<V: Value>(
     alloc: Global,
-    lent: &Lent,
+    lent: &Lent<V>,
     t: TypeNo,
     limit: Option<u64>,
     cursor: &mut MessageCursor,
-) -> Result<Reply, NoMemory>
+) -> Result<Reply<V>, NoMemory>
     requires lent { IsSome (shown (OfType t) lent.now) }
     ensures ran { IfOk result (λ reply. (writer : ℕ) (places : ℕ → ℕ) → places t ≡ cursor.old
-        → OpRan (Read t limit) writer places (with_place places t cursor.new)
+        → OpRan V.values (Read t limit) writer places (with_place places t cursor.new)
         lent.now lent.now reply) }
     ensures refused { OnErr result ((places : ℕ → ℕ) → places t ≡ cursor.old
-        → MayBeRefused (Read t limit) places lent.now) }
+        → MayBeRefused V.values (Read t limit) places lent.now) }
 {
     Ok(Reply::Read(read_unread(alloc, messages_of(lent, t), cursor, limit)?))
 }
 
-pub(crate) fn len(lent: &Lent, t: TypeNo, cursor: &MessageCursor) -> Reply
+pub(crate) fn len<V: Value>(lent: &Lent<V>, t: TypeNo, cursor: &MessageCursor) -> Reply<V>
     requires lent { IsSome (shown (OfType t) lent.now) }
     ensures ran { (writer : ℕ) (places : ℕ → ℕ) → places t ≡ cursor.now
-        → OpRan (Len t) writer places places lent.now lent.now result }
+        → OpRan V.values (Len t) writer places places lent.now lent.now result }
 {
     Reply::Len(cursor.len(messages_of(lent, t)))
 }
 
-pub(crate) fn missed(lent: &Lent, t: TypeNo, cursor: &MessageCursor) -> Reply
+pub(crate) fn missed<V: Value>(lent: &Lent<V>, t: TypeNo, cursor: &MessageCursor) -> Reply<V>
     requires lent { IsSome (shown (OfType t) lent.now) }
     ensures ran { (writer : ℕ) (places : ℕ → ℕ) → places t ≡ cursor.now
-        → OpRan (Missed t) writer places places lent.now lent.now result }
+        → OpRan V.values (Missed t) writer places places lent.now lent.now result }
 {
     Reply::Missed(cursor.missed(messages_of(lent, t)))
 }
 
-pub(crate) fn clear(lent: &Lent, t: TypeNo, cursor: &mut MessageCursor) -> Reply
+pub(crate) fn clear<V: Value>(lent: &Lent<V>, t: TypeNo, cursor: &mut MessageCursor) -> Reply<V>
     requires lent { IsSome (shown (OfType t) lent.now) }
     ensures ran { (writer : ℕ) (places : ℕ → ℕ) → places t ≡ cursor.old
-        → OpRan (Clear t) writer places (with_place places t cursor.new)
+        → OpRan V.values (Clear t) writer places (with_place places t cursor.new)
         lent.now lent.now result }
 {
     let messages = messages_of(lent, t);
@@ -100,25 +105,25 @@ pub(crate) fn clear(lent: &Lent, t: TypeNo, cursor: &mut MessageCursor) -> Reply
     Reply::Cleared { missed, first, n }
 }
 
-pub(crate) fn forward(
+pub(crate) fn forward<V: Value>(
     alloc: Global,
-    lent: &mut Lent,
+    lent: &mut Lent<V>,
     writer: u32,
     t: TypeNo,
     u: TypeNo,
     cursor: &mut MessageCursor,
-) -> Result<Reply, NoMemory>
+) -> Result<Reply<V>, NoMemory>
     requires read { IsSome (shown (OfType t) lent.old) }
     requires written { IsSome (writable (OfType u) lent.old) }
     ensures ran { IfOk result (λ reply. (places : ℕ → ℕ) → places t ≡ cursor.old
-        → OpRan (Forward t u) writer places (with_place places t cursor.new)
+        → OpRan V.values (Forward t u) writer places (with_place places t cursor.new)
         lent.old lent.new reply) }
     ensures same { OnOk result (SameLoan lent.old lent.new) }
     ensures refused { OnErr result ((places : ℕ → ℕ) → places t ≡ cursor.old
-        → MayBeRefused (Forward t u) places lent.old) }
+        → MayBeRefused V.values (Forward t u) places lent.old) }
 {
     let took = read_unread(alloc, messages_of(lent, t), cursor, None)?;
-    let message_of = |record: &Record| Record {
+    let message_of = |record: &Record<V>| Record {
         writer,
         value: record.value,
     };
@@ -126,21 +131,21 @@ pub(crate) fn forward(
     Ok(Reply::Forwarded { took, wrote })
 }
 
-pub(crate) fn sum(
+pub(crate) fn sum<V: Value>(
     alloc: Global,
-    lent: &mut Lent,
+    lent: &mut Lent<V>,
     t: TypeNo,
     r: ResNo,
     cursor: &mut MessageCursor,
-) -> Result<Reply, NoMemory>
+) -> Result<Reply<V>, NoMemory>
     requires read { IsSome (shown (OfType t) lent.old) }
     requires written { IsSome (writable (OfResource r) lent.old) }
     ensures ran { IfOk result (λ reply. (writer : ℕ) (places : ℕ → ℕ) → places t ≡ cursor.old
-        → OpRan (Sum t r) writer places (with_place places t cursor.new)
+        → OpRan V.values (Sum t r) writer places (with_place places t cursor.new)
         lent.old lent.new reply) }
     ensures same { OnOk result (SameLoan lent.old lent.new) }
     ensures refused { OnErr result ((places : ℕ → ℕ) → places t ≡ cursor.old
-        → MayBeRefused (Sum t r) places lent.old) }
+        → MayBeRefused V.values (Sum t r) places lent.old) }
 {
     let took = read_unread(alloc, messages_of(lent, t), cursor, None)?;
     let value = added_up(value_of(lent, r), took.items.as_slice());
@@ -148,50 +153,55 @@ pub(crate) fn sum(
     Ok(Reply::Summed { took, value })
 }
 
-pub(crate) fn get(lent: &Lent, r: ResNo) -> Reply
+pub(crate) fn get<V: Value>(lent: &Lent<V>, r: ResNo) -> Reply<V>
     requires lent { IsSome (shown (OfResource r) lent.now) }
     ensures ran { (writer : ℕ) (places : ℕ → ℕ)
-        → OpRan (Get r) writer places places lent.now lent.now result }
+        → OpRan V.values (Get r) writer places places lent.now lent.now result }
 {
     Reply::Value(value_of(lent, r))
 }
 
-pub(crate) fn set(lent: &mut Lent, r: ResNo, value: i64) -> Reply
+pub(crate) fn set<V: Value>(lent: &mut Lent<V>, r: ResNo, value: V) -> Reply<V>
     requires lent { IsSome (writable (OfResource r) lent.old) }
     ensures ran { (writer : ℕ) (places : ℕ → ℕ)
-        → OpRan (Set r value) writer places places lent.old lent.new result }
+        → OpRan V.values (Set r value) writer places places lent.old lent.new result }
     ensures same { SameLoan lent.old lent.new }
 {
     set_value(lent, r, value);
     Reply::Value(value)
 }
 
-pub(crate) fn add(lent: &mut Lent, r: ResNo, value: i64) -> Reply
+pub(crate) fn add<V: Value>(lent: &mut Lent<V>, r: ResNo, value: V) -> Reply<V>
     requires lent { IsSome (writable (OfResource r) lent.old) }
     ensures ran { (writer : ℕ) (places : ℕ → ℕ)
-        → OpRan (Add r value) writer places places lent.old lent.new result }
+        → OpRan V.values (Add r value) writer places places lent.old lent.new result }
     ensures same { SameLoan lent.old lent.new }
 {
-    let sum = value_of(lent, r).saturating_add(value);
+    let sum = value_of(lent, r).plus(value);
     set_value(lent, r, sum);
     Reply::Value(sum)
 }
 
-pub(crate) fn drain(alloc: Global, lent: &mut Lent, t: TypeNo) -> Result<Reply, NoMemory>
+pub(crate) fn drain<V: Value>(
+    alloc: Global,
+    lent: &mut Lent<V>,
+    t: TypeNo,
+) -> Result<Reply<V>, NoMemory>
     requires lent { IsSome (writable (OfType t) lent.old) }
     ensures ran { IfOk result (λ reply. (writer : ℕ) (places : ℕ → ℕ)
-        → OpRan (Drain t) writer places places lent.old lent.new reply) }
+        → OpRan V.values (Drain t) writer places places lent.old lent.new reply) }
     ensures same { OnOk result (SameLoan lent.old lent.new) }
-    ensures refused { OnErr result ((places : ℕ → ℕ) → MayBeRefused (Drain t) places lent.old) }
+    ensures refused { OnErr result
+        ((places : ℕ → ℕ) → MayBeRefused V.values (Drain t) places lent.old) }
 {
     let (first, items) = drain_all(alloc, lent, t)?;
     Ok(Reply::Drained { first, items })
 }
 
-pub(crate) fn signal(lent: &mut Lent) -> Reply
+pub(crate) fn signal<V: Value>(lent: &mut Lent<V>) -> Reply<V>
     requires lent { IsSome (writable Registry lent.old) }
     ensures ran { (writer : ℕ) (places : ℕ → ℕ)
-        → OpRan Signal writer places places lent.old lent.new result }
+        → OpRan V.values Signal writer places places lent.old lent.new result }
     ensures same { SameLoan lent.old lent.new }
 {
     let signalled = lent.signal();

@@ -1,25 +1,27 @@
 ghost use Rattle.std.specs.Prelude.{◌≡◌};
 
-use crate::{Access, Cursors, NoMemory, Numbered, Op, Reply, Start, System, one_op_is_a_turn};
-use msg_world::{Counts, Lent, ResNo, Taken, TypeNo};
+use crate::{Access, Cursors, NoMemory, Numbered, Op, Reply, Start, SystemOf, one_op_is_a_turn};
+use msg_world::{Counts, Lent, ResNo, Taken, TypeNo, Value};
 use std::alloc::Global;
+use std::marker::PhantomData;
 
 /// A system that adds the values of a type to a resource. Its program is that one op.
 #[derive(Drop)]
-pub struct Tally {
+pub struct Tally<V = i64> {
     from: TypeNo,
     to: ResNo,
     start: Start,
     writer: u32,
     cursors: Cursors,
+    values: PhantomData<V>,
 }
 
-impl Tally {
+impl<V: Value> Tally<V> {
     ghost use Rattle.msg_system.specs.{declared.op.Op.TheVariants.Sum, Systems.new_system, Systems.only};
 
     /// It has read nothing yet. It writes as the number `writer`.
-    pub fn new(from: TypeNo, to: ResNo, start: Start, writer: u32) -> Tally
-        ensures new { ⟦<Tally as System>⟧.meaning result
+    pub fn new(from: TypeNo, to: ResNo, start: Start, writer: u32) -> Tally<V>
+        ensures new { ⟦<Tally<V> as SystemOf>⟧.meaning result
             ≡ new_system (only (Sum from to) start) writer }
     {
         Tally {
@@ -28,11 +30,17 @@ impl Tally {
             start,
             writer,
             cursors: Cursors::new(),
+            values: PhantomData,
         }
     }
 }
 
-impl System for Tally {
+impl<V: Value> SystemOf for Tally<V> {
+    type Value = V;
+
+    ghost use Rattle.std.specs.Prelude.{IfOk};
+    ghost use Rattle.msg_world.specs.Prelude.{SameShape, taken_of};
+    ghost use Rattle.msg_system.specs.{Promises.Covers, Promises.Ran};
     ghost use Rattle.msg_system.specs.{declared.op.Op.TheVariants.Sum, OpRuns.cursor_places, Systems.of_program, Systems.only};
 
     ghost meaning = { λ s.
@@ -60,10 +68,17 @@ impl System for Tally {
     fn run(
         &mut self,
         alloc: Global,
-        mut lent: Lent,
-        out: &mut Vec<Reply>,
-    ) -> Result<Taken, NoMemory> {
-        one_op_is_a_turn();
+        mut lent: Lent<V>,
+        out: &mut Vec<Reply<V>>,
+    ) -> Result<Taken<V>, NoMemory>
+        requires covers { Covers (⟦<Tally<V> as SystemOf>⟧.meaning self.old).needs lent }
+        ensures ran { IfOk result
+            (λ taken. Ran V.values (⟦<Tally<V> as SystemOf>⟧.meaning self.old)
+            (⟦<Tally<V> as SystemOf>⟧.meaning self.new)
+            lent.entry taken out.old.items out.new.items) }
+        ensures shape { IfOk result (λ taken. SameShape (taken_of lent.entry) taken) }
+    {
+        one_op_is_a_turn::<V>();
         out.reserve_exact(1)?;
         let op = Op::Sum(self.from, self.to);
         out.push(op.run(alloc, self.writer, &mut self.cursors, &mut lent)?)?;
@@ -71,7 +86,7 @@ impl System for Tally {
     }
 }
 
-impl Numbered for Tally {
+impl<V: Value> Numbered for Tally<V> {
     fn set_number(&mut self, number: u32) {
         self.writer = number;
         self.cursors = Cursors::new();

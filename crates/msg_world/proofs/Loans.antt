@@ -1,17 +1,17 @@
 -- What loans stand for.
 use Rattle.std.proofs.Common.{arith, ◌≡◌, true, false, refl, ◌∙◌, inr, Some, None, IsSome, IsTrue, option_map, if◌then◌else◌}
 use Rattle.std.proofs.{Math.ListN.length-set, lemmas.Bool.false_from_ne_true, lemmas.Bool.cases_Bool, lemmas.Bool.false≢true, lemmas.Bool.Decides.eqb_tells, lemmas.Option.none-some}
-use Rattle.msg_world.specs.Prelude.{Access, HomeMerges, Lent, LoanEnds, LoanStands, LoanStays, OfResource, OfType, Part, Parts, Registry, SameShape, ValuesStand, WorldState, WritesStand, after_signal, content, merge, signalled_marks, slot, writable, writes}
+use Rattle.msg_world.specs.Prelude.{Access, HomeMerges, Lent, LoanEnds, LoanStands, LoanStays, OfResource, OfType, Part, Parts, Registry, SameShape, Values, ValuesStand, WorldState, WritesStand, after_signal, content, merge, signalled_marks, slot, writable, writes}
 use Rattle.msg_world.proofs.Worlds.{at_set, there_below, there_still, type_shape}
 
-pub with_signal_shape : (w : Parts) → SameShape w (record w { marks = option_map signalled_marks w.marks })
+pub with_signal_shape : {V : Type 0} (w : Parts V) → SameShape w (record w { marks = option_map signalled_marks w.marks })
 with_signal_shape w = record {
   size = record { types = refl; resources = refl };
   there = elim [ OfType t ↦ refl | OfResource r ↦ refl | Registry ↦ grind arith ];
 }
 
 -- a loan of the registry, after a signal
-pub signal_stands : (l : Lent) (s : WorldState) → l.access.registry ≡ true → LoanStands l s
+pub signal_stands : {V : Type 0} {values : Values V} (l : Lent V) (s : WorldState values) → l.access.registry ≡ true → LoanStands l s
     → LoanStands (record l { taken = record l.taken { marks = option_map signalled_marks l.taken.marks } })
     (after_signal s)
 signal_stands l s lent stand (OfType t) = stand (OfType t)
@@ -21,10 +21,10 @@ signal_stands l s lent stand Registry = grind (arith, stand Registry)
 -- ---- writing
 
 -- a part that may be written is one that the access writes, and it is there
-is_written : (p : Part) (l : Lent) → IsSome (writable p l) → IsTrue (writes l.access p) × IsSome (slot p l.taken)
+is_written : {V : Type 0} (p : Part) (l : Lent V) → IsSome (writable p l) → IsTrue (writes l.access p) × IsSome (slot p l.taken)
 is_written p l there = grind (arith, cases_Bool, false≢true)
 
-pub writes_are : WritesStand
+pub writes_are : {V : Type 0} {values : Values V} → WritesStand values
 writes_are l t k there =
     let written = is_written (OfType t) l there in
     let lt = there_below l.taken.types t written.1 in (
@@ -36,7 +36,7 @@ writes_are l t k there =
       ],
     )
 
-pub values_are_written : ValuesStand
+pub values_are_written : {V : Type 0} {values : Values V} → ValuesStand values
 values_are_written l r z there =
     let written = is_written (OfResource r) l there in
     let lt = there_below l.taken.resources r written.1 in (
@@ -57,8 +57,8 @@ values_are_written l r z there =
 
 -- ---- side by side
 
-pub loan_stays : LoanStays
-loan_stays a b world taken left others apart loan lends = record {
+pub loan_stays : (V : Type 0) → LoanStays V
+loan_stays V a b world taken left others apart loan lends = record {
   size = grind (arith, loan.size, lends.left_size);
   written = loan.written;
   read = λ p read isnt.
@@ -69,19 +69,19 @@ loan_stays a b world taken left others apart loan lends = record {
 
 -- ---- coming home
 
-pub content_merged : (a : Access) (mine s : WorldState) (p : Part) → content p (merge a mine s)
+pub content_merged : {V : Type 0} {values : Values V} (a : Access) (mine s : WorldState values) (p : Part) → content p (merge a mine s)
     ≡ (if writes a p then content p mine else content p s)
 content_merged a mine s (OfType t) = refl
 content_merged a mine s (OfResource r) = refl
 content_merged a mine s Registry = refl
 
-pub home_merges : HomeMerges
+pub home_merges : {V : Type 0} {values : Values V} → HomeMerges values
 home_merges a taken world home mine s none out back here there p =
     grind (arith, content_merged, none-some, none p, out p, back.joined p, here p, there p)
 
 -- ---- a loan from its beginning to its end
 
-pub loan_ends : LoanEnds
+pub loan_ends : {V : Type 0} {values : Values V} → LoanEnds values
 loan_ends a old left taken begun ended lends of owns same =
     let shape = rw owns at same.shape in
     let none : (p : Part) → writes a p ≡ false → slot p ended.taken ≡ None =

@@ -1,26 +1,26 @@
 -- What a world stands for after each change, part by part.
-use Rattle.std.proofs.Common.{◌≡◌, ℕ, ◌<◌, Bool, true, false, List, length, map, refl, sym, ◌∙◌, arith, inl, inr, Option, Some, None, get_or, ℤ, pos, ◌&&◌, ◌||◌, ◌↔◌, not, IsSome, IsSomeAnd, IsTrue, is_some, unwrap_or, slice_index, if◌then◌else◌, ◌==◌, slice_set}
+use Rattle.std.proofs.Common.{◌≡◌, ℕ, ◌<◌, Bool, true, false, List, length, map, refl, sym, ◌∙◌, arith, inl, inr, Option, Some, None, get_or, ◌&&◌, ◌||◌, ◌↔◌, not, IsSome, IsSomeAnd, IsTrue, is_some, unwrap_or, slice_index, if◌then◌else◌, ◌==◌, slice_set}
 use Rattle.std.specs.Option.{option_or}
 use Rattle.std.proofs.{Math.ListN.length-set, lemmas.Bool.cases_eq, lemmas.Bool.cases_lt, lemmas.Bool.false≢true, lemmas.Bool.Decides.eqb_tells, lemmas.List.get_or_default, lemmas.List.get_or-set_same, lemmas.List.get_or-set_other, lemmas.List.get_or_past, lemmas.List.get_or-map, lemmas.List.length-map}
 use Rattle.msg_buffer.specs.Prelude.{History, Kept, StandsFor, empty}
-use Rattle.msg_world.specs.Prelude.{Access, IsHome, IsWhole, Marks, OfResource, OfType, Part, Parts, PartsStand, Record, Registry, SameShape, WorldState, after_update, has_bit, new_world, slot, with_history}
+use Rattle.msg_world.specs.Prelude.{Access, IsHome, IsWhole, Marks, OfResource, OfType, Part, Parts, PartsStand, Record, Registry, SameShape, Values, WorldState, after_update, has_bit, new_world, slot, with_history}
 use Rattle.msg_world.specs.inner.Slots.{AllUpdated, BufferStands, HaveEach, at}
 
 -- a world and parts of which the marks were set
-pub marks_stand : (w : Parts) (s : WorldState) (m : Marks) → PartsStand w s
+pub marks_stand : {V : Type 0} {values : Values V} (w : Parts V) (s : WorldState values) (m : Marks) → PartsStand w s
     → PartsStand (record w { marks = Some m }) (record s { marks = m })
 marks_stand w s m stand = elim [ OfType t ↦ stand (OfType t) | OfResource r ↦ stand (OfResource r) | Registry ↦ refl ]
 
 -- the marks of a whole world are those that it stands for
-marks_are : (w : Parts) (s : WorldState) (m : Marks) → w.marks ≡ Some m → PartsStand w s → m ≡ s.marks
+marks_are : {V : Type 0} {values : Values V} (w : Parts V) (s : WorldState values) (m : Marks) → w.marks ≡ Some m → PartsStand w s → m ≡ s.marks
 marks_are w s m is stand = grind (arith, stand Registry)
 
-pub waiting_stays : (w : Parts) (s : WorldState) (m : Marks) → w.marks ≡ Some m → true ≡ (m.held && not m.pending)
+pub waiting_stays : {V : Type 0} {values : Values V} (w : Parts V) (s : WorldState values) (m : Marks) → w.marks ≡ Some m → true ≡ (m.held && not m.pending)
     → PartsStand w s → PartsStand w (after_update s)
 waiting_stays w s m is waiting stand p = grind (arith, marks_are w s m is stand, stand p)
 
 -- what isn't waiting is updated
-pub others_update : (w : Parts) (s : WorldState) (types : List (Option (Kept Record))) (m n : Marks) → w.marks ≡ Some m
+pub others_update : {V : Type 0} {values : Values V} (w : Parts V) (s : WorldState values) (types : List (Option (Kept (Record V)))) (m n : Marks) → w.marks ≡ Some m
     → false ≡ (m.held && not m.pending) → n ≡ record m { pending = false }
     → AllUpdated w.types types → PartsStand w s
     → PartsStand (record { types = types; resources = w.resources; marks = Some n }) (after_update s)
@@ -35,30 +35,31 @@ others_update w s types m n is waiting spent all stand =
 -- ---- a new world
 
 -- what `World::new` made
-module _ (limits : List ℕ) (values : List ℤ) (types : List (Option (Kept Record)))
+module _ {V : Type 0} (values : Values V) (limits : List ℕ) (starts : List V)
+    (types : List (Option (Kept (Record V))))
     (as_many : length types ≡ length limits)
     (stand : (t : ℕ) → t < length limits
     → IsSomeAnd (at types t) (λ k. StandsFor k (empty (slice_index limits t)))) where
-  abbrev some_of : ℤ → Option ℤ
+  abbrev some_of : V → Option V
   some_of z = Some z
 
-  abbrev made : Parts
+  abbrev made : Parts V
   made =
       record {
         types = types;
-        resources = map some_of values;
+        resources = map some_of starts;
         marks = Some (record { held = false; pending = false });
       }
 
-  pub new_stands : PartsStand made (new_world limits values)
+  pub new_stands : PartsStand made (new_world values limits starts)
   new_stands (OfType t) = grind (arith, cases_lt t (length limits), stand t, get_or_past types t None)
   new_stands (OfResource r) =
-      grind (arith, cases_lt r (length values), get_or-map some_of values r (pos 0) None, get_or_past, length-map)
+      grind (arith, cases_lt r (length starts), get_or-map some_of starts r values.some None, get_or_past, length-map)
   new_stands Registry = refl
 
   pub new_whole : IsWhole made
   new_whole (OfType t) lt = grind (arith, stand t)
-  new_whole (OfResource r) lt = grind (arith, get_or-map some_of values r (pos 0) None, length-map)
+  new_whole (OfResource r) lt = grind (arith, get_or-map some_of starts r values.some None, length-map)
   new_whole Registry has = refl
 
 -- ---- a post
@@ -87,7 +88,7 @@ pub there_still : {X : Type 0} (xs : List (Option X)) (i : ℕ) (x : X) → i < 
     → is_some (at (slice_set xs i (Some x)) k) ≡ is_some (at xs k)
 there_still xs i x lt there k = grind (arith, eqb_tells, at_set xs i x lt k)
 
-pub type_stands : (w : Parts) (s : WorldState) (t : ℕ) (k : Kept Record) (h : History Record) → t < length w.types
+pub type_stands : {V : Type 0} {values : Values V} (w : Parts V) (s : WorldState values) (t : ℕ) (k : Kept (Record V)) (h : History (Record V)) → t < length w.types
     → StandsFor k h → PartsStand w s
     → PartsStand (record w { types = slice_set w.types t (Some k) }) (with_history s t h)
 type_stands w s t k h lt here stand (OfType u) =
@@ -95,7 +96,7 @@ type_stands w s t k h lt here stand (OfType u) =
 type_stands w s t k h lt here stand (OfResource r) = stand (OfResource r)
 type_stands w s t k h lt here stand Registry = stand Registry
 
-pub type_shape : (w : Parts) (t : ℕ) (k : Kept Record) → t < length w.types → IsSome (at w.types t)
+pub type_shape : {V : Type 0} (w : Parts V) (t : ℕ) (k : Kept (Record V)) → t < length w.types → IsSome (at w.types t)
     → SameShape w (record w { types = slice_set w.types t (Some k) })
 type_shape w t k lt there = record {
   size = record { types = length-set w.types t (Some k); resources = refl };
@@ -104,7 +105,7 @@ type_shape w t k lt there = record {
 
 -- ---- lending and taking back
 
-pub taken_back_joined : (taken old new : Parts)
+pub taken_back_joined : {V : Type 0} (taken old new : Parts V)
     → ((t : ℕ) → at new.types t ≡ option_or (at taken.types t) (at old.types t))
     → ((r : ℕ) → at new.resources r ≡ option_or (at taken.resources r) (at old.resources r))
     → new.marks ≡ option_or taken.marks old.marks → (p : Part) → slot p new ≡ option_or (slot p taken) (slot p old)
@@ -115,7 +116,7 @@ taken_back_joined taken old new types resources marks Registry = marks
 -- ---- what is home
 
 -- The masks of what is used say whether all is home.
-pub home_by_masks : (a : Access) (w : Parts) (types resources : ℕ) (types_home resources_home marks_there : Bool)
+pub home_by_masks : {V : Type 0} (a : Access) (w : Parts V) (types resources : ℕ) (types_home resources_home marks_there : Bool)
     → ((k : ℕ) → has_bit types k ≡ (has_bit a.read_types k || has_bit a.write_types k))
     → ((k : ℕ) → has_bit resources k ≡ (has_bit a.read_res k || has_bit a.write_res k))
     → IsTrue types_home ↔ HaveEach w.types types → IsTrue resources_home ↔ HaveEach w.resources resources → marks_there
@@ -136,25 +137,25 @@ home_by_masks a w types resources types_home resources_home marks_there t r th r
 -- ---- what a world stands for
 
 -- Parts stand for some world where each of their buffers stands for some history.
-pub world_stands : (w : Parts) → ((t : ℕ) → t < length w.types → (h : History Record) × BufferStands (at w.types t) h)
-    → (s : WorldState) × PartsStand w s
-world_stands w each = (
+pub world_stands : {V : Type 0} {values : Values V} (w : Parts V) → ((t : ℕ) → t < length w.types → (h : History (Record V)) × BufferStands (at w.types t) h)
+    → (s : WorldState values) × PartsStand w s
+world_stands {V} {values} w each = (
   record {
     histories = λ t. (chosen t).0;
-    resources = λ r. unwrap_or (at w.resources r) (pos 0);
+    resources = λ r. unwrap_or (at w.resources r) values.some;
     marks = unwrap_or w.marks (record { held = false; pending = false });
   },
   elim [ OfType t ↦ (chosen t).1 | OfResource r ↦ grind arith | Registry ↦ grind arith ],
 )
   where
-    chosen : (t : ℕ) → (h : History Record) × BufferStands (at w.types t) h
+    chosen : (t : ℕ) → (h : History (Record V)) × BufferStands (at w.types t) h
     chosen t = elim (cases_lt t (length w.types)) [
       | inl lt ↦ each t lt
       | inr past ↦ rw (get_or_past w.types t None past) (empty 0, tt)
     ]
 
 -- the same of a view of parts, and of its types as they were read
-pub some_state : (v w : Parts) (types : List (Option (Kept Record))) → w ≡ v → types ≡ w.types
-    → ((t : ℕ) → t < length types → (h : History Record) × BufferStands (at types t) h)
-    → (s : WorldState) × PartsStand v s
+pub some_state : {V : Type 0} {values : Values V} (v w : Parts V) (types : List (Option (Kept (Record V)))) → w ≡ v → types ≡ w.types
+    → ((t : ℕ) → t < length types → (h : History (Record V)) × BufferStands (at types t) h)
+    → (s : WorldState values) × PartsStand v s
 some_state v w types same read each = rw (← same) (world_stands w (rw read at each))

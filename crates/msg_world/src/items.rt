@@ -61,9 +61,9 @@ impl<T: Eq> Eq for Items<T> {
     ghost laws = { lists_equiv T.Eq.laws };
 }
 
-impl Items<i64> {
+impl<T: Copy> Items<T> {
     /// A copy of the values. Where there are none it takes no memory.
-    pub fn copy(&self, alloc: Global) -> Result<Items<i64>, NoMemory>
+    pub fn copy(&self, alloc: Global) -> Result<Items<T>, NoMemory>
         ensures equal { IfOk result (λ values. values ≡ self.now) }
         ensures refused { OnErr result (0 < length self.now) }
     {

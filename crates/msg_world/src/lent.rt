@@ -2,7 +2,7 @@ use crate::access::Access;
 use crate::record::Record;
 use crate::taken::Taken;
 use crate::world::World;
-use crate::{ResNo, TypeNo};
+use crate::{ResNo, TypeNo, Value};
 use msg_buffer::Messages;
 
 /// What one job works on. The parts that its access only reads stay in the world, where other jobs
@@ -18,24 +18,24 @@ use msg_buffer::Messages;
 /// world.take_back(taken);
 /// ```
 #[derive(Drop)]
-pub struct Lent<'a> {
-    world: &'a World,
+pub struct Lent<'a, V = i64> {
+    world: &'a World<V>,
     access: Access,
-    taken: Taken,
+    taken: Taken<V>,
 }
 
-impl<'a> Lent<'a> {
+impl<'a, V: Value> Lent<'a, V> {
     ghost use Rattle.std.specs.Prelude.{◌≡◌, IsTrue, is_some, not};
     ghost use Rattle.std.specs.{Borrow.sem, Option.option_copied, Option.option_copied_mut};
     ghost use Rattle.msg_world.specs.{Access.OfResource, Access.OfType, Access.Registry, Loan.IsComplete, Loan.IsLoanOf, Loan.LendsResource, Loan.LendsWriter, Loan.LoanStands, Loan.SameLoan, Loan.access_of_loan, Loan.shown, Loan.taken_of, Loan.writable, Parts.PartsStand, World.WorldState, World.after_signal};
 
     /// Opens the loan of what was moved out of the world for this access.
-    pub fn open(world: &'a World, access: &Access, taken: Taken) -> Lent<'a>
+    pub fn open(world: &'a World<V>, access: &Access, taken: Taken<V>) -> Lent<'a, V>
         requires loan { IsLoanOf access.now world.now taken }
         ensures access { access_of_loan result ≡ access.now }
         ensures taken { taken_of result ≡ taken }
         ensures complete { IsComplete result }
-        ensures meaning { (s : WorldState) → PartsStand world.now s → PartsStand taken s
+        ensures meaning { (s : WorldState V.values) → PartsStand world.now s → PartsStand taken s
             → LoanStands result s }
     {
         Lent {
@@ -47,14 +47,14 @@ impl<'a> Lent<'a> {
 
     /// A law: a loan stands for some state.
     pub fn stands_for_some(&self)
-        ensures state { (s : WorldState) × LoanStands self.now s }
+        ensures state { (s : WorldState V.values) × LoanStands self.now s }
     {
         self.world.stands_for_some();
         self.taken.stands_for_some();
     }
 
     /// The messages of a type that is lent, for reading or for writing.
-    pub fn reader(&self, t: TypeNo) -> Option<&Messages<Record>>
+    pub fn reader(&self, t: TypeNo) -> Option<&Messages<Record<V>>>
         ensures shown { option_copied result ≡ shown (OfType t) self.now }
     {
         if self.access.writes_type(t) {
@@ -67,7 +67,7 @@ impl<'a> Lent<'a> {
     }
 
     /// The value of a resource that is lent, for reading or for writing.
-    pub fn res(&self, r: ResNo) -> Option<i64>
+    pub fn res(&self, r: ResNo) -> Option<V>
         ensures shown { result ≡ shown (OfResource r) self.now }
     {
         if self.access.writes_res(r) {
@@ -84,7 +84,7 @@ impl<'a> Lent<'a> {
     #[tactic(auto, using(crate::proofs::Loans::signal_stands))]
     pub fn signal(&mut self) -> bool
         ensures answer { result ≡ is_some (writable Registry self.old) }
-        ensures signalled { IsTrue result → (s : WorldState) → LoanStands self.old s
+        ensures signalled { IsTrue result → (s : WorldState V.values) → LoanStands self.old s
             → LoanStands self.new (after_signal s) }
         ensures same { SameLoan self.old self.new }
         ensures refused { IsTrue (not result) → self.new ≡ self.old }
@@ -96,8 +96,8 @@ impl<'a> Lent<'a> {
     }
 
     /// The messages of a type that is lent for writing.
-    pub fn writer(&mut self, t: TypeNo) -> Option<&mut Messages<Record>>
-        ensures* writes_back { sem 𝓛 (LendsWriter self.entry t result) }
+    pub fn writer(&mut self, t: TypeNo) -> Option<&mut Messages<Record<V>>>
+        ensures* writes_back { sem 𝓛 (LendsWriter V.row self.entry t result) }
         ensures writable { option_copied_mut result ≡ writable (OfType t) self.old }
     {
         if self.access.writes_type(t) {
@@ -108,8 +108,8 @@ impl<'a> Lent<'a> {
     }
 
     /// The value of a resource that is lent for writing.
-    pub fn res_mut(&mut self, r: ResNo) -> Option<&mut i64>
-        ensures* writes_back { sem 𝓛 (LendsResource self.entry r result) }
+    pub fn res_mut(&mut self, r: ResNo) -> Option<&mut V>
+        ensures* writes_back { sem 𝓛 (LendsResource V.row self.entry r result) }
         ensures writable { option_copied_mut result ≡ writable (OfResource r) self.old }
     {
         if self.access.writes_res(r) {
@@ -120,7 +120,7 @@ impl<'a> Lent<'a> {
     }
 
     /// Ends the loan, and gives back what it owned.
-    pub fn into_taken(self) -> Taken
+    pub fn into_taken(self) -> Taken<V>
         ensures taken { result ≡ taken_of self.entry }
     {
         let Lent {

@@ -19,6 +19,7 @@ mod run_fault;
 mod slots;
 mod taken;
 mod type_no;
+mod value;
 mod world;
 
 pub use access::Access;
@@ -31,4 +32,5 @@ pub use res_no::ResNo;
 pub use run_fault::RunFault;
 pub use taken::Taken;
 pub use type_no::TypeNo;
+pub use value::Value;
 pub use world::World;

@@ -3,7 +3,7 @@ pub const HOST: u32 = 256;
 
 /// A message of a world: a value, and its writer, which is the number of a system or `HOST`.
 #[derive(Clone, Copy, Debug, PartialEq, Eq)]
-pub struct Record {
+pub struct Record<V = i64> {
     pub writer: u32,
-    pub value: i64,
+    pub value: V,
 }

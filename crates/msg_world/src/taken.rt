@@ -5,7 +5,7 @@ ghost use Rattle.msg_world.specs.inner.Slots.{BufferStands, at};
 use crate::marks::Marks;
 use crate::moved::MovedParts;
 use crate::record::Record;
-use crate::{ResNo, TypeNo};
+use crate::{ResNo, TypeNo, Value};
 use msg_buffer::Messages;
 use std::alloc::Global;
 use std::marker::Model;
@@ -13,24 +13,24 @@ use std::marker::Model;
 /// The parts of a world that were moved out for an access to write. It has to be taken back, or the
 /// world stays without them.
 #[derive(Drop)]
-pub struct Taken {
-    pub(crate) types: MovedParts<Messages<Record>>,
-    pub(crate) resources: MovedParts<i64>,
+pub struct Taken<V = i64> {
+    pub(crate) types: MovedParts<Messages<Record<V>>>,
+    pub(crate) resources: MovedParts<V>,
     pub(crate) marks: Option<Marks>,
 }
 
-impl Model for Taken {
+impl<V> Model for Taken<V> {
     ghost use Rattle.msg_world.specs.Parts.{Parts};
 
-    ghost Value = { Parts };
+    ghost Value = { Parts V };
 
     ghost view = { λ t. record { types = t.types; resources = t.resources; marks = t.marks } };
 }
 
 /// A law: each buffer that was moved out stands for some history.
-fn moved_stand(types: &MovedParts<Messages<Record>>)
+fn moved_stand<V: Value>(types: &MovedParts<Messages<Record<V>>>)
     ensures histories { (t : ℕ) → t < length types.now
-        → (h : History Record) × BufferStands (at types.now t) h }
+        → (h : History (Record V)) × BufferStands (at types.now t) h }
 {
     for t in 0..types.slots() {
         if let Some(messages) = types.get(t) {
@@ -39,13 +39,13 @@ fn moved_stand(types: &MovedParts<Messages<Record>>)
     }
 }
 
-impl Taken {
+impl<V: Value> Taken<V> {
     ghost use Rattle.std.specs.{Borrow.sem, Option.option_copied, Option.option_copied_mut};
     ghost use Rattle.std.specs.Prelude.{◌≡◌, [], None, is_some, option_map};
     ghost use Rattle.msg_world.specs.{Access.OfType, Access.OfResource, Access.Registry, WritingThrough.LendsMessages, WritingThrough.LendsValue, Parts.PartsStand, Parts.slot, World.WorldState, World.signalled_marks};
 
     /// No parts. It fills the place of a `Taken` that was moved elsewhere, and takes no memory.
-    pub fn none(alloc: Global) -> Taken
+    pub fn none(alloc: Global) -> Taken<V>
         ensures types { result.types ≡ [] }
         ensures resources { result.resources ≡ [] }
         ensures marks { result.marks ≡ None }
@@ -59,34 +59,34 @@ impl Taken {
 
     /// A law: what was moved out stands for some state.
     pub(crate) fn stands_for_some(&self)
-        ensures state { (s : WorldState) × PartsStand self.now s }
+        ensures state { (s : WorldState V.values) × PartsStand self.now s }
     {
         moved_stand(&self.types);
     }
 
     /// What is there of a type.
-    pub(crate) fn messages(&self, t: TypeNo) -> Option<&Messages<Record>>
+    pub(crate) fn messages(&self, t: TypeNo) -> Option<&Messages<Record<V>>>
         ensures there { option_copied result ≡ slot (OfType t) self.now }
     {
         self.types.get(t.number() as usize)
     }
 
-    pub(crate) fn messages_mut(&mut self, k: usize) -> Option<&mut Messages<Record>>
-        ensures* writes_back { sem 𝓛 (LendsMessages self.entry k result) }
+    pub(crate) fn messages_mut(&mut self, k: usize) -> Option<&mut Messages<Record<V>>>
+        ensures* writes_back { sem 𝓛 (LendsMessages V.row self.entry k result) }
         ensures there { option_copied_mut result ≡ at self.old.types k }
     {
         self.types.get_mut(k)
     }
 
     /// What is there of a resource.
-    pub(crate) fn value(&self, r: ResNo) -> Option<i64>
+    pub(crate) fn value(&self, r: ResNo) -> Option<V>
         ensures there { result ≡ slot (OfResource r) self.now }
     {
         self.resources.get(r.number() as usize).copied()
     }
 
-    pub(crate) fn value_mut(&mut self, k: usize) -> Option<&mut i64>
-        ensures* writes_back { sem 𝓛 (LendsValue self.entry k result) }
+    pub(crate) fn value_mut(&mut self, k: usize) -> Option<&mut V>
+        ensures* writes_back { sem 𝓛 (LendsValue V.row self.entry k result) }
         ensures there { option_copied_mut result ≡ at self.old.resources k }
     {
         self.resources.get_mut(k)

@@ -11,7 +11,7 @@ use crate::moved::Moved;
 use crate::record::{HOST, Record};
 use crate::slots::{have_each, slot_ref};
 use crate::taken::Taken;
-use crate::{ResNo, TypeNo, masks, moved};
+use crate::{ResNo, TypeNo, Value, masks, moved};
 use msg_buffer::{MessageId, Messages, NoMemory, WriteRefusal};
 use std::alloc::Global;
 use std::marker::Model;
@@ -31,21 +31,21 @@ use std::marker::Model;
 /// world.update_all();
 /// ```
 #[derive(Drop)]
-pub struct World {
-    types: Vec<Option<Messages<Record>>>,
-    resources: Vec<Option<i64>>,
+pub struct World<V = i64> {
+    types: Vec<Option<Messages<Record<V>>>>,
+    resources: Vec<Option<V>>,
     marks: Option<Marks>,
     /// Lists in which parts came home: their memory serves the parts that go out next. There is
     /// room for a list of each type, and of each resource, since no more can be out at once.
-    spare_types: Vec<Vec<Moved<Messages<Record>>>>,
-    spare_resources: Vec<Vec<Moved<i64>>>,
+    spare_types: Vec<Vec<Moved<Messages<Record<V>>>>>,
+    spare_resources: Vec<Vec<Moved<V>>>,
 }
 
-impl Model for World {
+impl<V> Model for World<V> {
     ghost use Rattle.std.specs.Prelude.{◌≤◌, length};
     ghost use Rattle.msg_world.specs.Parts.{Parts};
 
-    ghost Value = { Parts };
+    ghost Value = { Parts V };
 
     ghost view = { λ w. record {
       types = w.types.items;
@@ -57,7 +57,10 @@ impl Model for World {
 }
 
 /// A buffer for each limit.
-fn new_types(alloc: Global, limits: &[u64]) -> Result<Vec<Option<Messages<Record>>>, NoMemory>
+fn new_types<V: Value>(
+    alloc: Global,
+    limits: &[u64],
+) -> Result<Vec<Option<Messages<Record<V>>>>, NoMemory>
     ensures as_many { IfOk result (λ v. length v.items ≡ length limits.now) }
     ensures empty { IfOk result (λ v. (t : ℕ) → t < length limits.now
         → IsSomeAnd (at v.items t) (λ k. StandsFor k (empty (slice_index limits.now t)))) }
@@ -70,7 +73,7 @@ fn new_types(alloc: Global, limits: &[u64]) -> Result<Vec<Option<Messages<Record
 }
 
 /// A slot for each value.
-fn new_resources(alloc: Global, values: &[i64]) -> Result<Vec<Option<i64>>, NoMemory>
+fn new_resources<V: Value>(alloc: Global, values: &[V]) -> Result<Vec<Option<V>>, NoMemory>
     ensures values { IfOk result (λ v. v.items ≡ map (λ z. Some z) values.now) }
 {
     let mut resources = Vec::new(alloc);
@@ -81,9 +84,9 @@ fn new_resources(alloc: Global, values: &[i64]) -> Result<Vec<Option<i64>>, NoMe
 }
 
 /// Updates a buffer, if there is one.
-fn update_slot(slot: &mut Option<Messages<Record>>)
+fn update_slot<V: Value>(slot: &mut Option<Messages<Record<V>>>)
     ensures there { is_some slot.new ≡ is_some slot.old }
-    ensures updated { (h : History Record) → BufferStands slot.old h
+    ensures updated { (h : History (Record V)) → BufferStands slot.old h
         → BufferStands slot.new (update h) }
 {
     if let Some(messages) = slot {
@@ -92,7 +95,7 @@ fn update_slot(slot: &mut Option<Messages<Record>>)
 }
 
 /// Updates every buffer that is there.
-fn update_each(types: &mut [Option<Messages<Record>>])
+fn update_each<V: Value>(types: &mut [Option<Messages<Record<V>>>])
     ensures updated { AllUpdated types.old types.new }
 {
     for slot in types.iter_mut() {
@@ -101,8 +104,8 @@ fn update_each(types: &mut [Option<Messages<Record>>])
 }
 
 /// How many messages were ever written to a buffer; 0 where there is none.
-fn count_of(slot: &Option<Messages<Record>>) -> u64
-    ensures count { IsSome slot.now → (h : History Record) → BufferStands slot.now h
+fn count_of<V: Value>(slot: &Option<Messages<Record<V>>>) -> u64
+    ensures count { IsSome slot.now → (h : History (Record V)) → BufferStands slot.now h
         → result ≡ count h }
 {
     match slot {
@@ -112,10 +115,10 @@ fn count_of(slot: &Option<Messages<Record>>) -> u64
 }
 
 /// The counts of all buffers.
-fn counts_of(types: &[Option<Messages<Record>>]) -> Counts
+fn counts_of<V: Value>(types: &[Option<Messages<Record<V>>>]) -> Counts
     requires few { length types.now ≤ 64 }
     ensures types { length result ≡ length types.now }
-    ensures counts { (t : ℕ) → IsSome (at types.now t) → (h : History Record)
+    ensures counts { (t : ℕ) → IsSome (at types.now t) → (h : History (Record V))
         → BufferStands (at types.now t) h → slice_get result t ≡ Some (count h) }
 {
     let mut counts = Counts::none();
@@ -126,8 +129,8 @@ fn counts_of(types: &[Option<Messages<Record>>]) -> Counts
 }
 
 /// A law: a buffer, if there is one, stands for some history.
-fn slot_stands(slot: &Option<Messages<Record>>)
-    ensures history { (h : History Record) × BufferStands slot.now h }
+fn slot_stands<V: Value>(slot: &Option<Messages<Record<V>>>)
+    ensures history { (h : History (Record V)) × BufferStands slot.now h }
 {
     if let Some(messages) = slot {
         messages.stands_for_some();
@@ -135,9 +138,9 @@ fn slot_stands(slot: &Option<Messages<Record>>)
 }
 
 /// A law: each buffer stands for some history.
-fn each_stands(types: &[Option<Messages<Record>>])
+fn each_stands<V: Value>(types: &[Option<Messages<Record<V>>>])
     ensures histories { (t : ℕ) → t < length types.now
-        → (h : History Record) × BufferStands (at types.now t) h }
+        → (h : History (Record V)) × BufferStands (at types.now t) h }
 {
     for slot in types {
         slot_stands(slot);
@@ -152,13 +155,14 @@ fn take_marks(marks: &mut Option<Marks>, lent: bool) -> Option<Marks>
     if lent { marks.take() } else { None }
 }
 
-impl World {
+impl<V: Value> World<V> {
     /// A world that isn't held, with a message type for each limit and a resource for each value.
     #[tactic(auto, using(crate::proofs::Worlds::new_stands, crate::proofs::Worlds::new_whole))]
-    pub fn new(alloc: Global, limits: &[u64], resources: &[i64]) -> Result<World, NoMemory>
+    pub fn new(alloc: Global, limits: &[u64], resources: &[V]) -> Result<World<V>, NoMemory>
         requires types { length limits.now ≤ 64 }
         requires resources { length resources.now ≤ 64 }
-        ensures meaning { IfOk result (λ w. PartsStand w (new_world limits.now resources.now)) }
+        ensures meaning { IfOk result
+            (λ w. PartsStand w (new_world V.values limits.now resources.now)) }
         ensures whole { IfOk result IsWhole }
         ensures types { IfOk result (λ w. length w.types ≡ length limits.now) }
         ensures resources { IfOk result (λ w. length w.resources ≡ length resources.now) }
@@ -182,7 +186,7 @@ impl World {
 
     /// A law: a world stands for some state, and has at most 64 types and 64 resources.
     pub fn stands_for_some(&self)
-        ensures state { (s : WorldState) × PartsStand self.now s }
+        ensures state { (s : WorldState V.values) × PartsStand self.now s }
         ensures few { (length self.now.types ≤ 64) × (length self.now.resources ≤ 64) }
     {
         each_stands(&self.types);
@@ -192,7 +196,7 @@ impl World {
     #[tactic(auto, using(crate::proofs::Worlds::waiting_stays))]
     pub fn update_all(&mut self)
         requires whole { IsWhole self.old }
-        ensures meaning { (s : WorldState) → PartsStand self.old s
+        ensures meaning { (s : WorldState V.values) → PartsStand self.old s
             → PartsStand self.new (after_update s) }
         ensures shape { SameShape self.old self.new }
     {
@@ -210,7 +214,7 @@ impl World {
     /// lost.
     pub fn set_held(&mut self)
         requires whole { IsWhole self.old }
-        ensures meaning { (s : WorldState) → PartsStand self.old s
+        ensures meaning { (s : WorldState V.values) → PartsStand self.old s
             → PartsStand self.new (held_world s) }
         ensures shape { SameShape self.old self.new }
     {
@@ -221,16 +225,16 @@ impl World {
     }
 
     /// Writes one message of the host.
-    pub fn post(&mut self, t: TypeNo, value: i64) -> Result<MessageId, WriteRefusal<Record>>
+    pub fn post(&mut self, t: TypeNo, value: V) -> Result<MessageId, WriteRefusal<Record<V>>>
         requires home { IsSome (slot (OfType t) self.old) }
-        ensures meaning { OnOk result ((s : WorldState) → PartsStand self.old s
+        ensures meaning { OnOk result ((s : WorldState V.values) → PartsStand self.old s
             → PartsStand self.new
             (with_history s t (write (by HOST value ∷ []) (s.histories t)))) }
-        ensures number { IfOk result (λ id. (s : WorldState) → PartsStand self.old s
+        ensures number { IfOk result (λ id. (s : WorldState V.values) → PartsStand self.old s
             → id.0 ≡ count (s.histories t)) }
-        ensures room { OnOk result ((s : WorldState) → PartsStand self.old s
+        ensures room { OnOk result ((s : WorldState V.values) → PartsStand self.old s
             → count (s.histories t) + 1 ≤ (s.histories t).limit) }
-        ensures spent { IfErr result (λ e. (s : WorldState) → PartsStand self.old s
+        ensures spent { IfErr result (λ e. (s : WorldState V.values) → PartsStand self.old s
             → (IsSpent e ↔ ((s.histories t).limit < count (s.histories t) + 1))) }
         ensures shape { SameShape self.old self.new }
         ensures err { OnErr result (self.new ≡ self.old) }
@@ -260,21 +264,21 @@ impl World {
         requires whole { IsWhole self.now }
         ensures types { length result ≡ length self.now.types }
         ensures few { length result ≤ 64 }
-        ensures meaning { (s : WorldState) → PartsStand self.now s → (t : ℕ)
+        ensures meaning { (s : WorldState V.values) → PartsStand self.now s → (t : ℕ)
             → t < length self.now.types → slice_get result t ≡ Some (count (s.histories t)) }
     {
         counts_of(&self.types)
     }
 
     /// The messages of a type; None where there is no such type, or it is out.
-    pub fn messages(&self, t: TypeNo) -> Option<&Messages<Record>>
+    pub fn messages(&self, t: TypeNo) -> Option<&Messages<Record<V>>>
         ensures home { option_copied result ≡ slot (OfType t) self.now }
     {
         slot_ref(&self.types, t.number() as usize)
     }
 
     /// The value of a resource; None where there is no such resource, or it is out.
-    pub fn resource(&self, r: ResNo) -> Option<i64>
+    pub fn resource(&self, r: ResNo) -> Option<V>
         ensures home { result ≡ slot (OfResource r) self.now }
     {
         slot_ref(&self.resources, r.number() as usize).copied()
@@ -293,7 +297,7 @@ impl World {
     }
 
     /// Moves out what the access writes. What it only reads stays, to be read by others too.
-    pub fn lend_out(&mut self, access: &Access) -> Result<Taken, NoMemory>
+    pub fn lend_out(&mut self, access: &Access) -> Result<Taken<V>, NoMemory>
         requires home { IsHome access.now self.old }
         ensures lent { IfOk result (λ taken. LendsOut access.now self.old self.new taken) }
         ensures err { OnErr result (self.new ≡ self.old) }
@@ -310,7 +314,7 @@ impl World {
 
     /// Moves home what was moved out. It takes no memory.
     #[tactic(auto, using(crate::proofs::Worlds::taken_back_joined))]
-    pub fn take_back(&mut self, taken: Taken)
+    pub fn take_back(&mut self, taken: Taken<V>)
         requires apart { IsApart taken self.old }
         ensures home { TakesBack taken self.old self.new }
     {

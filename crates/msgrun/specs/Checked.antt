@@ -9,6 +9,7 @@ use Rattle.msg_files.specs.declared.location.Key.TheVariants as key
 use Rattle.msg_files.specs.declared.refusal.Refusal.TheVariants as refusal
 use Rattle.msg_reading.specs.Prelude.{HasFault, IsReadAs}
 use Rattle.msg_scenario_data.specs.declared.scenario.Scenario.{Scenario}
+use Rattle.msg_plans.specs.Prelude.{remarks_text}
 use Rattle.msg_command.specs.Prelude.{refusal_line}
 use Rattle.msg_command.specs.{declared.fault.MainFault.MainFault, declared.fault.MainFault.TheVariants.Built, declared.fault.MainFault.TheVariants.Told}
 
@@ -24,7 +25,7 @@ course_counts s =
     decimal (length s.rules) ++ codes " rules, " ++ decimal (length s.frames) ++ codes " frames"
 
 -- the counts of a scenario
-abbrev pub scenario_counts : Scenario → Text
+unfoldable pub scenario_counts : Scenario → Text
 scenario_counts s =
     codes "ok: " ++ parts_counts s ++ codes ", " ++ course_counts s ++ codes "\n"
 
@@ -32,11 +33,15 @@ scenario_counts s =
 abbrev pub calls_counts : CallsFile → Text
 calls_counts file = codes "ok: " ++ decimal (length file.calls) ++ codes " calls\n"
 
--- the bytes are the text of a calls file or of a scenario, and this is its counts
+-- what is told of a scenario that can be run: its counts, and what is remarked of it
+abbrev pub scenario_told : Scenario → Text
+scenario_told s = scenario_counts s ++ remarks_text s
+
+-- the bytes are the text of a calls file or of a scenario, and this is what is told of it
 abbrev pub PassesWith : List ℕ → Text → Type 0
 PassesWith bytes text = (d : Data) × IsJsonOf bytes d
     × (((file : CallsFile) × (file_of d ≡ Ok file) × (text ≡ calls_counts file))
-    ⊎ ((scenario : Scenario) × IsReadAs d scenario × (text ≡ scenario_counts scenario)))
+    ⊎ ((scenario : Scenario) × IsReadAs d scenario × (text ≡ scenario_told scenario)))
 
 -- an object that has calls is a calls file
 abbrev pub is_calls_file : Data → Bool

@@ -1,3 +1,4 @@
 -- Hands on the definitions cited elsewhere. The declared types serve this crate's proofs alone.
-pub use Rattle.msgrun.specs.Checked.{EndsCheck, IsFaultOfEither, PassesWith, TellsFault, calls_counts, not_json_text, scenario_counts}
+pub use Rattle.msgrun.specs.Checked.{EndsCheck, IsFaultOfEither, PassesWith, TellsFault, calls_counts, not_json_text, scenario_told}
+unfoldable pub use Rattle.msgrun.specs.Checked.{scenario_counts}
 pub use Rattle.msgrun.specs.Ended.{main_fault, status_after}

@@ -5,6 +5,7 @@ ghost use Rattle.msg_files.specs.Prelude.{IsFaultOf};
 ghost use Rattle.msg_files.specs.declared.file_fault.FileFault.TheVariants.{At as AtPlace};
 ghost use Rattle.msg_files.specs.declared.refusal.Refusal.TheVariants.{NotJson};
 ghost use Rattle.msg_reading.specs.Prelude.{HasFault};
+ghost use Rattle.msg_scenario_data.specs.Prelude.{IsRunnable};
 ghost use Rattle.msg_command.specs.Prelude.{refusal_line as line_of_refusal};
 ghost use Rattle.msgrun.specs.Prelude as Spec;
 ghost use Rattle.msgrun.specs.Checked.{course_counts, parts_counts};
@@ -14,19 +15,20 @@ use msg_command::{MainFault, refusal_line};
 use msg_files::json::parse;
 use msg_files::numerals::{add_count, add_number};
 use msg_files::{Calls, Fault, FileFault, Key, NoMemory, Reason, Refusal, add_told, check_calls};
+use msg_plans::add_remarks;
 use msg_reading::check_scenario;
 use msg_scenario_data::Scenario;
 use serde_json::Value;
 use std::alloc::Global;
 
-/// The counts of the scenario or the calls file that the bytes are; or the lines that tell where
-/// they are refused, and why.
+/// What is told of the scenario or the calls file that the bytes are: its counts, and remarks of a
+/// scenario; or the lines that tell where they are refused, and why.
 pub(crate) fn check(alloc: Global, bytes: &[u8]) -> Result<Vec<u8>, MainFault>
     ensures passed { IfOk result (λ text. Spec.PassesWith bytes.now text.items) }
     ensures told { IfErr result (Spec.EndsCheck bytes.now) }
 {
     match check_scenario(alloc, bytes) {
-        Ok(scenario) => Ok(count_scenario(alloc, &scenario)?),
+        Ok(scenario) => Ok(tell_scenario(alloc, &scenario)?),
         Err(FileFault::NotJson { line, column }) => {
             Err(MainFault::Told(tell_not_json(alloc, line, column)?))
         }
@@ -79,16 +81,28 @@ fn tell_not_json(alloc: Global, line: usize, column: usize) -> Result<Vec<u8>, N
     Ok(text)
 }
 
-fn count_scenario(alloc: Global, scenario: &Scenario) -> Result<Vec<u8>, NoMemory>
-    ensures counts { IfOk result (λ text. text.items ≡ Spec.scenario_counts scenario.now) }
+/// The counts of a scenario that can be run, and what is remarked of it.
+fn tell_scenario(alloc: Global, scenario: &Scenario) -> Result<Vec<u8>, NoMemory>
+    requires runnable { IsRunnable scenario.now }
+    ensures told { IfOk result (λ text. text.items ≡ Spec.scenario_told scenario.now) }
 {
     let mut text = Vec::new(alloc);
-    text.extend_from_slice(b"ok: ")?;
-    add_parts(&mut text, scenario)?;
-    text.extend_from_slice(b", ")?;
-    add_course(&mut text, scenario)?;
-    text.extend_from_slice(b"\n")?;
+    add_scenario(&mut text, scenario)?;
+    add_remarks(&mut text, scenario)?;
     Ok(text)
+}
+
+/// Adds the counts of a scenario.
+#[tactic(auto, unfolding(crate::specs::Checked::scenario_counts))]
+fn add_scenario(text: &mut Vec<u8>, scenario: &Scenario) -> Result<(), NoMemory>
+    ensures appends { OnOk result
+        (text.new.items ≡ text.old.items ++ Spec.scenario_counts scenario.now) }
+{
+    text.extend_from_slice(b"ok: ")?;
+    add_parts(text, scenario)?;
+    text.extend_from_slice(b", ")?;
+    add_course(text, scenario)?;
+    text.extend_from_slice(b"\n")
 }
 
 /// Adds how many systems, types and resources there are.

@@ -1,23 +1,26 @@
 //! Runs a scenario file, and reports what its systems were answered and what each reader got,
 //! missed and cleared; or answers a calls file: the calls of one message buffer and its cursors, a
-//! line for each; or checks a file, and tells where and why it is refused.
+//! line for each; or checks a file, and tells where and why it is refused; or tells in which order
+//! the systems of a scenario run, and why.
 //!
 //! `msgrun run FILE --workers N` runs a scenario, `msgrun buffer FILE` answers calls, and `msgrun`
-//! alone those of standard input; `msgrun check FILE` runs nothing.
+//! alone those of standard input; `msgrun check FILE` and `msgrun plan FILE --frame K` run nothing.
 #![tactic(auto)]
 
 ghost use Rattle.std.specs.Prelude.{◌≡◌, ◌<◌, ◌≤◌};
 ghost use Rattle.msgrun.specs.Prelude.{status_after};
 
+mod answering;
 mod boxes;
 mod building;
 mod checking;
 
-use boxes::{as_main_fault, run_in_boxes};
+use answering::{answer_bytes, report_bytes};
 use checking::check;
 use msg_command::{Action, InputFault, MainFault, WordFault, parse_words, print_fault, read_all};
 use msg_exec::Workers;
-use msg_files::{StdSink, put_all, put_text, read_calls, run_calls};
+use msg_files::{StdSink, put_all, put_text};
+use msg_plans::{Form, put_plan};
 use msg_reading::read_scenario;
 use std::env::Env;
 use std::fs::Files;
@@ -40,6 +43,7 @@ fn run<R: AllocGlobal + Env + Files + Input + Print + Sync + Threads>(
         Action::Buffer(file) => answer_calls(rt, file),
         Action::Run { file, workers } => answer_scenario(rt, file, workers),
         Action::Check(file) => check_file(rt, file),
+        Action::Plan { file, frame, dot } => tell_plan(rt, file, frame, dot),
     }
 }
 
@@ -61,9 +65,8 @@ fn answer_calls<R: AllocGlobal + Files + Input + Print>(
     file: Option<String>,
 ) -> Result<(), MainFault> {
     let bytes = bytes_of(rt, file)?;
-    let calls = read_calls(rt.alloc(), bytes.as_slice())?;
     let mut output = StdSink::new(io::writer(rt));
-    Ok(run_calls(rt.alloc(), &calls, &mut output)?)
+    answer_bytes(rt.alloc(), bytes.as_slice(), &mut output)
 }
 
 /// Runs a scenario file on 1 to 64 workers, and reports on standard output.
@@ -79,9 +82,8 @@ fn answer_scenario<R: AllocGlobal + Files + Input + Print + Sync + Threads>(
         unreachable!()
     };
     let bytes = bytes_of(rt, Some(file))?;
-    let scenario = read_scenario(rt.alloc(), bytes.as_slice())?;
     let mut output = StdSink::new(io::writer(rt));
-    as_main_fault(run_in_boxes(rt, rt.alloc(), &scenario, workers, &mut output))
+    report_bytes(rt, rt.alloc(), bytes.as_slice(), workers, &mut output)
 }
 
 /// Checks a file, and puts its counts on standard output.
@@ -92,6 +94,22 @@ fn check_file<R: AllocGlobal + Files + Input + Print>(
     let bytes = bytes_of(rt, Some(file))?;
     let text = check(rt.alloc(), bytes.as_slice())?;
     Ok(put_text(text.as_slice(), &mut StdSink::new(io::writer(rt)))?)
+}
+
+/// Puts the plan of a frame of a scenario file on standard output, as lines or for Graphviz.
+fn tell_plan<R: AllocGlobal + Files + Input + Print>(
+    rt: &R,
+    file: String,
+    frame: u32,
+    dot: bool,
+) -> Result<(), MainFault>
+    requires some { 0 < frame }
+{
+    let bytes = bytes_of(rt, Some(file))?;
+    let scenario = read_scenario(rt.alloc(), bytes.as_slice())?;
+    let form = if dot { Form::Dot } else { Form::Lines };
+    let mut output = StdSink::new(io::writer(rt));
+    Ok(put_plan(rt.alloc(), &scenario, frame, form, &mut output)?)
 }
 
 /// All bytes of a file, or of standard input.

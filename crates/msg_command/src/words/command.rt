@@ -1,12 +1,15 @@
 // The command line, as `clap` is told of it.
-ghost use Rattle.std.specs.Prelude.{◌≡◌, ◌≢◌, [], IfOk, IfErr, OnOk, false, true};
-ghost use Rattle.clap.specs.{Words.app_of, Words.rule_of, Words.fault_of, Words.takes, Words.subcommand_of, Words.subcommand_rows_of, Words.kind_of, declared.Command.out-Command as fields_of, declared.error.ErrorKind.TheVariants.DisplayHelp, declared.error.ErrorKind.TheVariants.OutOfMemory};
-ghost use Rattle.msg_command.specs.Prelude.{IsHelp, IsToldOf, buffer_app, check_app, file_app, file_rule, msgrun_app, run_app, running_app, texts_of, workers_rule};
+ghost use Rattle.std.specs.Prelude.{◌≡◌, [], IfOk, IfErr, OnOk, false, true};
+ghost use Rattle.clap.specs.{Words.app_of, Words.rule_of, Words.fault_of, Words.takes, Words.subcommand_of, Words.subcommand_rows_of, Words.kind_of, declared.Command.out-Command as fields_of, declared.error.ErrorKind.TheVariants.OutOfMemory};
+ghost use Rattle.msg_command.specs.Prelude.{IsHelp, IsShown, IsToldOf, dot_rule, file_app, file_rule, frame_rule, msgrun_app, plan_app, run_app, running_app, texts_of, workers_rule};
 
 use crate::words::{WordFault, help};
 use clap::error::ErrorKind;
 use clap::{Arg, ArgAction, ArgMatches, Command};
 use std::alloc::{AllocError, Global};
+
+/// The version of the program, of its files and of its texts.
+const VERSION: &str = "1.0.0";
 
 fn file_arg<'a>(alloc: Global, what: &'a str) -> Arg<'a>
     ensures rule { rule_of result ≡ file_rule }
@@ -30,52 +33,85 @@ fn workers_arg<'a>(alloc: Global) -> Arg<'a>
         .default_value("1")
 }
 
-/// Adds the summary line, and the text after the help.
-fn with_texts<'a>(command: Command<'a>, about: &'a str, more: &'a str) -> Command<'a>
+fn dot_arg<'a>(alloc: Global) -> Arg<'a>
+    ensures rule { rule_of result ≡ dot_rule }
+    ensures local { result.global ≡ false }
+{
+    Arg::new(alloc, "dot")
+        .long("dot")
+        .help("Tells it as a graph, for Graphviz")
+        .action(ArgAction::SetTrue)
+}
+
+fn frame_arg<'a>(alloc: Global) -> Arg<'a>
+    ensures rule { rule_of result ≡ frame_rule }
+    ensures local { result.global ≡ false }
+{
+    Arg::new(alloc, "frame")
+        .long("frame")
+        .value_name("K")
+        .help("Which frame, from 1 to 10000")
+        .action(ArgAction::Set)
+        .default_value("1")
+}
+
+/// Adds the summary line, and the texts after short and after long help.
+fn with_texts<'a>(
+    command: Command<'a>,
+    about: &'a str,
+    short: &'a str,
+    long: &'a str,
+) -> Command<'a>
     ensures app { app_of result ≡ app_of command.entry }
     ensures local { (fields_of result).has_globals ≡ (fields_of command.entry).has_globals }
 {
-    command.about(about).after_help(more)
+    command.about(about).after_help(short).after_long_help(long)
 }
 
-/// A subcommand of one file.
-fn file_command<'a>(alloc: Global, name: &'a str, what: &'a str) -> Result<Command<'a>, AllocError>
+/// A subcommand of one file, with what it does and the texts after its help.
+fn file_command<'a>(
+    alloc: Global,
+    name: &'a str,
+    what: &'a str,
+    about: &'a str,
+    short: &'a str,
+    long: &'a str,
+) -> Result<Command<'a>, AllocError>
     ensures app { IfOk result (λ c. app_of c ≡ file_app name.now) }
     ensures local { IfOk result (λ c. (fields_of c).has_globals ≡ false) }
 {
-    Command::new(alloc, name).arg(file_arg(alloc, what))
-}
-
-fn buffer_command<'a>(alloc: Global) -> Result<Command<'a>, AllocError>
-    ensures app { IfOk result (λ c. app_of c ≡ buffer_app) }
-    ensures local { IfOk result (λ c. (fields_of c).has_globals ≡ false) }
-{
-    let command = file_command(alloc, "buffer", "The calls file")?;
-    Ok(with_texts(command, "Answers the calls file FILE", help::BUFFER))
+    let command = Command::new(alloc, name).arg(file_arg(alloc, what))?;
+    Ok(with_texts(command, about, short, long))
 }
 
 fn run_command<'a>(alloc: Global) -> Result<Command<'a>, AllocError>
     ensures app { IfOk result (λ c. app_of c ≡ run_app) }
     ensures local { IfOk result (λ c. (fields_of c).has_globals ≡ false) }
 {
-    let command = file_command(alloc, "run", "The scenario file")?.arg(workers_arg(alloc))?;
-    Ok(with_texts(
-        command,
+    let command = file_command(
+        alloc,
+        "run",
+        "The scenario file",
         "Runs the scenario file FILE, and reports",
         help::RUN,
-    ))
+        help::RUN_IN_FULL,
+    )?;
+    command.arg(workers_arg(alloc))
 }
 
-fn check_command<'a>(alloc: Global) -> Result<Command<'a>, AllocError>
-    ensures app { IfOk result (λ c. app_of c ≡ check_app) }
+fn plan_command<'a>(alloc: Global) -> Result<Command<'a>, AllocError>
+    ensures app { IfOk result (λ c. app_of c ≡ plan_app) }
     ensures local { IfOk result (λ c. (fields_of c).has_globals ≡ false) }
 {
-    let command = file_command(alloc, "check", "The scenario file or calls file")?;
-    Ok(with_texts(
-        command,
-        "Checks the file FILE, and says where and why it is refused",
-        help::CHECK,
-    ))
+    let command = file_command(
+        alloc,
+        "plan",
+        "The scenario file",
+        "Tells in which order the systems of FILE run, and why",
+        help::PLAN,
+        help::PLAN,
+    )?;
+    command.arg(dot_arg(alloc))?.arg(frame_arg(alloc))
 }
 
 /// The command with the subcommands that answer calls or run frames.
@@ -83,14 +119,22 @@ fn running_command<'a>(alloc: Global) -> Result<Command<'a>, AllocError>
     ensures app { IfOk result (λ c. app_of c ≡ running_app) }
     ensures local { IfOk result (λ c. (fields_of c).has_globals ≡ false) }
 {
-    let buffer = buffer_command(alloc)?;
+    let buffer = file_command(
+        alloc,
+        "buffer",
+        "The calls file",
+        "Answers the calls file FILE",
+        help::BUFFER,
+        help::BUFFER_IN_FULL,
+    )?;
     let run = run_command(alloc)?;
     let bare = Command::new(alloc, "msgrun").no_binary_name(true);
-    let bare = bare.bin_name("msgrun")?;
+    let bare = bare.bin_name("msgrun")?.version(VERSION);
     let command = with_texts(
         bare,
         "Runs scenarios of message systems, and answers calls of a message buffer",
         help::PROGRAM,
+        help::PROGRAM_IN_FULL,
     );
     let command = command.subcommand(buffer)?;
     command.subcommand(run)
@@ -100,18 +144,26 @@ fn command<'a>(alloc: Global) -> Result<Command<'a>, AllocError>
     ensures app { IfOk result (λ c. app_of c ≡ msgrun_app) }
     ensures local { IfOk result (λ c. (fields_of c).has_globals ≡ false) }
 {
-    let check = check_command(alloc)?;
-    running_command(alloc)?.subcommand(check)
+    let check = file_command(
+        alloc,
+        "check",
+        "The scenario file or calls file",
+        "Checks the file FILE, and says where and why it is refused",
+        help::CHECK,
+        help::CHECK,
+    )?;
+    let plan = plan_command(alloc)?;
+    running_command(alloc)?.subcommand(check)?.subcommand(plan)
 }
 
 fn fault(alloc: Global, error: clap::Error) -> WordFault
     ensures memory { kind_of error ≡ OutOfMemory → result ≡ WordFault.NoMemory }
-    ensures help { IsHelp result → kind_of error ≡ DisplayHelp }
-    ensures bad { result ≡ WordFault.Bad → kind_of error ≢ DisplayHelp }
+    ensures help { IsHelp result → IsShown (kind_of error) }
+    ensures bad { result ≡ WordFault.Bad → ¬ IsShown (kind_of error) }
 {
     match error.kind() {
         ErrorKind::OutOfMemory => WordFault::NoMemory,
-        ErrorKind::DisplayHelp => match format!(in alloc; "{error}") {
+        ErrorKind::DisplayHelp | ErrorKind::DisplayVersion => match format!(in alloc; "{error}") {
             Ok(text) => WordFault::Help(text),
             Err(_) => WordFault::NoMemory,
         },

@@ -1,6 +1,6 @@
 ghost use Rattle.std.specs.Prelude.{◌≡◌, ◌<◌, ◌≤◌, ◌⊎◌, [], IfSome, Some, None, true, IfOk, IfErr, OnOk, codes, string_bytes};
 ghost use Rattle.clap.specs.Words.{fault_of, takes, first_of, rows_of, found_of, subcommand_rows_of};
-ghost use Rattle.msg_command.specs.Prelude.{IsInRange, IsRunOnNone, IsToldOf, asked, asked_by, msgrun_app, request_of, texts_of, workers_asked, workers_in};
+ghost use Rattle.msg_command.specs.Prelude.{AsksForNone, IsInRange, IsToldOf, asked, asked_by, dot_asked, frame_asked, msgrun_app, number_in, request_of, texts_of, workers_asked};
 
 use crate::words::command::matches;
 use crate::words::{Action, WordFault};
@@ -11,10 +11,10 @@ use std::alloc::Global;
 pub fn parse_words(alloc: Global, words: &[String]) -> Result<Action, WordFault>
     ensures accepted { OnOk result (fault_of msgrun_app (texts_of words.now) ≡ []) }
     ensures action { IfOk result (λ a. asked (texts_of words.now) ≡ Some (request_of a)) }
-    ensures workers { IfOk result IsInRange }
+    ensures in_range { IfOk result IsInRange }
     ensures refused { IfErr result (λ fault. takes msgrun_app (texts_of words.now) ≡ true
         → (fault ≡ WordFault.NoMemory)
-        ⊎ ((fault ≡ WordFault.Bad) × IsRunOnNone (texts_of words.now))) }
+        ⊎ ((fault ≡ WordFault.Bad) × AsksForNone (texts_of words.now))) }
 
     // Where `clap` refuses the words, the fault is the one that it finds in them.
     ensures found { IfErr result (IsToldOf (fault_of msgrun_app (texts_of words.now))) }
@@ -26,7 +26,7 @@ pub fn parse_words(alloc: Global, words: &[String]) -> Result<Action, WordFault>
 fn action_of(alloc: Global, matches: &ArgMatches<'_>) -> Result<Action, WordFault>
     ensures action { IfOk result (λ action.
         asked_by (subcommand_rows_of matches.now) ≡ Some (request_of action)) }
-    ensures workers { IfOk result IsInRange }
+    ensures in_range { IfOk result IsInRange }
     ensures refused { IfErr result (λ fault.
         (fault ≡ WordFault.NoMemory)
         ⊎ ((fault ≡ WordFault.Bad) × (asked_by (subcommand_rows_of matches.now) ≡ None))) }
@@ -46,6 +46,12 @@ fn action_of(alloc: Global, matches: &ArgMatches<'_>) -> Result<Action, WordFaul
     if name == "check" {
         let file = file_of(alloc, inner)?;
         return Ok(Action::Check(file));
+    }
+    if name == "plan" {
+        let file = file_of(alloc, inner)?;
+        let frame = frame_of(inner)?;
+        let dot = is_dot(inner);
+        return Ok(Action::Plan { file, frame, dot });
     }
     Err(WordFault::Bad)
 }
@@ -71,19 +77,41 @@ fn workers_of(inner: &ArgMatches<'_>) -> Result<u32, WordFault>
         × (workers_asked (rows_of (found_of inner.now)) ≡ None)) }
 {
     let text = inner.get_str("workers").ok_or(WordFault::Bad)?;
-    workers_in(text).ok_or(WordFault::Bad)
+    number_in(text, 64).ok_or(WordFault::Bad)
 }
 
-/// The number of workers that a text asks for.
-fn workers_in(text: &str) -> Option<u32>
-    ensures number { result ≡ workers_in text.now }
+#[tactic(auto, using(crate::proofs::RowValues::row_value))]
+fn frame_of(inner: &ArgMatches<'_>) -> Result<u32, WordFault>
+    ensures number { IfOk result (λ n. frame_asked (rows_of (found_of inner.now)) ≡ Some n) }
+    ensures some { IfOk result (λ n. 0 < n) }
+    ensures at_most { IfOk result (λ n. n ≤ 10000) }
+    ensures refused { IfErr result (λ e. (e ≡ WordFault.Bad)
+        × (frame_asked (rows_of (found_of inner.now)) ≡ None)) }
+{
+    let text = inner.get_str("frame").ok_or(WordFault::Bad)?;
+    number_in(text, 10_000).ok_or(WordFault::Bad)
+}
+
+#[tactic(auto, using(crate::proofs::RowValues::row_value))]
+fn is_dot(inner: &ArgMatches<'_>) -> bool
+    ensures dot { result ≡ dot_asked (rows_of (found_of inner.now)) }
+{
+    match inner.get_str("dot") {
+        Some(text) => text == "true",
+        None => false,
+    }
+}
+
+/// The number from 1 to `most` that a text has.
+fn number_in(text: &str, most: u32) -> Option<u32>
+    ensures number { result ≡ number_in most text.now }
     ensures some { IfSome result (λ n. 0 < n) }
-    ensures at_most { IfSome result (λ n. n ≤ 64) }
+    ensures at_most { IfSome result (λ n. n ≤ most) }
 {
     let Ok(number) = text.parse::<u32>() else {
         return None;
     };
-    if 1 <= number && number <= 64 {
+    if 1 <= number && number <= most {
         Some(number)
     } else {
         None

@@ -15,7 +15,7 @@ RefusesForCycle rules (Clash s) = ⊥
 RefusesForCycle rules (Cycle s) = IsLowestOnCycle (edges_of rules) s
 RefusesForCycle rules NoMemory = ⊤
 
-module _ {S : Type 0} (meaning : S → Meaning) where
+module _ {S V : Type 0} (meaning : S → Meaning V) where
   -- what is said of a refusal before the rules are looked at
   abbrev pub RefusesForClash : List S → BuildRefusal → Type 0
   RefusesForClash systems (Clash s) = IsLowestClash meaning systems s
@@ -23,15 +23,16 @@ module _ {S : Type 0} (meaning : S → Meaning) where
   RefusesForClash systems NoMemory = ⊤
 
   -- an access is that of system i with its conditions, and the system is no clash
-  pub record IsAccessAt (systems : List S) (places : List Place) (i : ℕ) (a : Access) : Type 0 where
-    pub access : (x : S) (place : Place) → slice_get systems i ≡ Some x → slice_get places i
+  pub record IsAccessAt (systems : List S) (places : List (Place V)) (i : ℕ)
+      (a : Access) : Type 0 where
+    pub access : (x : S) (place : Place V) → slice_get systems i ≡ Some x → slice_get places i
         ≡ Some place
         → IsAccessOf (with_conditions (meaning x).needs place.conditions) a
     pub no_clash : (x : S) → slice_get systems i ≡ Some x → ¬ HasClash (meaning x).needs
 
   -- it is system i, with its conditions
-  abbrev pub IsGuardedAt : List S → List Place → ℕ → Option (Box (GuardedSystem S)) → Type 0
-  IsGuardedAt systems places i o = (x : S) (place : Place) → slice_get systems i ≡ Some x
+  abbrev pub IsGuardedAt : List S → List (Place V) → ℕ → Option (Box (GuardedSystem S V)) → Type 0
+  IsGuardedAt systems places i o = (x : S) (place : Place V) → slice_get systems i ≡ Some x
       → slice_get places i ≡ Some place
       → IsSomeAnd o (λ a. job_state meaning a.value ≡ new_job (meaning x) place)
 
@@ -40,10 +41,11 @@ pub record AreNoTotals (types : ℕ) (xs : List Totals) : Type 0 where
   pub as_many : length xs ≡ types
   pub each : (t : ℕ) → t < types → totals_at xs t ≡ no_totals
 
-module _ {S : Type 0} (meaning : S → Meaning) where
+module _ {S V : Type 0} (meaning : S → Meaning V) where
   -- What is reckoned of systems of which none is a clash, and of rules that make no cycle: the
   -- plan is that of the first frame.
-  pub record IsPreparedFor (types : ℕ) (systems : List S) (places : List Place) (rules : List Rule)
+  pub record IsPreparedFor (types : ℕ) (systems : List S) (places : List (Place V))
+      (rules : List Rule)
       (made : Prepared) : Type 0 where
     pub no_cycle : IsAcyclic (edges_of rules)
     pub one_access_each : length made.accesses.items ≡ length systems

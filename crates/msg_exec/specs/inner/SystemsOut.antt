@@ -2,7 +2,7 @@
 use Rattle.std.specs.Prelude.{◌≡◌, ◌≢◌, ℕ, ◌<◌, Bool, false, ◌||◌, List, [], ◌∷◌, Contains, length, slice_get, slice_set, Some, None, if◌then◌else◌}
 use Rattle.std.specs.{Global.Vec, List.AllZip}
 use Rattle.msg_world.specs.declared.access.Access.{Access}
-use Rattle.msg_world.specs.Prelude.{LendsOut, Part, SameSize, TakesBack, slot, writes}
+use Rattle.msg_world.specs.Prelude.{LendsOut, Part, SameSize, TakesBack, slot, writes, Values}
 use Rattle.msg_order.specs.Prelude.{access_of}
 use Rattle.msg_system.specs.Prelude.{Meaning}
 use Rattle.msg_exec.specs.{Jobs.JobView, declared.lender.Lender.Lender, inner.Totals.entries_by, Keeping.capped_totals, Keeping.totals_at, Lender.system_at}
@@ -14,10 +14,11 @@ abbrev pub any_writes : List Access → List ℕ → Part → Bool
 any_writes accesses [] p = false
 any_writes accesses (i ∷ is) p = writes (access_of accesses i) p || any_writes accesses is p
 
-module _ {S : Type 0} where
+module _ {S V : Type 0} where
   -- System i goes out for its turn: the job has it, with what its access writes and an empty list
   -- of replies. All else stays.
-  pub record GoesOut (old : Lender S) (i : ℕ) (job : JobView S) (new : Lender S) : Type 0 where
+  pub record GoesOut (old : Lender S V) (i : ℕ) (job : JobView S V)
+      (new : Lender S V) : Type 0 where
     pub number : job.number ≡ i
     pub guarded : system_at old i ≡ Some job.guarded
     pub access : job.access ≡ access_of old.accesses.items i
@@ -29,7 +30,7 @@ module _ {S : Type 0} where
 
   -- A job that is out from the lender `whole`: what it has is as it was there, and its list of
   -- replies is empty.
-  pub record IsOut (whole : Lender S) (i : ℕ) (job : JobView S) : Type 0 where
+  pub record IsOut (whole : Lender S V) (i : ℕ) (job : JobView S V) : Type 0 where
     pub number : job.number ≡ i
     pub guarded : system_at whole i ≡ Some job.guarded
     pub access : job.access ≡ access_of whole.accesses.items i
@@ -40,8 +41,8 @@ module _ {S : Type 0} where
 
   -- The jobs of a batch are out. What none of its systems writes stays, and so do the other
   -- systems.
-  pub record AreOut (whole : Lender S) (batch : List ℕ) (jobs : List (JobView S))
-      (left : Lender S) : Type 0 where
+  pub record AreOut (whole : Lender S V) (batch : List ℕ) (jobs : List (JobView S V))
+      (left : Lender S V) : Type 0 where
     pub each : AllZip (IsOut whole) batch jobs
     pub size : SameSize whole.world left.world
     pub world : (p : Part)
@@ -52,9 +53,9 @@ module _ {S : Type 0} where
     pub accesses : left.accesses.items ≡ whole.accesses.items
     pub totals : left.totals.items ≡ whole.totals.items
 
-module _ {S : Type 0} (meaning : S → Meaning) where
+module _ {S V : Type 0} (meaning : S → Meaning V) where
   -- the totals of a system after what came of its job
-  pub record HaveEntered (done : JobView S) (old new : List Totals) : Type 0 where
+  pub record HaveEntered (done : JobView S V) (old new : List Totals) : Type 0 where
     pub as_many : length new ≡ length old
     pub entered : (t : ℕ) (x : Totals) → t < length old → totals_at old t ≡ capped_totals x
         → totals_at new t ≡ capped_totals
@@ -62,7 +63,7 @@ module _ {S : Type 0} (meaning : S → Meaning) where
 
   -- A system comes home from its turn, with what it gives back, and its totals are those after it.
   -- All else stays.
-  pub record ComesHome (old : Lender S) (done : JobView S) (new : Lender S) : Type 0 where
+  pub record ComesHome (old : Lender S V) (done : JobView S V) (new : Lender S V) : Type 0 where
     pub as_many : length new.systems.items ≡ length old.systems.items
     pub system : system_at new done.number ≡ Some done.guarded
     pub others : (k : ℕ) → k ≢ done.number → system_at new k ≡ system_at old k
@@ -72,6 +73,7 @@ module _ {S : Type 0} (meaning : S → Meaning) where
         × ((u : Vec Totals) → slice_get old.totals.items done.number ≡ Some u
         → HaveEntered done u.items v.items)
 
--- those that join with this frame were given nothing yet
-abbrev pub HaveReadNothing : ℕ → State → Type 0
-HaveReadNothing frame s = (i t : ℕ) → (s.members i).join ≡ frame → reader_place s i t ≡ 0
+module _ {V : Type 0} {values : Values V} where
+  -- those that join with this frame were given nothing yet
+  abbrev pub HaveReadNothing : ℕ → State values → Type 0
+  HaveReadNothing frame s = (i t : ℕ) → (s.members i).join ≡ frame → reader_place s i t ≡ 0

@@ -6,25 +6,26 @@ use Rattle.msg_system.specs.Prelude.{Meaning, start_place, type_read_by}
 use Rattle.msg_frames.specs.{declared.log.Outcome.Outcome, declared.log.Outcome.TheVariants.Skipped, declared.log.Outcome.TheVariants.Ran}
 use Rattle.msg_frames.specs.Prelude.{ReadEntry, entries_for, entry_of}
 
--- where a system that was given nothing starts in a type
-abbrev pub first_place : Meaning → List ℕ → ℕ → ℕ
-first_place m counts t = if m.needs.reads (OfType t) then start_place m.start counts t else 0
+module _ {V : Type 0} where
+  -- where a system that was given nothing starts in a type
+  abbrev pub first_place : Meaning V → List ℕ → ℕ → ℕ
+  first_place m counts t = if m.needs.reads (OfType t) then start_place m.start counts t else 0
 
--- the entries for type t of a turn that was of these ops
-abbrev pub entries_by : ℕ → List Op → Outcome → List ReadEntry
-entries_by t ops Skipped = []
-entries_by t ops (Ran replies) = entries_for t ops replies
+  -- the entries for type t of a turn that was of these ops
+  abbrev pub entries_by : ℕ → List (Op V) → Outcome V → List (ReadEntry V)
+  entries_by t ops Skipped = []
+  entries_by t ops (Ran replies) = entries_for t ops replies
 
--- the entry for type t that the reply to op k tells of
-abbrev pub entry_at : ℕ → List Op → ℕ → Reply → List ReadEntry
-entry_at t ops k reply =
-    elim (type_read_by ops k) [
-      | None ↦ []
-      | Some u ↦ if u == t
-          then option_to_list (entry_of reply) else []
-    ]
+  -- the entry for type t that the reply to op k tells of
+  abbrev pub entry_at : ℕ → List (Op V) → ℕ → Reply V → List (ReadEntry V)
+  entry_at t ops k reply =
+      elim (type_read_by ops k) [
+        | None ↦ []
+        | Some u ↦ if u == t
+            then option_to_list (entry_of reply) else []
+      ]
 
--- no more replies than a turn has at most
-abbrev pub HasFewReplies : Outcome → Type 0
-HasFewReplies Skipped = ⊤
-HasFewReplies (Ran replies) = length replies ≤ 64
+  -- no more replies than a turn has at most
+  abbrev pub HasFewReplies : Outcome V → Type 0
+  HasFewReplies Skipped = ⊤
+  HasFewReplies (Ran replies) = length replies ≤ 64

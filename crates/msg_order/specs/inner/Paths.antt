@@ -1,9 +1,9 @@
 -- Paths as the sets of the code keep them: before each system those that precede it. No public
 -- contract cites these; that they are the paths of the definitions is proved.
-use Rattle.std.specs.Prelude.{◌≡◌, ℕ, ◌≤◌, ◌<◌, Bool, true, not, ◌&&◌, List, map, length, filter, flat_map, slice_index_or}
+use Rattle.std.specs.Prelude.{◌≡◌, ℕ, ◌≤◌, ◌<◌, Bool, true, not, ◌&&◌, List, map, length, filter, flat_map, slice_index_or, IsTrue}
 use Rattle.std.specs.List.{range_with_len}
-use Rattle.msg_world.specs.declared.access.Access.{Access}
-use Rattle.msg_order.specs.{declared.system_set.SystemSet.SystemSet, inner.SystemSet.has, inner.SystemSet.meets, inner.SystemSet.no_set, Graph.Graph, Graph.path, Settled.has_joined, Order.AreInConflict, Order.Settles, Settled.pairs, Plan.PlanView}
+use Rattle.msg_world.specs.{Prelude.Conflict, declared.access.Access.Access}
+use Rattle.msg_order.specs.{declared.system_set.SystemSet.SystemSet, inner.SystemSet.has, inner.SystemSet.meets, inner.SystemSet.no_set, Graph.Graph, Graph.path, Settled.has_joined, Settled.pairs, Settled.settle, Order.TellsConflicts, Order.access_of, Plan.PlanView}
 
 -- the set of those before system j
 abbrev pub set_at : List SystemSet → ℕ → SystemSet
@@ -21,10 +21,21 @@ AreStarts before starts = (i j : ℕ) → comes_before before i j ≡ true → h
 abbrev pub ArePaths : Graph → List SystemSet → Type 0
 ArePaths g before = (i j : ℕ) → comes_before before i j ≡ path g i j
 
--- the sets are the paths of what g becomes as the pairs are taken
+-- systems i and j have joined, and their accesses conflict
+pub record AreInConflict (accesses : List Access) (joined : List Bool) (i j : ℕ) : Type 0 where
+  pub first_joined : IsTrue (has_joined joined i)
+  pub second_joined : IsTrue (has_joined joined j)
+  pub conflict : Conflict (access_of accesses i) (access_of accesses j)
+
+-- two that have joined are in conflict
+abbrev pub conflict_among : List Bool → (ℕ → ℕ → Bool) → ℕ → ℕ → Bool
+conflict_among joined conflict i j = (has_joined joined i && has_joined joined j) && conflict i j
+
+-- the sets are the paths of what g becomes as the pairs are taken, by a test that tells conflicts
 abbrev pub AreSettled : List Access → List Bool → Graph → List SystemSet → Type 0
-AreSettled accesses joined g before = (h : Graph)
-    × (ArePaths h before × Settles (AreInConflict accesses joined) g (pairs (length accesses)) h)
+AreSettled accesses joined g before = (conflict : ℕ → ℕ → Bool)
+    → TellsConflicts accesses joined conflict
+    → ArePaths (settle (conflict_among joined conflict) g (pairs (length joined))) before
 
 -- the set is that of the joined systems
 abbrev pub IsSetOf : List Bool → SystemSet → Type 0

@@ -32,12 +32,12 @@ fn run_once<S: System>(
 ) {
     let access = system.access();
     assert!(rt; world.is_home(&access));
-    lent_parts_are_a_loan();
+    lent_parts_are_a_loan::<i64>();
     let taken = world.lend_out(&access).expect(rt, "a loan");
     let lent = Lent::open(world, &access, taken);
-    open_loans_cover();
+    open_loans_cover::<i64>();
     let taken = system.run(alloc, lent, out).expect(rt, "a run");
-    lent_parts_may_come_home();
+    lent_parts_may_come_home::<i64>();
     world.take_back(taken);
 }
 

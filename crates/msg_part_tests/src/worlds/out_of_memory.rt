@@ -56,7 +56,7 @@ fn expect_messages(rt: &impl Abort, world: &World, t: TypeNo, records: &[Record]
 fn write(rt: &impl Abort, lent: &mut Lent, t: TypeNo, record: Record) -> bool
     ensures same { SameLoan lent.old lent.new }
 {
-    writes_stand();
+    writes_stand::<i64>();
     let Some(messages) = lent.writer(t) else {
         panic!(rt; "type 0 is lent")
     };
@@ -83,7 +83,7 @@ fn lending(rt: HostRuntime) -> Result<(), Fail> {
         .with_write_res(r)
         .with_registry();
     assert!(rt; world.is_home(&access));
-    lent_parts_are_a_loan();
+    lent_parts_are_a_loan::<i64>();
     let record = Record {
         writer: 3,
         value: 9,
@@ -95,7 +95,7 @@ fn lending(rt: HostRuntime) -> Result<(), Fail> {
         value = 8;
         assert_eq!(rt; set(&mut lent, r, value), Some(7));
         wrote = write(&rt, &mut lent, t, record);
-        lent_parts_may_come_home();
+        lent_parts_may_come_home::<i64>();
         let taken = lent.into_taken();
         world.take_back(taken);
     }

@@ -15,7 +15,7 @@ fn words_of(rt: &(impl Abort + AllocGlobal), line: &str) -> Vec<String> {
 }
 
 /// Command lines, and what they are parsed as.
-const ACTIONS: [(&str, &str); 34] = [
+const ACTIONS: [(&str, &str); 45] = [
     ("", "Ok(Buffer(None))"),
     ("buffer f", "Ok(Buffer(Some(\"f\")))"),
     ("buffer -", "Ok(Buffer(Some(\"-\")))"),
@@ -56,6 +56,26 @@ const ACTIONS: [(&str, &str); 34] = [
     ("walk buffer f", "Err(Bad)"),
     ("f", "Err(Bad)"),
     ("buffer --workers 2 f", "Err(Bad)"),
+    ("plan f", "Ok(Plan { file: \"f\", frame: 1, dot: false })"),
+    (
+        "plan f --frame 7",
+        "Ok(Plan { file: \"f\", frame: 7, dot: false })",
+    ),
+    (
+        "plan --dot f",
+        "Ok(Plan { file: \"f\", frame: 1, dot: true })",
+    ),
+    (
+        "plan --frame=10000 --dot f",
+        "Ok(Plan { file: \"f\", frame: 10000, dot: true })",
+    ),
+    ("plan f --frame 0", "Err(Bad)"),
+    ("plan f --frame 10001", "Err(Bad)"),
+    ("plan f --frame x", "Err(Bad)"),
+    ("plan f --dot --dot", "Err(Bad)"),
+    ("plan f --dot=false", "Err(Bad)"),
+    ("plan --dot", "Err(Bad)"),
+    ("run f --dot", "Err(Bad)"),
 ];
 
 #[test]
@@ -70,7 +90,7 @@ fn actions(rt: HostRuntime) {
 
 /// Command lines that ask for help, and pieces of the help that they get. The examples have the
 /// whole text where it is asked for by `--help`.
-const HELPS: [(&str, [&str; 3]); 4] = [
+const HELPS: [(&str, [&str; 3]); 6] = [
     ("-h", ["msgrun [COMMAND]", "buffer", "docs/FORMATS.md"]),
     ("help", ["msgrun [COMMAND]", "buffer", "docs/FORMATS.md"]),
     (
@@ -86,9 +106,14 @@ const HELPS: [(&str, [&str; 3]); 4] = [
         [
             "[default: 1]",
             "r read hit missed 0: 0=5@w 1=6@host\n",
-            "docs/FORMATS.md",
+            "[\"resource_equals\",r,v]",
         ],
     ),
+    (
+        "help plan",
+        ["--dot", "--frame <K>", "longest chain: r w (2)\n"],
+    ),
+    ("--version", ["msgrun", "1.0.0", "\n"]),
 ];
 
 #[test]

@@ -1,5 +1,5 @@
 -- What the lines of turns begin with, made once: the words of private functions.
-use Rattle.std.specs.Prelude.{◌≡◌, ◌++◌, List, [], codes, flat_map, map, slice_get, zip}
+use Rattle.std.specs.Prelude.{◌≡◌, ◌++◌, List, [], codes, flat_map, map, slice_get, zip, ℤ}
 use Rattle.std.specs.Option.{option_map_or}
 use Rattle.msg_files.specs.Prelude.{Text}
 use Rattle.msg_frames.specs.{declared.log.Outcome.Outcome, declared.log.Outcome.TheVariants.Skipped, declared.log.Outcome.TheVariants.Ran, declared.log.Turn.Turn}
@@ -20,12 +20,12 @@ abbrev pub AreLines : Scenario → List SystemLines → Type 0
 AreLines s lines = map texts_in lines ≡ map (lines_of s) s.systems
 
 -- what came of a system's turn, by what was made of the system
-abbrev pub finished_outcome : Scenario → SystemLines → Outcome → Text
+abbrev pub finished_outcome : Scenario → SystemLines → Outcome ℤ → Text
 finished_outcome s lines Skipped = lines.skipped.items
 finished_outcome s lines (Ran answers) =
     flat_map (λ p. answered_line s p.0.items p.1) (zip lines.starts.items answers)
 
 -- a turn likewise
-abbrev pub finished_turn : Scenario → List SystemLines → Turn → Text
+abbrev pub finished_turn : Scenario → List SystemLines → Turn ℤ → Text
 finished_turn s lines turn =
     option_map_or (λ l. finished_outcome s l turn.outcome) (slice_get lines turn.system) []

@@ -1,20 +1,21 @@
 -- A report while it is made: the words of private functions.
-use Rattle.std.specs.Prelude.{◌≡◌, ℕ, List, Option, length, take}
+use Rattle.std.specs.Prelude.{◌≡◌, ℕ, ◌-◌, ◌^◌, List, Option, length, min, take, ℤ}
 use Rattle.std.specs.Io.KnownBytes.{Appends}
 use Rattle.msg_system.specs.Prelude.{Meaning}
 use Rattle.msg_frames.specs.Prelude.{State, run}
 use Rattle.msg_frames.specs.declared.log.Log.{Log}
-use Rattle.msg_exec.specs.Prelude.{EngineStands}
+use Rattle.msg_exec.specs.Prelude.{EngineStands, IsSpoiled, frame_number}
 use Rattle.msg_exec.specs.declared.engine.EngineOf.{EngineOf}
 use Rattle.msg_scenario_data.specs.Prelude.{state_of}
 use Rattle.msg_scenario_data.specs.declared.scenario.Scenario.{Scenario}
 use Rattle.msg_reports.specs.ReportText.{frames_text}
+use Rattle.msg_world.specs.Prelude.{i64_values}
 
-module _ {X : Type 0} (meaning : X → Meaning) (s : Scenario) where
+module _ {X : Type 0} (meaning : X → Meaning ℤ) (s : Scenario) where
   -- after the first k frames: they were run, and their text was put
-  pub record ReportSoFar (k : ℕ) (before now : Option (List ℕ)) (e : EngineOf X) : Type 0 where
-    pub logs : List Log
-    pub state : State
+  pub record ReportSoFar (k : ℕ) (before now : Option (List ℕ)) (e : EngineOf X ℤ) : Type 0 where
+    pub logs : List (Log ℤ)
+    pub state : State i64_values
     pub as_many : length logs ≡ k
     pub is_run : (logs ≡ (run (take k s.frames) (state_of s)).logs)
         × (state ≡ (run (take k s.frames) (state_of s)).state)
@@ -22,3 +23,5 @@ module _ {X : Type 0} (meaning : X → Meaning) (s : Scenario) where
     pub types : state.types ≡ length s.types
     pub printed : Appends before now (frames_text s 1 s.frames logs)
     pub stands : EngineStands meaning e state
+    pub counted : frame_number e ≡ min k (2 ^ 32 - 1)
+    pub alive : ¬ IsSpoiled e

@@ -2,11 +2,11 @@
 ghost use Rattle.std.specs.Prelude.{◌≡◌, ◌++◌, [], IsOk, OnOk};
 ghost use Rattle.msg_reports.specs.Prelude.{account_line, accounts_text, standing_text};
 
-use crate::reports::names::{add_system, add_type};
 use msg_buffer::NoMemory;
 use msg_exec::Account;
 use msg_files::numerals::add_count;
 use msg_scenario_data::Scenario;
+use msg_scenario_data::names::{add_system, add_type};
 
 /// A line for each reader.
 pub fn add_accounts(

@@ -4,12 +4,12 @@ ghost use Rattle.msg_reports.specs.Prelude.{answered_line, frame_text, post_line
 ghost use Rattle.msg_reports.specs.inner.LineStarts.{AreLines, finished_outcome, finished_turn};
 
 use crate::reports::lines::SystemLines;
-use crate::reports::names::add_type;
 use crate::reports::reply::add_reply;
 use msg_buffer::NoMemory;
 use msg_exec::{Frame, Log, Outcome, Turn};
 use msg_files::numerals::add_count;
 use msg_scenario_data::Scenario;
+use msg_scenario_data::names::add_type;
 use msg_system::Reply;
 use msg_world::TypeNo;
 

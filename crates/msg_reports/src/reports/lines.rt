@@ -3,9 +3,9 @@ ghost use Rattle.std.specs.Prelude.{◌≡◌, ◌++◌, IfOk, codes, map};
 ghost use Rattle.msg_reports.specs.Prelude.{op_start};
 ghost use Rattle.msg_reports.specs.inner.LineStarts.{AreLines, lines_of, texts_in};
 
-use crate::reports::names::add_name;
 use crate::reports::op::add_op;
 use msg_buffer::NoMemory;
+use msg_scenario_data::names::add_name;
 use msg_scenario_data::{Name, Scenario, SystemSpec};
 use msg_system::Op;
 use std::alloc::Global;

@@ -1,10 +1,11 @@
 // An op at the end of a text.
 ghost use Rattle.std.specs.Prelude.{◌≡◌, ◌++◌, OnOk};
-ghost use Rattle.msg_reports.specs.Prelude.{op_text, resource_name, type_name};
+ghost use Rattle.msg_reports.specs.Prelude.{op_text};
+ghost use Rattle.msg_scenario_data.specs.Prelude.{resource_name, type_name};
 
-use crate::reports::names::{add_resource, add_type};
 use msg_buffer::NoMemory;
 use msg_scenario_data::Scenario;
+use msg_scenario_data::names::{add_resource, add_type};
 use msg_system::Op;
 use msg_world::{ResNo, TypeNo};
 

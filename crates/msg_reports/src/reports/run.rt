@@ -9,16 +9,17 @@ ghost use Rattle.msg_reports.specs.{inner.LineStarts.AreLines, inner.SoFar.Repor
 
 use crate::reports::lines::{SystemLines, make_lines};
 use crate::reports::put::{put_accounts, put_frame};
+use msg_exec::engine_laws::engines_stand;
 use msg_exec::laws::frames_keep_the_systems;
 use msg_exec::{EngineOf, Gate, Workers};
 use msg_files::{ReportFault, Sink};
 use msg_scenario_data::Scenario;
-use msg_system::System;
+use msg_system::SystemOf;
 use std::alloc::Global;
 use std::thread::Threads;
 
 /// Runs the next frame of a scenario, after so many, and puts its text; it is made in `text` first.
-fn report_frame<R: Threads + Sync, X: System, S: Sink, G: Gate>(
+fn report_frame<R: Threads + Sync, X: SystemOf<Value = i64> + Send, S: Sink, G: Gate>(
     rt: &R,
     engine: &mut EngineOf<X>,
     scenario: &Scenario,
@@ -54,7 +55,8 @@ fn report_frame<R: Threads + Sync, X: System, S: Sink, G: Gate>(
         → S.failures sink.new ≡ one_failure_more (S.failures sink.old) }
     ensures quiet { result ≢ Err ReportFault.Write → S.failures sink.new ≡ S.failures sink.old }
 {
-    frames_keep_the_systems();
+    engines_stand::<X>();
+    frames_keep_the_systems::<i64>();
     let frame = &scenario.frames.as_slice()[reported];
     let log = match engine.run_frame(rt, frame, workers, gate) {
         Ok(log) => log,
@@ -80,7 +82,7 @@ fn report_frame<R: Threads + Sync, X: System, S: Sink, G: Gate>(
 ///
 /// `Run` where a frame or the accounts had no memory, `Write` where the sink failed, and `NoMemory`
 /// where a text had none: that of a frame or of the readers, or what is made once for all frames.
-pub fn report<R: Threads + Sync, X: System, S: Sink, G: Gate>(
+pub fn report<R: Threads + Sync, X: SystemOf<Value = i64> + Send, S: Sink, G: Gate>(
     rt: &R,
     alloc: Global,
     engine: &mut EngineOf<X>,
@@ -111,7 +113,7 @@ pub fn report<R: Threads + Sync, X: System, S: Sink, G: Gate>(
         → S.failures sink.new ≡ one_failure_more (S.failures sink.old) }
     ensures quiet { result ≢ Err ReportFault.Write → S.failures sink.new ≡ S.failures sink.old }
 {
-    engine.runs_completely();
+    engines_stand::<X>();
     let lines = make_lines(alloc, scenario)?;
     let mut text = Vec::new(alloc);
     for reported in 0..scenario.frames.as_slice().len() {

@@ -11,13 +11,14 @@ at xs k = slice_index_or xs k None
 abbrev pub HaveEach : {X : Type 0} → List (Option X) → ℕ → Type 0
 HaveEach xs mask = (k : ℕ) → IsTrue (has_bit mask k) → IsSome (at xs k)
 
--- the buffer in a slot stands for a history, where there is one
-abbrev pub BufferStands : Option (Kept Record) → History Record → Type 0
-BufferStands b h = IfSome b (λ k. StandsFor k h)
+module _ {V : Type 0} where
+  -- the buffer in a slot stands for a history, where there is one
+  abbrev pub BufferStands : Option (Kept (Record V)) → History (Record V) → Type 0
+  BufferStands b h = IfSome b (λ k. StandsFor k h)
 
 -- each buffer was updated, and slots that were empty are
-pub record AllUpdated (old new : List (Option (Kept Record))) : Type 0 where
+pub record AllUpdated {V : Type 0} (old new : List (Option (Kept (Record V)))) : Type 0 where
   pub length : length new ≡ length old
   pub there : (t : ℕ) → is_some (at new t) ≡ is_some (at old t)
-  pub updated : (t : ℕ) (h : History Record) → BufferStands (at old t) h
+  pub updated : (t : ℕ) (h : History (Record V)) → BufferStands (at old t) h
       → BufferStands (at new t) (update h)

@@ -1,9 +1,10 @@
-use Rattle.std.proofs.Common.{◌≡◌, ℕ, ◌<◌, List, rules, sym, ◌∙◌, IsTrue}
+use Rattle.std.proofs.Common.{◌≡◌, ℕ, ◌<◌, List, rules, sym, ◌∙◌, IsTrue, ℤ}
 use Rattle.msg_frames.specs.{declared.frame.Frame.Frame, declared.log.Log.Log, Fates.Fate.given}
 use Rattle.msg_frames.specs.Prelude.{EachMeetsOneFate, IsCompleteRun, LogsTellEntries, Meets, State, has_begun, log_entries, run}
+use Rattle.msg_world.specs.Prelude.{i64_values}
 use Rattle.msg_engine_tests.proofs.clients.run_once.Goals as goal
 
-once : EachMeetsOneFate → LogsTellEntries → (frames : List Frame) (s : State) (logs : List Log)
+once : EachMeetsOneFate i64_values → LogsTellEntries i64_values → (frames : List (Frame ℤ)) (s : State i64_values) (logs : List (Log ℤ))
     → logs ≡ (run frames s).logs → IsCompleteRun frames s
     → (i t n j k : ℕ) → t < s.types → IsTrue (has_begun (run frames s).state i)
     → Meets (log_entries i t (s.members i).job.system logs) n j given

@@ -22,11 +22,11 @@ loop-t-preserved g c = record {
       let job = rw (read, ← c.index.ensures, c.in-Some-Some.is-0) at here.guarded in
       let reader : c.reads_type.result ≡ is_reader s i t = c.reads_type.ensures.read
       ∙ rw c.in-Some-Some-2.ensures.value (rw c.deref-2.ensures at (c.access-access.ensures.needs.reads (OfType t)))
-      ∙ ap (λ (j : Job). j.system.needs.reads (OfType t)) job in
+      ∙ ap (λ (j : Job g.row.V.Denot). j.system.needs.reads (OfType t)) job in
       let far = c.loop-t.invariant.so_far s stands in
       elim c.if-reads_type.branch [
         | then-reads_type+in_ok-push w ↦
-            (let its = totals_there g.S.System.meaning lender
+            (let its = totals_there g.S.SystemOf.meaning lender
             (rw c.deref.ensures.value at c.in-Some-Some.ensures.lookup.1) lt in
             let is = rw c.deref-in-loop-t.ensures.value at (c.in-Some-Some-2.ensures'.lookup.3.1 no_totals)
             ∙ its.each t within in

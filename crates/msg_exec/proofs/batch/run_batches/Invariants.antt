@@ -8,8 +8,8 @@ use Rattle.msg_exec.proofs.batch.run_batches.Given as goal
 
 abbrev pub invariant-loop-batch : goal.invariant-loop-batch
 invariant-loop-batch g l = record {
-  turned : (s : State) → LenderStands g.S.System.meaning l.initial.lender s
-      → HasTurned g.S.System.meaning (concat (map (λ batch. batch.items) (take l.batch-index l.batches))) s l.lender
+  turned : (s : State g.V.Value.values) → LenderStands g.S.SystemOf.meaning l.initial.lender s
+      → HasTurned g.S.SystemOf.meaning (concat (map (λ batch. batch.items) (take l.batch-index l.batches))) s l.lender
       [] l.turns.items;
   gate_passed : EachPassedGate (g.G.Gate.passed l.gate) l.workers
       (concat (map (λ batch. batch.items) (take l.batch-index l.batches)));

@@ -15,47 +15,47 @@ run_side_by_side-requires-clause-few g c κs within =
 pub run_side_by_side-requires-clause-may : goal.run_side_by_side-requires-clause-may
 run_side_by_side-requires-clause-may g c κs within =
     let r = c.requires in
-    all_may_run g.S.System.meaning (is_batch g.S.System.meaning r.stands r.once r.apart r.stands.1.0)
+    all_may_run g.S.SystemOf.meaning (is_batch g.S.SystemOf.meaning r.stands r.once r.apart r.stands.1.0)
     c.in_ok-jobs.ensures.out
 
 pub loop-result-init : goal.loop-result-init
 loop-result-init g c s stands =
     let r = c.requires in
     rw c.into_iter-result-iterator.ensures.into_iter_gives.0
-    (begin_home g.S.System.meaning (is_batch g.S.System.meaning r.stands r.once r.apart stands)
-    c.in_ok-jobs.ensures.out (all_back g.S.System.meaning (is_batch g.S.System.meaning r.stands r.once r.apart stands)
+    (begin_home g.S.SystemOf.meaning (is_batch g.S.SystemOf.meaning r.stands r.once r.apart stands)
+    c.in_ok-jobs.ensures.out (all_back g.S.SystemOf.meaning (is_batch g.S.SystemOf.meaning r.stands r.once r.apart stands)
     c.in_ok-jobs.ensures.out c.in_ok-results.ensures.run))
 
 pub take_back-requires-clause-systems : goal.take_back-requires-clause-systems
-take_back-requires-clause-systems g c κs within =
+take_back-requires-clause-systems g c =
     let next = rw c.in_ok-done.was at c.in-Some.ensures.steps.0 in
-    (next_may_come g.S.System.meaning next (c.loop-result.invariant _ c.requires.stands.1.0)).systems
+    (next_may_come g.S.SystemOf.meaning next (c.loop-result.invariant _ c.requires.stands.1.0)).systems
 
 pub take_back-requires-clause-totals : goal.take_back-requires-clause-totals
-take_back-requires-clause-totals g c κs within =
+take_back-requires-clause-totals g c =
     let next = rw c.in_ok-done.was at c.in-Some.ensures.steps.0 in
-    (next_may_come g.S.System.meaning next (c.loop-result.invariant _ c.requires.stands.1.0)).totals
+    (next_may_come g.S.SystemOf.meaning next (c.loop-result.invariant _ c.requires.stands.1.0)).totals
 
 pub take_back-requires-clause-apart : goal.take_back-requires-clause-apart
-take_back-requires-clause-apart g c κs within =
+take_back-requires-clause-apart g c =
     let next = rw c.in_ok-done.was at c.in-Some.ensures.steps.0 in
-    (next_may_come g.S.System.meaning next (c.loop-result.invariant _ c.requires.stands.1.0)).apart
+    (next_may_come g.S.SystemOf.meaning next (c.loop-result.invariant _ c.requires.stands.1.0)).apart
 
 pub take_back-requires-clause-few : goal.take_back-requires-clause-few
-take_back-requires-clause-few g c κs within =
+take_back-requires-clause-few g c =
     let next = rw c.in_ok-done.was at c.in-Some.ensures.steps.0 in
-    (next_may_come g.S.System.meaning next (c.loop-result.invariant _ c.requires.stands.1.0)).few
+    (next_may_come g.S.SystemOf.meaning next (c.loop-result.invariant _ c.requires.stands.1.0)).few
 
 pub loop-result-preserved : goal.loop-result-preserved
 loop-result-preserved g c s stands =
     rw c.in_ok-push.ensures.items
-    (next_comes g.S.System.meaning (rw c.in_ok-done.was at c.in-Some.ensures.steps.0) (c.loop-result.invariant s stands)
+    (next_comes g.S.SystemOf.meaning (rw c.in_ok-done.was at c.in-Some.ensures.steps.0) (c.loop-result.invariant s stands)
     c.take_back.ensures.home c.take_back.ensures.turn c.written_parts_come_home.ensures.meaning
     c.written_parts_come_home.ensures.either)
 
 pub returns : goal.returns
 returns g c =
-    let m = g.S.System.meaning in
+    let m = g.S.SystemOf.meaning in
     let law = c.batches_run_side_by_side.ensures.law in
     let far = c.loop-result.invariant in
     let rest = c.loop-result.result-iterator.rest in

@@ -5,6 +5,6 @@ use Rattle.msg_exec.proofs.batch.run_many.Given as goal
 
 abbrev pub invariant-loop-result : goal.invariant-loop-result
 invariant-loop-result g l =
-    (s : State) → LenderStands g.S.System.meaning l.fn.lender s
-    → ComingHome g.S.System.meaning l.fn.lender l.batch s l.result-iterator.rest.items l.lender l.initial.turns.items
+    (s : State g.V.Value.values) → LenderStands g.S.SystemOf.meaning l.fn.lender s
+    → ComingHome g.S.SystemOf.meaning l.fn.lender l.batch s l.result-iterator.rest.items l.lender l.initial.turns.items
     l.turns.items

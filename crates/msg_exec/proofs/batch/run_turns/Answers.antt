@@ -3,11 +3,11 @@ use Rattle.std.proofs.lemmas.{List.take_all, List.take_more, List.Elements.All-p
 use Rattle.msg_exec.proofs.BatchAfterBatch.{as_many_systems, turned_more}
 use Rattle.msg_exec.proofs.batch.run_turns.Goals as goal
 
-pub run_turn-requires-clause-stands : goal.run_turn-requires-clause-stands
-run_turn-requires-clause-stands g c κs within =
+pub run_turn-requires : goal.run_turn-requires
+run_turn-requires g c =
     let k = c.loop-system.system-index in
     let far = c.loop-system.invariant.turned _ c.requires.stands.1.0 in
-    (_, (far.state, rw as_many_systems (c.requires.stands.1.1 k 0 c.loop-system-test.true)))
+    record { stands = (_, (far.state, rw as_many_systems (c.requires.stands.1.1 k 0 c.loop-system-test.true))) }
 
 pub loop-system-preserved : goal.loop-system-preserved
 loop-system-preserved g c =
@@ -18,7 +18,7 @@ loop-system-preserved g c =
       passed = rw next (All-push (g.G.Gate.passed c.args.gate.now 0) _ _ c.loop-system.invariant.passed
           c.pass.ensures.passed);
       turned = λ s stands.
-          rw next (turned_more g.S.System.meaning (_ ∷ []) (c.loop-system.invariant.turned s stands) ran.state
+          rw next (turned_more g.S.SystemOf.meaning (_ ∷ []) (c.loop-system.invariant.turned s stands) ran.state
           (λ u here. rw (← ran.logged u here) c.in_ok-push.ensures.items));
     }
 

@@ -6,8 +6,8 @@ use Rattle.msg_exec.proofs.batch.run_turns.Given as goal
 
 abbrev pub invariant-loop-system : goal.invariant-loop-system
 invariant-loop-system g l = record {
-  turned : (s : State) → LenderStands g.S.System.meaning l.initial.lender s
-      → HasTurned g.S.System.meaning (take l.system-index l.systems) s l.lender l.initial.turns.items l.turns.items;
+  turned : (s : State g.V.Value.values) → LenderStands g.S.SystemOf.meaning l.initial.lender s
+      → HasTurned g.S.SystemOf.meaning (take l.system-index l.systems) s l.lender l.initial.turns.items l.turns.items;
   accesses : l.lender.accesses.items ≡ l.initial.lender.accesses.items;
   passed : All (g.G.Gate.passed l.gate 0) (take l.system-index l.systems);
 }

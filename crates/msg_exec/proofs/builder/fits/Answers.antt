@@ -5,7 +5,7 @@ use Rattle.msg_exec.proofs.builder.fits.Goals as goal
 
 pub returns : goal.returns
 returns g c =
-    let access = c.job_access.ensures.needs (g.S.System.meaning c.args.system.now).needs c.access.ensures.needs in
+    let access = c.job_access.ensures.needs (g.S.SystemOf.meaning c.args.system.now).needs c.access.ensures.needs in
     let used = uses_needs _ _ (rw c.as_slice.ensures.items at access) in
     record {
       fit = (

@@ -5,7 +5,7 @@ use Rattle.msg_exec.proofs.builder.numbered.Goals as goal
 
 pub loop-system-preserved : goal.loop-system-preserved
 loop-system-preserved g c =
-    let m = g.S.System.meaning in
+    let m = g.S.SystemOf.meaning in
     let inv = c.loop-system.invariant in
     let ys = c.loop-system.yielded in
     let number : c.len.result ≡ 0 + length (map m ys) = omega (arith, inv.as_many, c.len.ensures, length-map ys m) in

@@ -22,7 +22,7 @@ loop-i-preserved g c =
     let i = c.loop-i.i in
     let inv = c.loop-i.invariant in
     let xs = c.loop-i.accesses.items in
-    let m = g.S.System.meaning in
+    let m = g.S.SystemOf.meaning in
     let pushed : c.push.new.self.items ≡ xs ++ c.job_access-access.result ∷ [] = search rules in
     let system : (x : g.row.S.Denot) → slice_get c.args.systems.now i ≡ Some x → c.index-systems-i.result ≡ x =
     λ x there. c.index-systems-i.is ∙ get_or_from_slice_get c.args.systems.now i x _ there in

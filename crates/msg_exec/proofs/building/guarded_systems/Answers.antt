@@ -7,7 +7,7 @@ use Rattle.msg_exec.proofs.building.guarded_systems.Goals as goal
 pub loop-system-preserved : goal.loop-system-preserved
 loop-system-preserved g c =
     let inv = c.loop-system.invariant in
-    let m = g.S.System.meaning in
+    let m = g.S.SystemOf.meaning in
     let old = c.loop-system.yielded in
     let xs = c.loop-system.guarded.items in
     record {

@@ -6,5 +6,5 @@ use Rattle.msg_exec.proofs.building.guarded_systems.Given as goal
 abbrev pub invariant-loop-system : goal.invariant-loop-system
 invariant-loop-system g l = record {
   as_many : length l.guarded.items ≡ length l.yielded;
-  guarded : EachIs (IsGuardedAt g.S.System.meaning l.yielded l.places) l.guarded.items;
+  guarded : EachIs (IsGuardedAt g.S.SystemOf.meaning l.yielded l.places) l.guarded.items;
 }

@@ -3,4 +3,4 @@ use Rattle.msg_system.specs.Prelude.{new_asked}
 use Rattle.msg_exec.proofs.building.guards_of.Given as goal
 
 abbrev pub invariant-loop-condition : goal.invariant-loop-condition
-invariant-loop-condition l = l.guards.items ≡ map new_asked (take l.condition-index l.conditions)
+invariant-loop-condition g l = l.guards.items ≡ map new_asked (take l.condition-index l.conditions)

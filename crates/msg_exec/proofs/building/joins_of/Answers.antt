@@ -3,4 +3,4 @@ use Rattle.std.proofs.lemmas.Grind.{common_steps}
 use Rattle.msg_exec.proofs.building.joins_of.Goals as goal
 
 pub loop-place-preserved : goal.loop-place-preserved
-loop-place-preserved c = grind (arith, common_steps)
+loop-place-preserved g c = grind (arith, common_steps)

@@ -5,7 +5,7 @@ use Rattle.msg_exec.proofs.building.prepare.Goals as goal
 pub returns-in_err-check_rules-clause-refusal : goal.returns-in_err-check_rules-clause-refusal
 returns-in_err-check_rules-clause-refusal g c =
     let accesses = c.in_ok-accesses.ensures in
-    let none = none_clashes g.S.System.meaning c.args.systems.now _ _ accesses.as_many accesses.accesses in
+    let none = none_clashes g.S.SystemOf.meaning c.args.systems.now _ _ accesses.as_many accesses.accesses in
     grind (arith, c.in_err-check_rules.ensures.cycle, none, c.from_residual-in_err-check_rules.ensures)
 
 pub plan_by-requires-clause-no_cycle : goal.plan_by-requires-clause-no_cycle

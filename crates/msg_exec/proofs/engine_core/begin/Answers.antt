@@ -13,13 +13,13 @@ returns-in_default-clause-begun g c s stands is =
       plan = rw ((joining_keeps s).rules, nobody_more s none) stands.plan;
     }
 
-pub join_those-requires-clause-stands : goal.join_those-requires-clause-stands
-join_those-requires-clause-stands g c κs within =
+pub join_those-requires : goal.join_those-requires
+join_those-requires g c =
     let s = c.requires.stands.0 in
     let stands = c.requires.stands.1.0 in
     let next = rw c.in-Some.is at (c.in_ok-next.ensures.plan s stands c.requires.stands.1.1) in
     let fresh = about_to_join s stands.sound next.0 in
-    (s, (stands.lender, rw c.deref.ensures.value stands.schedule.joins, rw next.1 fresh))
+    record { stands = (s, (stands.lender, rw c.deref.ensures.value stands.schedule.joins, rw next.1 fresh)) }
 
 pub returns-clause-begun : goal.returns-clause-begun
 returns-clause-begun g c s stands is =

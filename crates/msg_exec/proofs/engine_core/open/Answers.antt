@@ -1,12 +1,19 @@
-use Rattle.std.proofs.Common.{arith, refl}
-use Rattle.msg_world.specs.Prelude.{WorldState, after_update}
+use Rattle.std.proofs.Common.{ℕ, ◌<◌, ◌∙◌, arith, refl}
+use Rattle.msg_world.specs.Prelude.{SameShape, WorldState, after_update}
 use Rattle.msg_frames.specs.Prelude.{after_joining}
 use Rattle.msg_frames.proofs.SystemsStay.{joining_world}
 use Rattle.msg_exec.proofs.{CoreRunsFrame.schedule_along, SystemAfterTurn.member_stays}
 use Rattle.msg_exec.proofs.engine_core.open.Goals as goal
 
-pub begin-requires-clause-stands : goal.begin-requires-clause-stands
-begin-requires-clause-stands g c κs within = c.requires.stands
+pub begin-requires : goal.begin-requires
+begin-requires g c = record { stands = c.requires.stands }
+
+pub post_all-requires-clause-whole : goal.post_all-requires-clause-whole
+post_all-requires-clause-whole g c p has =
+    let (s, (stands, is)) = c.requires.stands in
+    let whole = (c.in_ok-core.ensures.begun s stands is).lender.whole in
+    let shape = c.update_all.ensures.shape in
+    shape.there p ∙ whole p (rw (shape.size.types, shape.size.resources) at has)
 
 pub post_all-requires-clause-types : goal.post_all-requires-clause-types
 post_all-requires-clause-types g c =
@@ -17,12 +24,23 @@ pub returns : goal.returns
 returns g c = record {
   opened = λ s stands is.
       let has = c.in_ok-core.ensures.begun s stands is in
-      let w : WorldState = after_update (after_joining s).world in
+      let w : WorldState g.V.Value.values = after_update (after_joining s).world in
       let now = c.update_all.ensures.meaning (after_joining s).world has.lender.world in
+      let updated = c.update_all.ensures.shape in
+      let posted = c.in_ok-post_all.ensures.shape in
+      let shape : SameShape c.in_ok-core.core.lender.world _ = grind (arith, updated, posted) in
       record {
-        lender =
-            let stands = rw c.as_slice-posts.ensures.items at (c.in_ok-post_all.ensures.state w now) in
-            grind (arith, member_stays, has.lender, stands);
+        lender = record {
+          systems = has.lender.systems;
+          accesses = has.lender.accesses;
+          totals = has.lender.totals;
+          members = λ i lt. member_stays g.S.SystemOf.meaning c.in_ok-core.core.lender _ _ i _ refl refl refl shape
+              (has.lender.members i lt);
+          world = rw c.as_slice-posts.ensures.items at (c.in_ok-post_all.ensures.state w now);
+          whole = λ p there. shape.there p
+              ∙ has.lender.whole p (rw (shape.size.types, shape.size.resources) at there);
+          types = shape.size.types ∙ has.lender.types;
+        };
         schedule = schedule_along refl refl (grind arith) has.schedule;
         plan = has.plan;
         posts = rw (c.as_slice-posts.ensures.items, joining_world) at (c.in_ok-post_all.ensures.replies w now);

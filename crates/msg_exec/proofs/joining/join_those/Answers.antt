@@ -15,7 +15,7 @@ loop-i-preserved-then-joins-i g c =
     let i = c.loop-i.i in
     record {
       so_far = λ s stands joins fresh.
-          members_alike g.S.System.meaning c.loop-i.lender (joined_below i c.args.frame s)
+          members_alike g.S.SystemOf.meaning c.loop-i.lender (joined_below i c.args.frame s)
           (joined_below (i + 1) c.args.frame s).members
           (λ j lt. let none = joins.each i (omega (arith, joins.as_many)) in grind (arith, nat_tests, none))
           (inv.so_far s stands joins fresh);
@@ -25,14 +25,16 @@ loop-i-preserved-then-joins-i g c =
       world = inv.world;
     }
 
-pub begin-requires-clause-few : goal.begin-requires-clause-few
-begin-requires-clause-few g c κs within =
+pub begin-requires : goal.begin-requires
+begin-requires g c =
     let (s, (stands, joins, fresh)) = c.requires.stands in
     let now = c.loop-i.invariant.so_far s stands joins fresh in
-    let its = totals_there g.S.System.meaning now c.index_mut-in-loop-i.ensures.value
+    let its = totals_there g.S.SystemOf.meaning now c.index_mut-in-loop-i.ensures.value
     (omega (arith, joins.as_many)) in
-    rw (c.deref_mut.ensures.value, its.as_many)
-    (omega (arith, stands.types, c.counts-counts.ensures.few, c.counts-counts.ensures.types))
+    record {
+      few = rw (c.deref_mut.ensures.value, its.as_many)
+          (omega (arith, stands.types, c.counts-counts.ensures.few, c.counts-counts.ensures.types));
+    }
 
 pub loop-i-preserved : goal.loop-i-preserved
 loop-i-preserved g c =
@@ -41,11 +43,11 @@ loop-i-preserved g c =
     record {
       so_far = λ s stands joins fresh.
           let lt : i < s.systems = omega (arith, joins.as_many) in
-          let m = g.S.System.meaning in
+          let m = g.S.SystemOf.meaning in
           let lender = c.loop-i.lender in
           let cs = c.counts-counts.result in
           let x = c.begin.new.slot in
-          let member : Member = s.members i in
+          let member : Member g.row.V.Denot = s.members i in
           let far = c.loop-i.invariant.so_far s stands joins fresh in
           let its = totals_there m far c.index_mut-in-loop-i.ensures.value lt in
           let w = with_items c.index_mut-in-loop-i.result.now c.begin.new.totals in
@@ -61,7 +63,7 @@ loop-i-preserved g c =
           fill_by_all (λ t. count (s.world.histories t)) cs s.types 0
           (c.counts-counts.ensures.types ∙ stands.types) (λ k lt. grind (arith, get_or_from_slice_get)) in
           let here = rw (le-ltb i i (omega arith)) at (far.members i lt) in
-          let a = some_under _ (λ (b : Box (GuardedSystem g.row.S.Denot)). b.value) slot (rw there at here.guarded) in
+          let a = some_under _ (λ (b : Box (GuardedSystem g.row.S.Denot g.row.V.Denot)). b.value) slot (rw there at here.guarded) in
           let b = some_of x (rw a.1.0 at c.begin.ensures.begun) in
           let opened = rw a.1.0 at c.begin.ensures.opened in
           let joined : (s.members i).join ≡ c.args.frame = sym (joins.each i lt) ∙ c.if-joins-i.false in
@@ -78,7 +80,7 @@ loop-i-preserved g c =
                 totals = rw (get_same lender.totals.items i w (omega (arith, lt, far.totals))) (record {
                   as_many = many;
                   each = λ t below. rw read (opened t (rw (← c.begin.ensures.as_many, ← read, many) below)
-                      ∙ ap (λ (j : JobState). totals_from (first_place j.system cs t)) a.1.1
+                      ∙ ap (λ (j : JobState g.row.V.Denot). totals_from (first_place j.system cs t)) a.1.1
                       ∙ rw (fresh i t joined) refl);
                 });
               })
@@ -99,7 +101,7 @@ loop-i-preserved g c =
 
 pub returns-clause-joined : goal.returns-clause-joined
 returns-clause-joined g c s stands joins fresh =
-    members_alike g.S.System.meaning c.loop-i.lender (joined_below c.loop-i.i c.args.frame s)
+    members_alike g.S.SystemOf.meaning c.loop-i.lender (joined_below c.loop-i.i c.args.frame s)
     (with_joining c.args.frame s).members
     (λ j lt. grind (arith, nat_tests))
     (c.loop-i.invariant.so_far s stands joins fresh)

@@ -8,5 +8,5 @@ abbrev pub invariant-loop-t : goal.invariant-loop-t
 invariant-loop-t g l = record {
   as_many : length l.totals ≡ length l.initial.totals;
   opened : (u : ℕ) → u < l.t → totals_at l.totals u
-      ≡ totals_from (first_place (g.S.System.meaning l.system) l.counts u);
+      ≡ totals_from (first_place (g.S.SystemOf.meaning l.system) l.counts u);
 }

@@ -3,19 +3,21 @@ use Rattle.std.proofs.lemmas.List.{get_or-set_other, get_or-set_same, length-set
 use Rattle.msg_exec.proofs.{BatchOfOne.may_come_home, BatchOfOne.may_take_turn, BatchOfOne.turn_is_logged, BatchOfOne.turn_taken, EntriesAreAdded.entered_there}
 use Rattle.msg_exec.proofs.lender.run_turn.Goals as goal
 
-pub take_turn-requires-clause-may : goal.take_turn-requires-clause-may
-take_turn-requires-clause-may g c =
+pub take_turn-requires : goal.take_turn-requires
+take_turn-requires g c =
     let (s, (stands, lt)) = c.requires.stands in
-    let may = may_take_turn g.S.System.meaning c.args.number stands lt c.index.ensures c.index_mut.ensures.value
+    let may = may_take_turn g.S.SystemOf.meaning c.args.number stands lt c.index.ensures c.index_mut.ensures.value
     (sym c.take.ensures.value ∙ c.in-Some.is) c.in_ok-taken.ensures.lent in
-    rw c.deref_mut.ensures.value (may.loan, may.access)
+    record { empty = c.replies-replies.ensures.empty; loan = may.loan; access = rw c.deref_mut.ensures.value may.access }
 
-pub enter-requires-clause-few : goal.enter-requires-clause-few
-enter-requires-clause-few g c κs within =
+pub enter-requires : goal.enter-requires
+enter-requires g c =
     let (s, (stands, lt)) = c.requires.stands in
-    (may_come_home g.S.System.meaning c.args.number stands lt c.index.ensures c.index_mut.ensures.value
-    (sym c.take.ensures.value ∙ c.in-Some.is) c.in_ok-taken.ensures.lent
-    (rw c.deref_mut.ensures.value at c.in_ok-taken-2.ensures.took)).few
+    record {
+      few = (may_come_home g.S.SystemOf.meaning c.args.number stands lt c.index.ensures c.index_mut.ensures.value
+          (sym c.take.ensures.value ∙ c.in-Some.is) c.in_ok-taken.ensures.lent
+          (rw c.deref_mut.ensures.value at c.in_ok-taken-2.ensures.took)).few;
+    }
 
 pub returns-clause-state : goal.returns-clause-state
 returns-clause-state g c s stands =
@@ -24,7 +26,7 @@ returns-clause-state g c s stands =
     let systems = c.args.lender.now.systems.items in
     let out = set systems i c.take.new.self in
     let there : i < length systems = omega (arith, lt, stands.systems) in
-    turn_taken g.S.System.meaning i stands lt c.index.ensures c.index_mut.ensures.value
+    turn_taken g.S.SystemOf.meaning i stands lt c.index.ensures c.index_mut.ensures.value
     (sym c.take.ensures.value ∙ c.in-Some.is) c.in_ok-taken.ensures.lent
     (rw c.deref_mut.ensures.value at c.in_ok-taken-2.ensures.took)
     (record {
@@ -37,7 +39,7 @@ returns-clause-state g c s stands =
       totals = (
         _,
         refl,
-        entered_there g.S.System.meaning _ c.args.lender.now.totals.items {now = c.enter.new.totals}
+        entered_there g.S.SystemOf.meaning _ c.args.lender.now.totals.items {now = c.enter.new.totals}
             c.index_mut-2.ensures.value c.deref_mut-2.ensures.value
             (omega (arith, c.enter.ensures.as_many, c.deref_mut-2.ensures.len))
             (record {
@@ -52,6 +54,6 @@ returns-clause-state g c s stands =
 pub returns-clause-logged : goal.returns-clause-logged
 returns-clause-logged g c s stands =
     let lt = rw (sym c.requires.stands.1.0.accesses ∙ stands.accesses) at c.requires.stands.1.1 in
-    turn_is_logged g.S.System.meaning c.args.number stands lt c.index.ensures c.index_mut.ensures.value
+    turn_is_logged g.S.SystemOf.meaning c.args.number stands lt c.index.ensures c.index_mut.ensures.value
     (sym c.take.ensures.value ∙ c.in-Some.is) c.in_ok-taken.ensures.lent
     (rw c.deref_mut.ensures.value at c.in_ok-taken-2.ensures.took)

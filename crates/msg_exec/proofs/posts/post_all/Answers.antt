@@ -1,32 +1,29 @@
-use Rattle.std.proofs.Common.{ℕ, ℤ, ◌∙◌, refl, arith, take, rules}
-use Rattle.std.proofs.lemmas.{List.length_push, List.take_all, List.take_more, Int.to_z-of_z, Option.slice_get_read}
-use mir.Val.{SFits}
-use mir.Syntax.{w64}
+use Rattle.std.proofs.Common.{ℕ, ◌∙◌, refl, arith, take, rules}
+use Rattle.std.proofs.lemmas.{List.length_push, List.take_all, List.take_more, Option.slice_get_read}
 use Rattle.msg_world.specs.Prelude.{OfType}
 use Rattle.msg_frames.specs.Prelude.{after_posts}
 use Rattle.msg_exec.proofs.PostsAreWritten.{if_refused, posted_more, replies_more}
 use Rattle.msg_exec.proofs.posts.post_all.Goals as goal
 
 pub post-requires : goal.post-requires
-post-requires c =
-    let p : ℕ × ℤ = c.loop-t-item.result in
+post-requires g c =
+    let p : ℕ × g.row.V.Denot = c.loop-t-item.result in
     record {
       home = c.loop-t.invariant.shape.there (OfType p.0)
           ∙ c.requires.whole (OfType p.0) (rw c.loop-t-item.is (c.requires.types c.loop-t.t-index p (omega arith)));
     }
 
 pub loop-t-preserved : goal.loop-t-preserved
-loop-t-preserved c =
-    let p : ℕ × ℤ = c.loop-t-item.result in
+loop-t-preserved g c =
+    let p : ℕ × g.row.V.Denot = c.loop-t-item.result in
     let did = c.in_ok-reply.ensures in
-    let fits : SFits w64 p.1 = search rules in
     record {
       so_far = λ w stands.
           let k = c.loop-t.t-index in
           let ps = c.args.posts.now in
           let far = c.loop-t.invariant.so_far w stands in
           rw (c.in-Ok.ensures.items, take_more ps k p c.loop-t-test.true, ← c.loop-t-item.is) (
-            rw (posted_more (take k ps) p w) ((rw (to_z-of_z w64 p.1 fits) at did.state) _ far.0),
+            rw (posted_more (take k ps) p w) (did.state _ far.0),
             rw (replies_more (take k ps) p w, ← did.reply _ far.0, far.1) refl,
           );
       shape = grind arith;
@@ -35,7 +32,7 @@ loop-t-preserved c =
     }
 
 pub returns-in_err-reply-clause-no_memory : goal.returns-in_err-reply-clause-no_memory
-returns-in_err-reply-clause-no_memory c =
+returns-in_err-reply-clause-no_memory g c =
     let k : ℕ = c.loop-t.t-index in
     if_refused c.from_residual.result (λ w stands. (
       k,
@@ -48,5 +45,5 @@ returns-in_err-reply-clause-no_memory c =
     ))
 
 pub returns-clause-state : goal.returns-clause-state
-returns-clause-state c w stands =
+returns-clause-state g c w stands =
     (rw (take_all c.loop-t.t-index c.args.posts.now (omega arith)) at (c.loop-t.invariant.so_far w stands)).0

@@ -6,7 +6,7 @@ pub returns-in-Some : goal.returns-in-Some
 returns-in-Some g c = record {
   lawful = λ s stands is frame.
       let next = rw c.in-Some.is at (c.in_ok-plan.ensures.plan s stands is) in
-      accepted g.S.System.meaning frame c.args.order.now stands next.2
+      accepted g.S.SystemOf.meaning frame c.args.order.now stands next.2
       (c.accepts.ensures.lawful _ _ _ next.2);
 }
 
@@ -15,6 +15,6 @@ returns-in-None g c = record {
   lawful = λ s stands is frame.
       let plan : PlansNext c.args.core.now s c.args.core.now.plan =
       rw (nobody_more s (rw c.in-None.is at (c.in_ok-plan.ensures.plan s stands is))) stands.plan in
-      accepted g.S.System.meaning frame c.args.order.now stands plan
+      accepted g.S.SystemOf.meaning frame c.args.order.now stands plan
       (c.accepts-in-None.ensures.lawful _ _ _ plan);
 }

@@ -11,7 +11,7 @@ pub run_turns-requires-clause-stands : goal.run_turns-requires-clause-stands
 run_turns-requires-clause-stands g c κs within =
     let (s, (stands, is)) = c.requires.stands in
     let lawful = (c.requires.lawful s stands is).lawful in
-    let bt : State = before_turns c.args.frame.now.posts s in (
+    let bt : State g.V.Value.values = before_turns c.args.frame.now.posts s in (
       bt,
       (
         (c.in_ok-core.ensures.opened s stands is).lender,
@@ -22,12 +22,12 @@ run_turns-requires-clause-stands g c κs within =
 pub returns : goal.returns
 returns g c = record {
   replayed = λ s stands is.
-      let m = g.S.System.meaning in
+      let m = g.S.SystemOf.meaning in
       let frame = c.args.frame.now in
       let order = c.args.order.now in
       let has = c.in_ok-core.ensures.opened s stands is in
       let lawful = c.requires.lawful s stands is in
-      let bt : State = before_turns frame.posts s in
+      let bt : State g.V.Value.values = before_turns frame.posts s in
       let told = logged_in frame order s _ c.in_ok-core.posts.items c.from_vec.ensures.items has.posts
       (c.from_vec-2.ensures.items ∙ c.in_ok-run_turns.ensures.turns bt has.lender
       ∙ ap (λ ts. ts ++ (after_turns_of order bt).turns) c.in_ok-turns.ensures.empty) in
@@ -38,8 +38,8 @@ returns g c = record {
       (record {
         lawful = lawful;
         tells = record {
-          posts = ap (λ (l : Log). l.posts) told ∙ alike.1.posts;
-          turns = rw (ap (λ (l : Log). l.turns) told) alike.1.turns;
+          posts = ap (λ (l : Log g.row.V.Denot). l.posts) told ∙ alike.1.posts;
+          turns = rw (ap (λ (l : Log g.row.V.Denot). l.turns) told) alike.1.turns;
         };
         in_order = in_that_order frame order s _ told;
       })

@@ -5,8 +5,8 @@ use Rattle.msg_exec.proofs.EntriesAreAdded.{kept_alike}
 use Rattle.msg_exec.proofs.totals.add.Goals as goal
 
 pub returns-in-Cleared : goal.returns-in-Cleared
-returns-in-Cleared c = record {
+returns-in-Cleared g c = record {
   added = λ x is.
       let told = ap (λ r. with_entries (option_to_list (entry_of r)) x) c.in-Cleared.is in
-      kept_alike (told ∙ with_clear c.in-Cleared.missed c.in-Cleared.first c.in-Cleared.n x) (search rules);
+      kept_alike (told ∙ with_clear g.row.V.Denot c.in-Cleared.missed c.in-Cleared.first c.in-Cleared.n x) (search rules);
 }

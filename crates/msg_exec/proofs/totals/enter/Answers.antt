@@ -10,7 +10,7 @@ use Rattle.msg_exec.proofs.totals.enter.Goals as goal
 pub loop-reply-preserved : goal.loop-reply-preserved
 loop-reply-preserved g c =
     let inv = c.loop-reply.invariant in
-    let ops = (g.S.System.meaning c.args.system.now).last in
+    let ops = (g.S.SystemOf.meaning c.args.system.now).last in
     let k = c.loop-reply.reply-index in
     let replies = c.as_slice-reply-items.result.now in
     record {
@@ -30,7 +30,7 @@ loop-reply-preserved g c =
 
 pub returns-clause-entered : goal.returns-clause-entered
 returns-clause-entered g c t x lt is =
-    let ops = (g.S.System.meaning c.args.system.now).last in
+    let ops = (g.S.SystemOf.meaning c.args.system.now).last in
     let far = c.loop-reply.invariant.entered t x lt is in
     let end = drop_all c.loop-reply.reply-index c.as_slice-reply-items.result.now c.loop-reply-test.false in
     rw (c.in-Ran.is, ← c.as_slice-reply-items.ensures.items)

@@ -11,7 +11,7 @@ invariant-loop-reply g l = record {
   as_many : length l.totals ≡ length l.initial.totals;
   entered : (t : ℕ) (x : TotalsOf) → t < length l.initial.totals → totals_at l.initial.totals t ≡ capped_totals x
       → (y : TotalsOf) × (totals_at l.totals t ≡ capped_totals y)
-      × (with_entries (entries_for t (drop l.reply-index (g.S.System.meaning l.system).last)
+      × (with_entries (entries_for t (drop l.reply-index (g.S.SystemOf.meaning l.system).last)
       (drop l.reply-index l.reply-items)) y
-      ≡ with_entries (entries_for t (g.S.System.meaning l.system).last l.reply-items) x);
+      ≡ with_entries (entries_for t (g.S.SystemOf.meaning l.system).last l.reply-items) x);
 }

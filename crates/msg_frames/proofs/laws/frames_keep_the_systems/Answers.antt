@@ -2,4 +2,4 @@ use Rattle.msg_frames.proofs.SystemsStay.{frames_keep}
 use Rattle.msg_frames.proofs.laws.frames_keep_the_systems.Goals as goal
 
 pub returns : goal.returns
-returns c = record { law = frames_keep }
+returns g c = record { law = frames_keep }

@@ -2,6 +2,6 @@ use Rattle.msg_frames.proofs.ProgramsReadAll as programs
 use Rattle.msg_frames.proofs.reader_laws.programs_read_all.Goals as goal
 
 pub returns : goal.returns
-returns c =
+returns g c =
     let grows = c.histories_only_grow.ensures.grows in
     record { law = programs.programs_read_all grows c.a_program_is_its_ops_in_order.ensures.law }

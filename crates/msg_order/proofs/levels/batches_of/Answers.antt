@@ -1,17 +1,16 @@
-use Rattle.std.proofs.Common.{◌∙◌, arith}
-use Rattle.std.proofs.lemmas.{Bool.Decides.nat_tests, List.map-append}
-use Rattle.msg_order.specs.{inner.SystemSet.has, inner.SystemSet.meets, inner.Paths.set_at}
-use Rattle.msg_order.proofs.BatchLevels.{LeadAmong, peeled_next, peeled_all, peeled_done, left_falls, sets_tell}
+use Rattle.std.proofs.Common.{◌≡◌, ℕ, ◌+◌, ◌-◌, Bool, not, ◌&&◌, List, ◌++◌, filter, length, map, refl, ap, sym, ◌∙◌, arith}
+use Rattle.std.specs.List.{range_with_len}
+use Rattle.std.proofs.lemmas.{Bool.Decides.nat_tests, List.append-nil, List.length-map, List.length_push, List.map-append}
+use Rattle.msg_order.specs.{Prelude.batches_of, Prelude.has_joined, inner.SystemSet.has, inner.SystemSet.meets, inner.Paths.set_at}
+use Rattle.msg_order.proofs.{BatchLevels.few_left, BatchLevels.left_falls, BatchLevels.left_of, BatchLevels.level, BatchLevels.levels_done, BatchLevels.sets_stop, Functions.out_next}
 use Rattle.msg_order.proofs.levels.batches_of.Goals as goal
 
-pub returns-then-is_empty-clause-batches : goal.returns-then-is_empty-clause-batches
-returns-then-is_empty-clause-batches _g c = λ g systems h set among free.
-    let lead : LeadAmong g (has c.args.joined.now) = λ i j e. let q = among i j e in (set i ∙ q.0, set j ∙ q.1) in
-    let tells = sets_tell g c.args.before.now c.levels.left h (λ k l. grind (arith, c.levels.invariant.within k l)) in
-    let peeled = c.levels.invariant.peeled g h lead in
-    peeled_done g systems _ _ _ set peeled
-    (peeled_all g _ _ _ _ _ _ free c.requires.within tells peeled.left_is c.in_ok-batch.ensures.ready
-    (grind (arith, nat_tests)))
+pub levels-init : goal.levels-init
+levels-init _g c = record {
+  within = c.requires.within;
+  few = rw (c.new-batches.ensures.items) (omega (arith, few_left (has c.args.joined.now) (length c.args.before.now)));
+  out = λ g paths steps. rw (c.new-batches.ensures.items) (ap (λ (k : ℕ). batches_of k g (left_of (has c.args.joined.now) (length c.args.before.now))) (omega arith));
+}
 
 pub levels-smaller : goal.levels-smaller
 levels-smaller _g c =
@@ -21,9 +20,32 @@ levels-smaller _g c =
 pub levels-preserved : goal.levels-preserved
 levels-preserved _g c = record {
   within = λ k e. grind (arith, c.levels.invariant.within k, c.in_ok-batch.ensures.next k);
-  peeled = λ g h lead.
-      let tells = sets_tell g c.args.before.now c.levels.left h (λ k l. grind (arith, c.levels.invariant.within k l)) in
+  few = rw (c.in_ok-push.ensures.items) (omega (arith, c.levels.invariant.few, length_push c.levels.batches.items c.in_ok-batch.batch, levels-smaller _g c));
+  out = λ g paths.
+      let n : ℕ = length c.args.before.now in
+      let left : ℕ → Bool = has c.levels.left in
+      let tells = sets_stop g left n c.levels.invariant.within c.args.before.now c.levels.left paths c.requires.few (λ i. refl) in
+      let batch_is : c.in_ok-batch.batch.items ≡ level g left n = c.in_ok-batch.ensures.ready
+      ∙ ap (λ (p : ℕ → Bool). filter p (range_with_len 0 n)) (λ k i. left i && not (sym (tells i) k)) in
       rw (c.in_ok-push.ensures.items, map-append)
-      (peeled_next g _ _ _ _ _ _ _ lead c.requires.within tells (c.levels.invariant.peeled g h lead)
-      c.in_ok-batch.ensures.ready (grind (arith, nat_tests)) c.in_ok-batch.ensures.next);
+      (out_next g (has c.args.joined.now) left (has c.in_ok-batch.next) n _ _ batch_is (grind (arith, nat_tests))
+      (λ i. c.in_ok-batch.ensures.next i ∙ ap (λ (b : Bool). left i && b) (sym (tells i)))
+      (c.levels.invariant.out g paths));
 }
+
+pub returns-then-is_empty-clause-batches : goal.returns-then-is_empty-clause-batches
+returns-then-is_empty-clause-batches _g c = λ g systems paths set len free.
+    let n : ℕ = length c.args.before.now in
+    let left : ℕ → Bool = has c.levels.left in
+    let made : List (List ℕ) = map (λ b. b.items) c.levels.batches.items in
+    let within = c.levels.invariant.within in
+    let tells = sets_stop g left n within c.args.before.now c.levels.left paths c.requires.few (λ i. refl) in
+    let batch_is : c.in_ok-batch.batch.items ≡ level g left n = c.in_ok-batch.ensures.ready
+    ∙ ap (λ (p : ℕ → Bool). filter p (range_with_len 0 n)) (λ k i. left i && not (sym (tells i) k)) in
+    let none : length (level g left n) ≡ 0 = sym (ap length batch_is) ∙ grind (arith, nat_tests) in
+    let more : ℕ = n - length made in
+    let steps : length made + more ≡ length systems = omega (arith, len, c.levels.invariant.few, length-map c.levels.batches.items (λ b. b.items)) in
+    let all = rw steps at (c.levels.invariant.out g paths more) in
+    let firsts : left_of (has c.args.joined.now) n ≡ left_of (has_joined systems) (length systems) =
+    rw len (ap (λ (l : ℕ → Bool). left_of l n) (λ k i. set i k)) in
+    sym (rw firsts at all ∙ ap (λ (rest : List (List ℕ)). made ++ rest) (levels_done g left n within free none more) ∙ append-nil _)

@@ -1,11 +1,12 @@
-use Rattle.std.proofs.Common.{length}
-use Rattle.msg_order.specs.{Prelude.AreInConflict, Prelude.Graph, inner.Paths.ArePaths, inner.Paths.AreStarts}
-use Rattle.msg_order.proofs.SetPaths.{IsOnWay}
+use Rattle.std.proofs.Common.{ℕ, Bool, length}
+use Rattle.msg_order.specs.{Prelude.Graph, Prelude.TellsConflicts, Prelude.settle, inner.Paths.ArePaths, inner.Paths.AreStarts, inner.Paths.conflict_among}
+use Rattle.msg_order.proofs.SettledPairs.{pairs_until}
 use Rattle.msg_order.proofs.paths.settle_pairs.Given as goal
 
 abbrev pub invariant-loop-i : goal.invariant-loop-i
 invariant-loop-i l = record {
-  settled : (g : Graph) → ArePaths g l.fn.before
-      → IsOnWay (AreInConflict l.accesses l.joined) g (length l.accesses) l.i l.before;
+  settled : (g : Graph) → ArePaths g l.fn.before → (conflict : ℕ → ℕ → Bool)
+      → TellsConflicts l.accesses l.joined conflict
+      → ArePaths (settle (conflict_among l.joined conflict) g (pairs_until (length l.joined) l.i)) l.before;
   starts : AreStarts l.before l.starts;
 }

@@ -1,19 +1,19 @@
 use Rattle.std.proofs.Common.{◌≡◌, ℕ, List, Bool, length, map, refl, ap, ◌∙◌, arith}
 use Rattle.std.specs.{List.concat, Vec.with_items}
 use Rattle.std.proofs.lemmas.List.{with_items_is}
-use Rattle.msg_order.specs.Prelude.{AreBatches, Graph, IsAmong, IsTurnOrder, SystemSet}
-use Rattle.msg_order.proofs.{PathTest.from_Path, PathTest.to_Path, SetPaths.settled_joins, SetPaths.settled_free, TurnOrders.in_lawful_order, TurnOrders.in_turn_order, TurnOrders.none_conflict, PlanViews.seen_edges, PlanViews.systems-view, PlanViews.sets_kept}
+use Rattle.msg_order.specs.Prelude.{AreBatches, Graph, IsAmong, SystemSet, settled}
+use Rattle.msg_order.proofs.{Functions.batches_are, PathTest.from_Path, PathTest.to_Path, SettledOrders.settled_among, SettledOrders.settled_is, SettledOrders.settled_no_cycle, SettledOrders.some_test, TurnOrders.in_lawful_order, TurnOrders.in_turn_order, TurnOrders.none_conflict, PlanViews.seen_edges, PlanViews.systems-view, PlanViews.sets_kept}
 use Rattle.msg_order.proofs.plan.plan_over.Goals as goal
 
 pub invariant_of-result : goal.invariant_of-result
 invariant_of-result _g c =
     let joined : List Bool = c.args.joined.now in
     let before : List SystemSet = c.settle.new.before in
-    let settled = c.in_default.ensures.1 in
+    let test = some_test c.args.accesses.now joined in
     let is : (with_items c.args.before before).items ≡ before = with_items_is c.args.before before (omega arith) in
-    rw is (sets_kept settled.0 joined before c.set_of-joined.result (omega (arith, c.requires.as_many))
-    (omega (arith, c.requires.as_many)) settled.1.0 c.set_of-joined.ensures
-    (settled_joins _ c.args.rules.now joined _ settled.0 (λ i j at. (at.first_joined, at.second_joined)) settled.1.1))
+    rw is (sets_kept (settled test.0 c.args.rules.now joined) joined before c.set_of-joined.result
+    (omega (arith, c.requires.as_many)) (omega (arith, c.requires.as_many)) (c.in_default.ensures.1 test.0 test.1)
+    c.set_of-joined.ensures (settled_among c.args.rules.now joined test.0))
 
 pub returns-clause-plan : goal.returns-clause-plan
 returns-clause-plan _g c =
@@ -22,20 +22,20 @@ returns-clause-plan _g c =
     let joined : List Bool = c.args.joined.now in
     let set : SystemSet = c.set_of-joined.result in
     let batches : List (List ℕ) = map (λ b. b.items) c.in_ok-batches.batches.items in
-    let order : Graph = c.in_default.ensures.1.0 in
-    let paths = c.in_default.ensures.1.1.0 in
-    let settled = c.in_default.ensures.1.1.1 in
+    let test = some_test accesses joined in
+    let order : Graph = settled test.0 rules joined in
+    let paths = c.in_default.ensures.1 test.0 test.1 in
+    let is_settled = settled_is accesses rules joined test.0 c.requires.one_each test.1 in
     let is : (with_items c.args.before c.settle.new.before).items ≡ c.settle.new.before =
     with_items_is c.args.before c.settle.new.before (omega arith) in
-    let among : IsAmong joined order =
-    settled_joins _ rules joined _ order (λ i j at. (at.first_joined, at.second_joined)) settled in
-    let classes : AreBatches order joined batches =
-    c.in_ok-batches.ensures.batches order joined (rw (c.deref.ensures.value ∙ is) paths) c.set_of-joined.ensures among
-    (settled_free _ (length accesses) _ order settled c.in_default.ensures.0) in
-    let turns : IsTurnOrder order joined (concat batches) = in_turn_order order joined batches classes in
+    let among : IsAmong joined order = settled_among rules joined test.0 in
+    let free = settled_no_cycle rules joined test.0 c.in_default.ensures.0 in
+    let made = c.in_ok-batches.ensures.batches order joined (rw (c.deref.ensures.value ∙ is) paths) c.set_of-joined.ensures
+    (omega (arith, c.requires.as_many, c.requires.one_each, ap length (c.deref.ensures.value ∙ is))) free in
+    let classes : AreBatches order joined batches = rw made (batches_are order joined among free) in
     record {
       order = order;
-      settled = settled;
+      settled = is_settled;
       systems = systems-view joined set _ (omega (arith, c.requires.as_many, ap length is)) c.set_of-joined.ensures;
       among = among;
       paths = λ i j.
@@ -43,7 +43,7 @@ returns-clause-plan _g c =
           let at = rw (← is) at (paths i j) in
           grind (arith, edges, at, to_Path order i j, from_Path order i j);
       classes = classes;
-      apart = none_conflict accesses rules joined order batches c.requires.one_each settled classes;
-      turns = turns;
-      lawful = in_lawful_order order joined (concat batches) among turns;
+      apart = none_conflict accesses rules joined order batches c.requires.one_each is_settled classes;
+      computed = made;
+      lawful = in_lawful_order order joined (concat batches) among (in_turn_order order joined batches classes);
     }

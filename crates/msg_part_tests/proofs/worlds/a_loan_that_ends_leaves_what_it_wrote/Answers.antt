@@ -1,10 +1,10 @@
-use Rattle.std.proofs.Common.{subst, sym}
+use Rattle.std.proofs.Common.{subst, sym, ℤ}
 use Rattle.msg_world.specs.Prelude.{IsApart, Parts}
 use Rattle.msg_part_tests.proofs.worlds.a_loan_that_ends_leaves_what_it_wrote.Goals as goal
 
 pub take_back-requires : goal.take_back-requires
 take_back-requires g c =
-    let Q : Parts → Type 0 = λ w. IsApart w c.lend_out.new.self in
+    let Q : Parts ℤ → Type 0 = λ w. IsApart w c.lend_out.new.self in
     let lent = rw c.expect-taken.ensures at c.lend_out.ensures.lent in
     record {
       apart = subst Q (sym c.into_taken-taken.ensures.taken)

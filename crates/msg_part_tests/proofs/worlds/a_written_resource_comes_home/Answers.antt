@@ -1,8 +1,8 @@
-use Rattle.std.proofs.Common.{subst, sym, ◌∙◌}
+use Rattle.std.proofs.Common.{subst, sym, ◌∙◌, ℤ}
 use Rattle.msg_world.specs.Prelude.{Parts, SameShape}
 use Rattle.msg_part_tests.proofs.worlds.a_written_resource_comes_home.Goals as goal
 
-then_same : (x y z : Parts) → SameShape x y → SameShape y z → SameShape x z
+then_same : (x y z : Parts ℤ) → SameShape x y → SameShape y z → SameShape x z
 then_same x y z a b = record {
   size = record { types = b.size.types ∙ a.size.types; resources = b.size.resources ∙ a.size.resources };
   there = λ p. b.there p ∙ a.there p;

@@ -6,7 +6,7 @@ use Rattle.msg_reports.proofs.building.add_system.Goals as goal
 
 pub returns-clause-so_far : goal.returns-clause-so_far
 returns-clause-so_far g c =
-    let m = g.S.System.meaning in
+    let m = g.S.SystemOf.meaning in
     let specs = c.args.specs.now in
     let systems = c.args.systems.now.items in
     rw c.in_ok-push.ensures.items

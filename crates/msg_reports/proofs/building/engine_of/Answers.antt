@@ -3,25 +3,25 @@ use Rattle.msg_reports.proofs.EngineIsMade.{all_made, may_add, no_clash}
 use Rattle.msg_reports.proofs.building.engine_of.Goals as goal
 
 pub new-requires-clause-each : goal.new-requires-clause-each
-new-requires-clause-each g c κs within =
+new-requires-clause-each g c =
     let s = c.args.scenario.now in
-    let added = may_add g.S.System.meaning s c.args.systems.items c.requires.as_many c.requires.each in
+    let added = may_add g.S.SystemOf.meaning s c.args.systems.items c.requires.as_many c.requires.each in
     rw c.in_ok-places.ensures.places (added c.in_ok-world.world c.requires.runnable c.in_ok-world.ensures.types
     c.in_ok-world.ensures.resources)
 
 pub returns-in-Ok : goal.returns-in-Ok
 returns-in-Ok g c =
     let s = c.args.scenario.now in
-    let made = all_made g.S.System.meaning s c.args.systems.items c.requires.as_many c.requires.each in
+    let made = all_made g.S.SystemOf.meaning s c.args.systems.items c.requires.as_many c.requires.each in
     record {
       meaning = rw
           (made, c.in_ok-places.ensures.places, c.in_ok-rules.ensures.rules, c.in_ok-world.ensures.types)
-          at (c.in-Ok.ensures.meaning (first_world s) c.in_ok-world.ensures.meaning);
+          at (c.in-Ok.ensures.since (first_world s) c.in_ok-world.ensures.meaning).stands;
     }
 
 pub unreachable-requires : goal.unreachable-requires
 unreachable-requires g c =
-    no_clash g.S.System.meaning c.args.scenario.now c.args.systems.items c.requires.as_many c.requires.each
+    no_clash g.S.SystemOf.meaning c.args.scenario.now c.args.systems.items c.requires.as_many c.requires.each
     c.in-Err-Clash.field-0-0 c.requires.runnable (rw c.in-Err-Clash.field-0-is at c.in-Err-Clash.ensures.refusal)
 
 pub unreachable-requires-in-Err-Cycle : goal.unreachable-requires-in-Err-Cycle

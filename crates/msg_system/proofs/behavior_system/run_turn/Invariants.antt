@@ -7,7 +7,7 @@ abbrev pub invariant-loop-done : goal.invariant-loop-done
 invariant-loop-done g l =
     let b = g.B.Behavior in let next = next_kept (needs_of l.access) b.next_op (b.memory l.behavior) in
     record {
-      so_far : (s : WorldState) → LoanStands l.initial.lent s
+      so_far : (s : WorldState g.B.Value.Value.values) → LoanStands l.initial.lent s
           → IsAfterProgram (after_at_most l._done next l.writer (cursor_places l.initial.cursors) s)
           (cursor_places l.cursors) l.lent l.initial.out.items l.out.items;
       long : l.before ≡ length l.initial.out.items;

@@ -2,4 +2,4 @@ use Rattle.msg_world.specs.Prelude.{OfType}
 use Rattle.msg_system.proofs.lending.messages_of.Goals as goal
 
 pub returns : goal.returns
-returns c = record { stands = λ s stand. rw (← c.in-Some.ensures.shown) at (stand (OfType c.args.t)) }
+returns g c = record { stands = λ s stand. rw (← c.in-Some.ensures.shown) at (stand (OfType c.args.t)) }

@@ -14,4 +14,4 @@ enough_copied f unread copied limit rest split long =
     rw (← same, ← take-map, split) (sym (take_at copied (map f rest) n long))
 
 pub returns-clause-items : goal.returns-clause-items
-returns-clause-items c = grind (arith, common_steps, enough_copied, append-nil, length-map)
+returns-clause-items g c = grind (arith, common_steps, enough_copied, append-nil, length-map)

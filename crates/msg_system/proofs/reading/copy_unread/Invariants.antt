@@ -3,7 +3,7 @@ use Rattle.msg_buffer.specs.Prelude.{Continues, iter_place, iter_rest, message_o
 use Rattle.msg_system.proofs.reading.copy_unread.Given as goal
 
 abbrev pub invariant-loop-copied : goal.invariant-loop-copied
-invariant-loop-copied l = record {
+invariant-loop-copied g l = record {
   given : map message_of (iter_rest l.initial.rest) ≡ l.items.items ++ map message_of (iter_rest l.rest);
   place : iter_place l.rest ≡ iter_place l.initial.rest + length l.items.items;
   continues : Continues l.initial.rest l.rest;

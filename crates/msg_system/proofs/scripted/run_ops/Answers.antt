@@ -4,7 +4,7 @@ use Rattle.msg_system.proofs.Runs.{after_program-snoc, op_more, same_loan_trans}
 use Rattle.msg_system.proofs.scripted.run_ops.Goals as goal
 
 pub loop-op-preserved : goal.loop-op-preserved
-loop-op-preserved c =
+loop-op-preserved g c =
     let inv = c.loop-op.invariant in
     let ops = c.args.ops.now in
     let one : take (c.loop-op.op-index + 1) ops ≡ take c.loop-op.op-index ops ++ c.op-item.result ∷ [] =
@@ -21,5 +21,5 @@ loop-op-preserved c =
     }
 
 pub returns-clause-ran : goal.returns-clause-ran
-returns-clause-ran c s stands =
+returns-clause-ran g c s stands =
     rw (take_all c.loop-op.op-index c.args.ops.now (omega arith)) at (c.loop-op.invariant.so_far s stands)

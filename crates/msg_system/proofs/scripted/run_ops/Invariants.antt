@@ -4,8 +4,8 @@ use Rattle.msg_system.specs.{Prelude.after_program, Prelude.cursor_places, inner
 use Rattle.msg_system.proofs.scripted.run_ops.Given as goal
 
 abbrev pub invariant-loop-op : goal.invariant-loop-op
-invariant-loop-op l = record {
-  so_far : (s : WorldState) → LoanStands l.initial.lent s
+invariant-loop-op g l = record {
+  so_far : (s : WorldState g.V.Value.values) → LoanStands l.initial.lent s
       → IsAfterProgram (after_program (take l.op-index l.ops) l.writer (cursor_places l.initial.cursors) s)
       (cursor_places l.cursors) l.lent l.initial.out.items l.out.items;
   replies : HasReplies l.initial.out.items l.out.items l.op-index;

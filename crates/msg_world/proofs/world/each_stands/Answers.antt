@@ -3,7 +3,7 @@ use Rattle.msg_world.proofs.Worlds.{item_at}
 use Rattle.msg_world.proofs.world.each_stands.Goals as goal
 
 pub loop-slot-preserved : goal.loop-slot-preserved
-loop-slot-preserved c t lt =
+loop-slot-preserved g c t lt =
     let i = c.loop-slot.slot-index in
     elim (cases_eq t i) [
       | inl e ↦ rw (e, item_at c.args.types.now i c.slot-item.result c.loop-slot-test.true c.slot-item.is)

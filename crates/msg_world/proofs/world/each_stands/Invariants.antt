@@ -4,4 +4,4 @@ use Rattle.msg_world.specs.{Prelude.Record, inner.Slots.BufferStands, inner.Slot
 use Rattle.msg_world.proofs.world.each_stands.Given as goal
 
 abbrev pub invariant-loop-slot : goal.invariant-loop-slot
-invariant-loop-slot l = (t : ℕ) → t < l.slot-index → (h : History Record) × BufferStands (at l.types t) h
+invariant-loop-slot g l = (t : ℕ) → t < l.slot-index → (h : History (Record g.row.V.Denot)) × BufferStands (at l.types t) h

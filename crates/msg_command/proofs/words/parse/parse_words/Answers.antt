@@ -1,11 +1,10 @@
 use Rattle.std.proofs.Common.{arith}
 use Rattle.std.proofs.lemmas.Result.{IfErr-weaker}
 use Rattle.msg_command.specs.Prelude.{texts_of}
-use Rattle.msg_command.proofs.ClapTakesAsk.{takes_asks}
+use Rattle.msg_command.proofs.{ClapErrors.told_on, ClapTakesAsk.takes_asks}
 use Rattle.msg_command.proofs.words.parse.parse_words.Goals as goal
 
--- words that clap takes ask for something, or for a run on what is no number of workers, so that else only want of
--- memory is left
+-- words that clap takes ask for something, or for what there can't be, so that else only want of memory is left
 pub returns-clause-refused : goal.returns-clause-refused
 returns-clause-refused c =
     let rows = c.in_ok-matches.ensures.rows in
@@ -18,3 +17,8 @@ pub returns-clause-found : goal.returns-clause-found
 returns-clause-found c =
     IfErr-weaker c.action_of.result _ _ (λ fault refused. grind (arith, refused, c.in_ok-matches.ensures.accepted))
     c.action_of.ensures.refused
+
+-- where clap refuses the words, and takes them, memory was refused
+pub returns-in_err-matches-clause-refused : goal.returns-in_err-matches-clause-refused
+returns-in_err-matches-clause-refused c =
+    told_on c.from_residual.result c.in_err-matches.field-0.0 _ _ c.from_residual.ensures.1 c.in_err-matches.ensures.refused

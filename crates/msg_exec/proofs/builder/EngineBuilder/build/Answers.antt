@@ -4,10 +4,10 @@ use Rattle.msg_exec.proofs.BuilderBuilds.{before, no_clash_before, refusal_befor
 use Rattle.msg_exec.proofs.builder.EngineBuilder.build.Goals as goal
 
 pub new-requires-clause-each : goal.new-requires-clause-each
-new-requires-clause-each g c κs within i x there =
+new-requires-clause-each g c i x there =
     let old = c.self.inside.systems.items in
     let places = c.self.inside.places.items in
-    let y = before g.S.System.meaning old c.in_ok-systems.systems.items c.in_ok-systems.ensures.as_many
+    let y = before g.S.SystemOf.meaning old c.in_ok-systems.systems.items c.in_ok-systems.ensures.as_many
     c.in_ok-systems.ensures.numbered i x there in
     let fit = rw (c.deref.ensures.value, c.deref-2.ensures.value) at c.in_ok-check_systems.ensures.fit in
     record {
@@ -19,14 +19,14 @@ new-requires-clause-each g c κs within i x there =
           at (c.self.invariant.2 i place (slice_get_within places i place sp));
     }
 
-pub returns-in-Ok-clause-meaning : goal.returns-in-Ok-clause-meaning
-returns-in-Ok-clause-meaning g c w stands =
-    rw (← c.self.view_is) (rw c.in_ok-systems.ensures.numbered at (c.in-Ok.ensures.meaning w stands))
+pub returns-in-Ok-clause-since : goal.returns-in-Ok-clause-since
+returns-in-Ok-clause-since g c w stands =
+    rw (← c.self.view_is) (rw c.in_ok-systems.ensures.numbered at (c.in-Ok.ensures.since w stands))
 
 pub returns-in-Ok-clause-no_clash : goal.returns-in-Ok-clause-no_clash
 returns-in-Ok-clause-no_clash g c =
     rw (← c.self.view_is)
-    (no_clash_before g.S.System.meaning c.self.inside.systems.items c.in_ok-systems.systems.items
+    (no_clash_before g.S.SystemOf.meaning c.self.inside.systems.items c.in_ok-systems.systems.items
     c.in_ok-systems.ensures.as_many c.in_ok-systems.ensures.numbered c.in-Ok.ensures.no_clash)
 
 pub returns-in-Ok-clause-no_cycle : goal.returns-in-Ok-clause-no_cycle
@@ -38,7 +38,7 @@ returns-in-Err-clause-refusal g c =
     rw (← c.self.view_is) (
       rw (c.deref.ensures.value, c.deref-2.ensures.value) at c.in_ok-check_systems.ensures.fit,
       rw (c.deref-4.ensures.value, c.deref-3.ensures.value) at c.in_ok-check_names.ensures.named,
-      refusal_before g.S.System.meaning c.self.inside.systems.items c.in_ok-systems.systems.items
+      refusal_before g.S.SystemOf.meaning c.self.inside.systems.items c.in_ok-systems.systems.items
           c.in_ok-systems.ensures.as_many c.in_ok-systems.ensures.numbered c.self.inside.rules.items
           c.in-Err.refusal c.in-Err.ensures.refusal,
     )

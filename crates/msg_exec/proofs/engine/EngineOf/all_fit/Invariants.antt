@@ -4,4 +4,4 @@ use Rattle.msg_exec.specs.Prelude.{PostsFit}
 use Rattle.msg_exec.proofs.engine.EngineOf.all_fit.Given as goal
 
 abbrev pub invariant-loop-frame : goal.invariant-loop-frame
-invariant-loop-frame g l = (k : ℕ) (d : Frame) → k < l.frame-index → PostsFit l.self (get_or l.frames k d)
+invariant-loop-frame g l = (k : ℕ) (d : Frame g.row.V.Denot) → k < l.frame-index → PostsFit l.self (get_or l.frames k d)

@@ -1,26 +1,26 @@
 use Rattle.std.proofs.Common.{length, map, refl, arith, inr}
 use Rattle.msg_exec.specs.Prelude.{Core, Schedule}
 use Rattle.msg_frames.specs.Prelude.{State, before_joining, with_joining}
-use Rattle.msg_exec.proofs.{FirstEngineStands.are_new, FirstEngineStands.none_clashes, FirstEngineStands.none_more, FirstEngineStands.parts_stand, FirstEngineStands.schedule_first, CoreRunsFrame.joined_by_frame, CoreRunsFrame.schedule_along}
+use Rattle.msg_exec.proofs.{FirstEngineStands.are_new, FirstEngineStands.none_clashes, FirstEngineStands.none_more, FirstEngineStands.parts_stand, FirstEngineStands.schedule_first, CoreRunsFrame.joined_by_frame, CoreRunsFrame.schedule_along, SinceThen.since_none}
 use Rattle.msg_frames.proofs.SystemsStay.{joining_on_keeps}
 use Rattle.msg_exec.proofs.engine.EngineOf.new.Goals as goal
 
-pub join_those-requires-clause-stands : goal.join_those-requires-clause-stands
-join_those-requires-clause-stands g c κs within =
+pub join_those-requires : goal.join_those-requires
+join_those-requires g c =
     let prepared = rw (c.types.ensures.types, c.deref.ensures.value, c.deref-2.ensures.value, c.deref-3.ensures.value)
     at c.in_ok-accesses.ensures.prepared in
     let w = c.stands_for_some.ensures.state in
-    let parts = parts_stand g.S.System.meaning _ c.args.systems.items c.args.places.items c.requires.whole
+    let parts = parts_stand g.S.SystemOf.meaning _ c.args.systems.items c.args.places.items c.requires.whole
     c.requires.one_place_each c.requires.each _ _ prepared _ c.in_ok-guarded.ensures.as_many
     (rw c.deref-4.ensures.value at c.in_ok-guarded.ensures.guarded) w.0 w.1 in
-    (_, (parts.0, rw c.deref-5.ensures.value parts.1, parts.2))
+    record { stands = (_, (parts.0, rw c.deref-5.ensures.value parts.1, parts.2)) }
 
 pub returns-clause-no_cycle : goal.returns-clause-no_cycle
 returns-clause-no_cycle g c = rw c.deref-3.ensures.value at c.in_ok-accesses.ensures.prepared.no_cycle
 
-pub returns-clause-meaning : goal.returns-clause-meaning
-returns-clause-meaning g c w stands =
-    let m = g.S.System.meaning in
+pub returns-clause-since : goal.returns-clause-since
+returns-clause-since g c w stands =
+    let m = g.S.SystemOf.meaning in
     let systems = c.args.systems.items in
     let places = c.args.places.items in
     let rules = c.args.rules.items in
@@ -29,16 +29,16 @@ returns-clause-meaning g c w stands =
     at c.in_ok-accesses.ensures.prepared in
     let parts = parts_stand m _ systems places c.requires.whole c.requires.one_place_each c.requires.each rules made
     prepared _ c.in_ok-guarded.ensures.as_many (rw c.deref-4.ensures.value at c.in_ok-guarded.ensures.guarded) w stands in
-    let first : State = before_joining (map m systems) places rules (length c.args.world.types) w in
-    let s : State = with_joining 1 first in
-    let core : Core g.row.S.Denot =
+    let first : State g.V.Value.values = before_joining (map m systems) places rules (length c.args.world.types) w in
+    let s : State g.V.Value.values = with_joining 1 first in
+    let core : Core g.row.S.Denot g.row.V.Denot =
     record { lender = c.join_those.new.lender; joins = made.joins; rules = c.args.rules; plan = made.plan } in
     let schedule : Schedule core s = schedule_along refl refl (joining_on_keeps 1 first)
     (schedule_first m _ systems places c.requires.whole c.requires.one_place_each c.requires.each core rules w
     c.requires.few c.requires.in_range refl parts.1) in
     let none = none_more c.fewer_systems_make_no_cycle.ensures.law (length systems) rules c.requires.in_range
     prepared.no_cycle in
-    record {
+    since_none m c.runs_are_complete.ensures.law _ s (record {
       core = record {
         lender = c.join_those.ensures.joined first parts.0 (rw c.deref-5.ensures.value parts.1) parts.2;
         schedule = schedule;
@@ -49,12 +49,12 @@ returns-clause-meaning g c w stands =
             c.stands_for_some.ensures.few none);
       };
       frames = omega arith;
-    }
+    })
 
 pub returns-clause-engine : goal.returns-clause-engine
-returns-clause-engine g c = let w = c.stands_for_some.ensures.state in inr (_, returns-clause-meaning g c w.0 w.1)
+returns-clause-engine g c = let w = c.stands_for_some.ensures.state in inr (_, (returns-clause-since g c w.0 w.1).stands)
 
 pub returns-clause-no_clash : goal.returns-clause-no_clash
 returns-clause-no_clash g c =
     let prepared = rw (c.deref.ensures.value, c.deref-2.ensures.value) at c.in_ok-accesses.ensures.prepared in
-    none_clashes g.S.System.meaning c.args.systems.items _ _ prepared.one_access_each prepared.accesses
+    none_clashes g.S.SystemOf.meaning c.args.systems.items _ _ prepared.one_access_each prepared.accesses

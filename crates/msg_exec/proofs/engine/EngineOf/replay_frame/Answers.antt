@@ -1,12 +1,22 @@
 use Rattle.std.proofs.Common.{◌≡◌, ◌∷◌, [], refl, sym, ap, ◌∙◌, arith, inr, is_some}
 use Rattle.std.proofs.lemmas.Bool.{false≢true}
 use Rattle.std.specs.Result.{is_ok}
-use Rattle.msg_exec.proofs.EngineRunsFrames.{stood}
+use Rattle.msg_exec.proofs.EngineRunsFrames.{is_alive, its_core, still_fit, stood}
+use Rattle.msg_frames.proofs.Functions.{run_keeps}
 use Rattle.msg_exec.proofs.SinceThen.{since_replay}
 use Rattle.msg_exec.proofs.engine.EngineOf.replay_frame.Goals as goal
 
+pub accepts_next-requires : goal.accepts_next-requires
+accepts_next-requires g c = record {
+  stands = its_core g.S.SystemOf.meaning c.args.self.now _ c.in-Some.is c.requires.engine;
+}
+
+pub replay_one-requires-clause-stands : goal.replay_one-requires-clause-stands
+replay_one-requires-clause-stands g c =
+    its_core g.S.SystemOf.meaning c.args.self.now _ (sym c.take.ensures.value ∙ c.in-Some-take.is) c.requires.engine
+
 pub replay_one-requires-clause-lawful : goal.replay_one-requires-clause-lawful
-replay_one-requires-clause-lawful g c κs within s stands is =
+replay_one-requires-clause-lawful g c s stands is =
     let same : c.in-Some.core ≡ c.in-Some-take.core = cc (c.in-Some.is, c.take.ensures.value, c.in-Some-take.is) in
     (c.in-Ok.ensures.lawful s (rw same stands) is c.args.frame.now).0 c.if-not-is_lawful.false
 
@@ -28,7 +38,7 @@ returns-clause-replayed g c s stands =
 
 pub returns-clause-engine : goal.returns-clause-engine
 returns-clause-engine g c =
-    let was = stood g.S.System.meaning c.args.self.now (ap is_some c.in-Some.is) c.requires.engine in
+    let was = stood g.S.SystemOf.meaning c.args.self.now (ap is_some c.in-Some.is) c.requires.engine in
     let ran = returns-clause-replayed g c was.0 was.1 in
     inr (_, ran.stands)
 
@@ -47,4 +57,17 @@ returns-clause-bad_order g c s stands some =
     )
 
 pub returns-clause-since : goal.returns-clause-since
-returns-clause-since g c = since_replay g.S.System.meaning _ _ c.args.frame.now c.args.order.now _ (returns-clause-replayed g c)
+returns-clause-since g c = since_replay g.S.SystemOf.meaning _ _ c.args.frame.now c.args.order.now _ (returns-clause-replayed g c)
+
+pub returns-clause-alive : goal.returns-clause-alive
+returns-clause-alive g c =
+    let m = g.S.SystemOf.meaning in
+    let was = stood m c.args.self.now (ap is_some c.in-Some.is) c.requires.engine in
+    is_alive m _ _ (returns-clause-replayed g c was.0 was.1).stands
+
+pub returns-clause-fits : goal.returns-clause-fits
+returns-clause-fits g c =
+    let m = g.S.SystemOf.meaning in
+    let frame = c.args.frame.now in
+    let was = stood m c.args.self.now (ap is_some c.in-Some.is) c.requires.engine in
+    still_fit m _ _ was.0 _ was.1 (returns-clause-replayed g c was.0 was.1).stands (run_keeps (frame ∷ []) was.0).types

@@ -1,7 +1,12 @@
 use Rattle.std.proofs.Common.{◌∷◌, [], inr, arith, sym, ap, ◌∙◌, is_some}
-use Rattle.msg_exec.proofs.EngineRunsFrames.{stood}
+use Rattle.msg_exec.proofs.EngineRunsFrames.{is_alive, its_core, still_fit, stood}
+use Rattle.msg_frames.proofs.Functions.{run_keeps}
 use Rattle.msg_exec.proofs.SinceThen.{since_frame}
 use Rattle.msg_exec.proofs.engine.EngineOf.run_frame.Goals as goal
+
+pub run_one-requires-clause-stands : goal.run_one-requires-clause-stands
+run_one-requires-clause-stands g c κs within =
+    its_core g.S.SystemOf.meaning c.args.self.now _ (sym c.take.ensures.value ∙ c.in-Some.is) c.requires.engine
 
 pub returns-clause-ran : goal.returns-clause-ran
 returns-clause-ran g c s stands =
@@ -17,9 +22,22 @@ returns-clause-ran g c s stands =
 pub returns-clause-engine : goal.returns-clause-engine
 returns-clause-engine g c =
     let some = ap is_some (sym c.take.ensures.value ∙ c.in-Some.is) in
-    let was = stood g.S.System.meaning c.args.self.now some c.requires.engine in
+    let was = stood g.S.SystemOf.meaning c.args.self.now some c.requires.engine in
     let ran = returns-clause-ran g c was.0 was.1 in
     inr (_, ran.stands)
 
 pub returns-clause-since : goal.returns-clause-since
-returns-clause-since g c = since_frame g.S.System.meaning _ _ c.args.frame.now _ (returns-clause-ran g c)
+returns-clause-since g c = since_frame g.S.SystemOf.meaning _ _ c.args.frame.now _ (returns-clause-ran g c)
+
+pub returns-clause-alive : goal.returns-clause-alive
+returns-clause-alive g c =
+    let m = g.S.SystemOf.meaning in
+    let was = stood m c.args.self.now (ap is_some (sym c.take.ensures.value ∙ c.in-Some.is)) c.requires.engine in
+    is_alive m _ _ (returns-clause-ran g c was.0 was.1).stands
+
+pub returns-clause-fits : goal.returns-clause-fits
+returns-clause-fits g c =
+    let m = g.S.SystemOf.meaning in
+    let frame = c.args.frame.now in
+    let was = stood m c.args.self.now (ap is_some (sym c.take.ensures.value ∙ c.in-Some.is)) c.requires.engine in
+    still_fit m _ _ was.0 _ was.1 (returns-clause-ran g c was.0 was.1).stands (run_keeps (frame ∷ []) was.0).types

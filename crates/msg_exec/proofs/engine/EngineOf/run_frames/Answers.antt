@@ -1,31 +1,28 @@
-use Rattle.std.proofs.Common.{◌≡◌, ◌++◌, ◌+◌, take, ◌∷◌, [], ◌∙◌, Err, length, append_assoc, refl, sym, arith, rules}
-use Rattle.std.proofs.lemmas.{Bool.false≢true, List.drop-append-le, List.length_push, List.take_all, List.take_more, List.Elements.All-push}
+use Rattle.std.proofs.Common.{◌≡◌, ◌++◌, ◌+◌, take, ◌∷◌, [], ◌∙◌, Err, length, append_assoc, refl, arith, rules}
+use Rattle.std.proofs.lemmas.{List.drop-append-le, List.length_push, List.take_all, List.take_more, List.Elements.All-push}
 use Rattle.msg_world.specs.declared.run_fault.RunFault.TheVariants.{NoMemory, Spoiled}
 use Rattle.msg_workers.specs.Prelude.{EachPassedGate}
 use Rattle.msg_frames.specs.Prelude.{turn_order_in}
 use Rattle.msg_frames.specs.Prelude.{run}
-use Rattle.msg_frames.proofs.Functions.{run_append, run_keeps}
-use Rattle.msg_exec.proofs.EngineRunsFrames.{core_of, stood}
+use Rattle.msg_frames.proofs.Functions.{run_append}
+use Rattle.msg_exec.proofs.EngineRunsFrames.{core_of}
 use Rattle.msg_exec.proofs.SinceThen.{since_frames}
 use Rattle.msg_exec.proofs.engine.EngineOf.run_frames.Given as given
 use Rattle.msg_exec.proofs.engine.EngineOf.run_frames.Goals as goal
 
 pub run_frame-requires-clause-posts : goal.run_frame-requires-clause-posts
 run_frame-requires-clause-posts g c κs within =
-    let m = g.S.System.meaning in
-    let was = stood m c.args.self.now (search rules) c.requires.engine in
-    let far = c.loop-frame.invariant.so_far was.0 was.1 in
-    let old = core_of m c.args.self.now was.0 was.1 in
-    let new = core_of m c.loop-frame.self _ far.stands in
-    let same = run_keeps (take c.loop-frame.frame-index c.args.frames.now) was.0 in
-    let fit = rw (← c.frame-item.is, old.1.0)
-    at (c.requires.posts c.loop-frame.frame-index c.frame-item.result c.loop-frame-test.true) in
-    rw new.1.0 (λ k d lt. omega (arith, fit k d lt, old.1.1.lender.types, new.1.1.lender.types, same.types))
+    c.loop-frame.invariant.fits _
+    (rw (← c.frame-item.is) at (c.requires.posts c.loop-frame.frame-index c.frame-item.result c.loop-frame-test.true))
+
+pub unreachable-requires : goal.unreachable-requires
+unreachable-requires g c =
+    let kept = c.push.ensures.succeeds in
+    let room = c.reserve.ensures.ok in
+    grind (arith, kept, room, c.is_err.ensures.value, c.if-is_err.false, c.in_default.is)
 
 pub loop-frame-preserved : goal.loop-frame-preserved
 loop-frame-preserved g c =
-    let m = g.S.System.meaning in
-    let was = stood m c.args.self.now (search rules) c.requires.engine in
     let inv = c.loop-frame.invariant in
     let frames = c.args.frames.now in
     let k = c.loop-frame.frame-index in
@@ -50,15 +47,15 @@ loop-frame-preserved g c =
           (All-push (λ l. EachPassedGate (g.G.Gate.passed c.args.gate.now) c.args.workers (turn_order_in l)) _ log
           inv.gate_passed c.in_ok-log.ensures.gate_passed);
       engine = c.in_ok-log.ensures.engine;
-      core =
-          let far = inv.so_far was.0 was.1 in
-          rw (core_of m c.run_frame.new.self _ (c.in_ok-log.ensures.ran _ far.stands).stands).1.0 refl;
+      counted = omega (arith, inv.counted, c.in_ok-log.ensures.counted);
+      alive = c.in_ok-log.ensures.alive;
+      fits = λ f fit. c.in_ok-log.ensures.fits f (inv.fits f fit);
     }
 
 pub returns-clause-ran : goal.returns-clause-ran
 returns-clause-ran g c s stands =
     let far = c.loop-frame.invariant.so_far s stands in
-    let core = (core_of g.S.System.meaning c.args.self.now s stands).1.1 in
+    let core = (core_of g.S.SystemOf.meaning c.args.self.now s stands).1.1 in
     let frames = c.args.frames.now in
     let all = take_all c.loop-frame.frame-index frames (omega arith) in
     record {
@@ -68,7 +65,7 @@ returns-clause-ran g c s stands =
     }
 
 pub returns-clause-since : goal.returns-clause-since
-returns-clause-since g c = since_frames g.S.System.meaning _ _ c.args.frames.now _ _ (returns-clause-ran g c)
+returns-clause-since g c = since_frames g.S.SystemOf.meaning _ _ c.args.frames.now _ _ (returns-clause-ran g c)
 
 pub returns-then-is_err-clause-gate_passed : goal.returns-then-is_err-clause-gate_passed
 returns-then-is_err-clause-gate_passed g c = rw c.reserve.ensures.items c.loop-frame.invariant.gate_passed
@@ -106,7 +103,7 @@ returns-in_err-log-clause-no_bad_order g c same =
 not_spoiled : (g : given.Over) (c : goal.After-from_residual g) → ¬ (c.from_residual.result ≡ Err Spoiled)
 not_spoiled g c same =
     let failed : c.run_frame.result ≡ Err Spoiled = grind (arith, same, c.from_residual.ensures, c.in_err-log.was) in
-    false≢true (sym (c.run_frame.ensures.spoiled.0 failed) ∙ c.loop-frame.invariant.core)
+    c.loop-frame.invariant.alive (c.run_frame.ensures.spoiled.0 failed)
 
 pub returns-in_err-log-clause-spoiled : goal.returns-in_err-log-clause-spoiled
 returns-in_err-log-clause-spoiled g c =

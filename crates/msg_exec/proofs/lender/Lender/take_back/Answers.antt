@@ -7,9 +7,9 @@ use Rattle.msg_exec.proofs.lender.Lender.take_back.Goals as goal
 pub returns-clause-home : goal.returns-clause-home
 returns-clause-home g c =
     let contents = c.deref_mut.ensures.value ∙ sym c.deref.ensures in
-    let taken = c.replace-taken.ensures.value ∙ ap (λ (l : JobContents). l.taken) contents in
-    let came = c.replace-outcome.ensures.value ∙ ap (λ (l : JobContents). l.outcome)
-    c.deref_mut-2.ensures.value ∙ ap (λ (l : JobContents). l.outcome) contents in
+    let taken = c.replace-taken.ensures.value ∙ ap (λ (l : JobContents g.row.V.Denot). l.taken) contents in
+    let came = c.replace-outcome.ensures.value ∙ ap (λ (l : JobContents g.row.V.Denot). l.outcome)
+    c.deref_mut-2.ensures.value ∙ ap (λ (l : JobContents g.row.V.Denot). l.outcome) contents in
     let systems = c.args.self.now.systems.items in
     let i = c.deref.result.now.number in
     rw (← c.done.view_is, ← c.deref.ensures) (record {
@@ -22,7 +22,7 @@ returns-clause-home g c =
       totals = (
         _,
         refl,
-        entered_there g.S.System.meaning _ c.args.self.now.totals.items c.index_mut.ensures.value
+        entered_there g.S.SystemOf.meaning _ c.args.self.now.totals.items c.index_mut.ensures.value
             c.deref_mut-3.ensures.value (omega (arith, c.enter.ensures.as_many, c.deref_mut-3.ensures.len))
             (record {
               as_many = c.enter.ensures.as_many;

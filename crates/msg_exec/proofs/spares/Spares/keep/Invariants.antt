@@ -2,4 +2,4 @@ use Rattle.std.proofs.Common.{vec_len}
 use Rattle.msg_exec.proofs.spares.Spares.keep.Given as goal
 
 abbrev pub decreases-loop-turn : goal.decreases-loop-turn
-decreases-loop-turn l = vec_len l.turns
+decreases-loop-turn g l = vec_len l.turns

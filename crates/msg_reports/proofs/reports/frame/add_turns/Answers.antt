@@ -1,4 +1,4 @@
-use Rattle.std.proofs.Common.{arith, ◌≡◌, ℕ, zero, suc, List, [], ◌∷◌, map, refl, flat_map, slice_get, zip}
+use Rattle.std.proofs.Common.{arith, ◌≡◌, ℕ, zero, suc, List, [], ◌∷◌, map, refl, flat_map, slice_get, zip, ℤ}
 use Rattle.std.proofs.lemmas.List.{take_all}
 use Rattle.std.specs.{Global.Vec, Option.option_map_or}
 use Rattle.msg_system.specs.{declared.op.Op.Op, declared.reply.Reply.Reply}
@@ -10,7 +10,7 @@ use Rattle.msg_reports.specs.{declared.reports.lines.SystemLines.SystemLines, in
 use Rattle.msg_reports.proofs.reports.frame.add_turns.Goals as goal
 
 -- the lines of ops, by their starts
-ops_of_starts : (s : Scenario) (name : Text) (starts : List (Vec ℕ)) (ops : List Op) (answers : List Reply)
+ops_of_starts : (s : Scenario) (name : Text) (starts : List (Vec ℕ)) (ops : List (Op ℤ)) (answers : List (Reply ℤ))
     → map (λ (start : Vec ℕ). start.items) starts ≡ map (op_start s name) ops
     → flat_map (λ p. answered_line s p.0.items p.1) (zip starts answers) ≡ ops_text s name ops answers
 ops_of_starts s name [] [] answers same = refl
@@ -21,7 +21,7 @@ ops_of_starts s name (start ∷ starts) (op ∷ ops) (answer ∷ answers) same =
     grind (arith, ops_of_starts s name starts ops answers)
 
 -- what came of a turn, by the system's number
-outcome_of_number : (s : Scenario) (lines : List SystemLines) (systems : List SystemSpec) (n : ℕ) (outcome : Outcome)
+outcome_of_number : (s : Scenario) (lines : List SystemLines) (systems : List SystemSpec) (n : ℕ) (outcome : Outcome ℤ)
     → map texts_in lines ≡ map (lines_of s) systems
     → option_map_or (λ l. finished_outcome s l outcome) (slice_get lines n) []
     ≡ option_map_or (λ system. outcome_text s system outcome) (slice_get systems n) []

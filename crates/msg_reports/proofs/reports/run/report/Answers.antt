@@ -17,16 +17,21 @@ loop-reported-init g c = record {
     types = refl;
     printed = rw (zip-nil c.args.scenario.now.frames) (Appends-nil _);
     stands = c.requires.engine;
+    counted = c.engines_stand.ensures.counted _ _ c.requires.engine;
+    alive = c.engines_stand.ensures.alive _ _ c.requires.engine;
   };
   failures = refl;
 }
 
 pub returns-in_err-lines-clause-stopped : goal.returns-in_err-lines-clause-stopped
 returns-in_err-lines-clause-stopped g c cause = stopped_before_all _ _ _ _ c.requires.engine
+    (c.engines_stand.ensures.counted _ _ c.requires.engine)
 
 pub returns-in_err-lines-clause-prefix : goal.returns-in_err-lines-clause-prefix
 returns-in_err-lines-clause-prefix g c =
-    on_err _ c.from_residual.result _ (stopped_before_all g.X.System.meaning _ _ _ c.requires.engine).printed.front
+    on_err _ c.from_residual.result _
+    (stopped_before_all g.X.SystemOf.meaning _ _ _ c.requires.engine
+    (c.engines_stand.ensures.counted _ _ c.requires.engine)).printed.front
 
 pub loop-reported-preserved : goal.loop-reported-preserved
 loop-reported-preserved g c = record {
@@ -57,7 +62,7 @@ returns-in-Ok-clause-ok g c =
     (readers_put _ _ _ _ _ _ c.loop-reported.invariant.so_far _ c.as_slice-in-Ok.result.now
     (omega (arith, ap length c.as_slice-reported-end.ensures.items))
     (λ u stands. c.as_slice-in-Ok.ensures.value ∙ c.in-Ok.ensures.accounts u stands)
-    (c.runs_completely.ensures.complete (state_of c.args.scenario.now) c.requires.engine))
+    (c.engines_stand.ensures.since _ (state_of c.args.scenario.now) c.requires.engine).complete)
     c.put_accounts.ensures.ok
 
 pub returns-in-Ok-clause-run : goal.returns-in-Ok-clause-run

@@ -2,6 +2,13 @@ use Rattle.msg_files.proofs.Puts.{on_err}
 use Rattle.msg_reports.proofs.Reporting.{frame_put, frame_stopped, no_memory_for_frame, out_printed}
 use Rattle.msg_reports.proofs.reports.run.report_frame.Goals as goal
 
+pub run_frame-requires-clause-posts : goal.run_frame-requires-clause-posts
+run_frame-requires-clause-posts g c κs within =
+    let far = c.requires.so_far.1 in
+    let is = rw c.as_slice.ensures.items at c.index-as_slice-reported.is in
+    (c.engines_stand.ensures.fits _ far.state far.stands _).1
+    (rw (far.types, is) (c.requires.posts c.args.reported _ c.requires.next))
+
 pub returns-in-Err-clause-run : goal.returns-in-Err-clause-run
 returns-in-Err-clause-run g c same before far =
     no_memory_for_frame _ _ _ _ _ _ far _ _ _ c.requires.next c.in-Err.is (λ e. c.run_frame.ensures.spoiled.0 e)
@@ -17,18 +24,19 @@ returns-in-Err-clause-prefix g c before far =
 pub returns-in_err-put_frame-clause-stopped : goal.returns-in_err-put_frame-clause-stopped
 returns-in_err-put_frame-clause-stopped g c cause before far =
     frame_stopped _ _ _ _ _ _ far c.frames_keep_the_systems.ensures.law c.run_frame.new.self _ c.in-Ok.log
-    c.requires.next (rw c.as_slice.ensures.items at c.index-as_slice-reported.is) c.in-Ok.ensures.ran _
-    c.in_err-put_frame.ensures.prefix
+    c.requires.next (rw c.as_slice.ensures.items at c.index-as_slice-reported.is) c.in-Ok.ensures.ran
+    c.in-Ok.ensures.counted _ c.in_err-put_frame.ensures.prefix
 
 pub returns-in_err-put_frame-clause-prefix : goal.returns-in_err-put_frame-clause-prefix
 returns-in_err-put_frame-clause-prefix g c =
     on_err _ c.from_residual.result _ (λ before far.
     (frame_stopped _ _ _ _ _ _ far c.frames_keep_the_systems.ensures.law c.run_frame.new.self _ c.in-Ok.log
-    c.requires.next (rw c.as_slice.ensures.items at c.index-as_slice-reported.is) c.in-Ok.ensures.ran _
-    c.in_err-put_frame.ensures.prefix).printed.front)
+    c.requires.next (rw c.as_slice.ensures.items at c.index-as_slice-reported.is) c.in-Ok.ensures.ran
+    c.in-Ok.ensures.counted _ c.in_err-put_frame.ensures.prefix).printed.front)
 
 pub returns-clause-ok : goal.returns-clause-ok
 returns-clause-ok g c before far =
     frame_put _ _ _ _ _ _ far c.frames_keep_the_systems.ensures.law c.run_frame.new.self _ c.in-Ok.log
-    c.requires.next (rw c.as_slice.ensures.items at c.index-as_slice-reported.is) c.in-Ok.ensures.ran _
-    c.recycle.new.self c.recycle.ensures.meaning c.in_ok-put_frame.ensures.ok
+    c.requires.next (rw c.as_slice.ensures.items at c.index-as_slice-reported.is) c.in-Ok.ensures.ran
+    c.in-Ok.ensures.counted _ c.recycle.new.self c.recycle.ensures.meaning c.recycle.ensures.counted
+    (λ spoiled. c.in-Ok.ensures.alive (c.recycle.ensures.spoiled.0 spoiled)) c.in_ok-put_frame.ensures.ok

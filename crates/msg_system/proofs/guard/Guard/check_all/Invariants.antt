@@ -4,10 +4,10 @@ use Rattle.msg_system.specs.Prelude.{after_asking, all_hold}
 use Rattle.msg_system.proofs.guard.Guard.check_all.Given as goal
 
 abbrev pub invariant-loop-guard : goal.invariant-loop-guard
-invariant-loop-guard l = record {
-  answer : (s : WorldState) → LoanStands l.lent s → l.all ≡ all_hold (take l.guard-index l.initial.guards) s;
-  moved : (s : WorldState) → LoanStands l.lent s → take l.guard-index l.guards
+invariant-loop-guard g l = record {
+  answer : (s : WorldState g.V.Value.values) → LoanStands l.lent s → l.all ≡ all_hold (take l.guard-index l.initial.guards) s;
+  moved : (s : WorldState g.V.Value.values) → LoanStands l.lent s → take l.guard-index l.guards
       ≡ map (after_asking s) (take l.guard-index l.initial.guards);
-  same : map (λ g. g.condition) l.guards ≡ map (λ g. g.condition) l.initial.guards;
+  same : map (λ a. a.condition) l.guards ≡ map (λ a. a.condition) l.initial.guards;
   rest : drop l.guard-index l.guards ≡ drop l.guard-index l.initial.guards;
 }

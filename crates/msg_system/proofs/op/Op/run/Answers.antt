@@ -1,124 +1,123 @@
-use Rattle.std.proofs.{Common.rules, Common.refl, lemmas.Int.to_z-of_z, lemmas.Result.IfOk-weaker, lemmas.Result.on_err_weaker}
-use mir.Syntax.{w64}
+use Rattle.std.proofs.{Common.rules, Common.refl, lemmas.Result.IfOk-weaker, lemmas.Result.on_err_weaker}
 use Rattle.msg_world.specs.Prelude.{OfResource, OfType, Registry}
 use Rattle.msg_system.specs.Prelude.{Clear, Forward, Read, Sum}
 use Rattle.msg_system.proofs.Runs.{covers_read, covers_written, place_at, ran_at}
 use Rattle.msg_system.proofs.op.Op.run.Goals as goal
 
 pub write-requires : goal.write-requires
-write-requires c = record { lent = covers_written _ _ (OfType c.in-Write.t) c.requires.covers (rw c.in-Write.is refl) }
+write-requires g c = record { lent = covers_written _ _ (OfType c.in-Write.t) c.requires.covers (rw c.in-Write.is refl) }
 
 pub batch-requires : goal.batch-requires
-batch-requires c = record { lent = covers_written _ _ (OfType c.in-Batch.t) c.requires.covers (rw c.in-Batch.is refl) }
+batch-requires g c = record { lent = covers_written _ _ (OfType c.in-Batch.t) c.requires.covers (rw c.in-Batch.is refl) }
 
 pub drain-requires : goal.drain-requires
-drain-requires c = record { lent = covers_written _ _ (OfType c.in-Drain.t) c.requires.covers (rw c.in-Drain.is refl) }
+drain-requires g c = record { lent = covers_written _ _ (OfType c.in-Drain.t) c.requires.covers (rw c.in-Drain.is refl) }
 
 pub set-requires : goal.set-requires
-set-requires c = record { lent = covers_written _ _ (OfResource c.in-Set.r) c.requires.covers (rw c.in-Set.is refl) }
+set-requires g c = record { lent = covers_written _ _ (OfResource c.in-Set.r) c.requires.covers (rw c.in-Set.is refl) }
 
 pub add-requires : goal.add-requires
-add-requires c = record { lent = covers_written _ _ (OfResource c.in-Add.r) c.requires.covers (rw c.in-Add.is refl) }
+add-requires g c = record { lent = covers_written _ _ (OfResource c.in-Add.r) c.requires.covers (rw c.in-Add.is refl) }
 
 pub signal-requires : goal.signal-requires
-signal-requires c = record { lent = covers_written _ _ Registry c.requires.covers (rw c.in-Signal.is refl) }
+signal-requires g c = record { lent = covers_written _ _ Registry c.requires.covers (rw c.in-Signal.is refl) }
 
 pub read-requires : goal.read-requires
-read-requires c = record { lent = covers_read _ _ (OfType c.in-Read.t) c.requires.covers (rw c.in-Read.is refl) }
+read-requires g c = record { lent = covers_read _ _ (OfType c.in-Read.t) c.requires.covers (rw c.in-Read.is refl) }
 
 pub len-requires : goal.len-requires
-len-requires c = record { lent = covers_read _ _ (OfType c.in-Len.t) c.requires.covers (rw c.in-Len.is refl) }
+len-requires g c = record { lent = covers_read _ _ (OfType c.in-Len.t) c.requires.covers (rw c.in-Len.is refl) }
 
 pub missed-requires : goal.missed-requires
-missed-requires c = record { lent = covers_read _ _ (OfType c.in-Missed.t) c.requires.covers (rw c.in-Missed.is refl) }
+missed-requires g c = record { lent = covers_read _ _ (OfType c.in-Missed.t) c.requires.covers (rw c.in-Missed.is refl) }
 
 pub clear-requires : goal.clear-requires
-clear-requires c = record { lent = covers_read _ _ (OfType c.in-Clear.t) c.requires.covers (rw c.in-Clear.is refl) }
+clear-requires g c = record { lent = covers_read _ _ (OfType c.in-Clear.t) c.requires.covers (rw c.in-Clear.is refl) }
 
 pub get-requires : goal.get-requires
-get-requires c = record { lent = covers_read _ _ (OfResource c.in-Get.r) c.requires.covers (rw c.in-Get.is refl) }
+get-requires g c = record { lent = covers_read _ _ (OfResource c.in-Get.r) c.requires.covers (rw c.in-Get.is refl) }
 
 pub forward-requires-clause-read : goal.forward-requires-clause-read
-forward-requires-clause-read c = covers_read _ _ (OfType c.in-Forward.t) c.requires.covers (rw c.in-Forward.is refl)
+forward-requires-clause-read g c = covers_read _ _ (OfType c.in-Forward.t) c.requires.covers (rw c.in-Forward.is refl)
 
 pub forward-requires-clause-written : goal.forward-requires-clause-written
-forward-requires-clause-written c =
+forward-requires-clause-written g c =
     covers_written _ _ (OfType c.in-Forward.u) c.requires.covers (rw c.in-Forward.is refl)
 
 pub sum-requires-clause-read : goal.sum-requires-clause-read
-sum-requires-clause-read c = covers_read _ _ (OfType c.in-Sum.t) c.requires.covers (rw c.in-Sum.is refl)
+sum-requires-clause-read g c = covers_read _ _ (OfType c.in-Sum.t) c.requires.covers (rw c.in-Sum.is refl)
 
 pub sum-requires-clause-written : goal.sum-requires-clause-written
-sum-requires-clause-written c = covers_written _ _ (OfResource c.in-Sum.r) c.requires.covers (rw c.in-Sum.is refl)
+sum-requires-clause-written g c = covers_written _ _ (OfResource c.in-Sum.r) c.requires.covers (rw c.in-Sum.is refl)
 
 pub returns-in-Batch-clause-ran : goal.returns-in-Batch-clause-ran
-returns-in-Batch-clause-ran c =
+returns-in-Batch-clause-ran g c =
     rw c.in-Batch.is (IfOk-weaker c.batch.result _ _ (λ reply ran. ran _) c.batch.ensures.ran)
 
 pub returns-in-Drain-clause-ran : goal.returns-in-Drain-clause-ran
-returns-in-Drain-clause-ran c =
+returns-in-Drain-clause-ran g c =
     rw c.in-Drain.is (IfOk-weaker c.drain.result _ _ (λ reply ran. ran c.args.writer _) c.drain.ensures.ran)
 
 pub returns-in-Get-clause-ran : goal.returns-in-Get-clause-ran
-returns-in-Get-clause-ran c = rw c.in-Get.is (c.get.ensures.ran c.args.writer _)
+returns-in-Get-clause-ran g c = rw c.in-Get.is (c.get.ensures.ran c.args.writer _)
 
 pub returns-in-Signal-clause-ran : goal.returns-in-Signal-clause-ran
-returns-in-Signal-clause-ran c = rw c.in-Signal.is (c.signal.ensures.ran c.args.writer _)
+returns-in-Signal-clause-ran g c = rw c.in-Signal.is (c.signal.ensures.ran c.args.writer _)
 
 pub returns-in-Write-clause-ran : goal.returns-in-Write-clause-ran
-returns-in-Write-clause-ran c =
-    rw (c.in-Write.is, ← to_z-of_z w64 c.in-Write.value (search rules))
+returns-in-Write-clause-ran g c =
+    rw c.in-Write.is
     (IfOk-weaker c.write.result _ _ (λ reply ran. ran _) c.write.ensures.ran)
 
 pub returns-in-Set-clause-ran : goal.returns-in-Set-clause-ran
-returns-in-Set-clause-ran c =
-    rw (c.in-Set.is, ← to_z-of_z w64 c.in-Set.value (search rules)) (c.set.ensures.ran c.args.writer _)
+returns-in-Set-clause-ran g c =
+    rw c.in-Set.is (c.set.ensures.ran c.args.writer _)
 
 pub returns-in-Add-clause-ran : goal.returns-in-Add-clause-ran
-returns-in-Add-clause-ran c =
-    rw (c.in-Add.is, ← to_z-of_z w64 c.in-Add.value (search rules)) (c.add.ensures.ran c.args.writer _)
+returns-in-Add-clause-ran g c =
+    rw c.in-Add.is (c.add.ensures.ran c.args.writer _)
 
 pub returns-in-Read-clause-ran : goal.returns-in-Read-clause-ran
-returns-in-Read-clause-ran c =
+returns-in-Read-clause-ran g c =
     rw c.in-Read.is (IfOk-weaker c.read.result _ _ (λ reply ran. ran_at c.args.cursors.now _ _ _ (search rules)
     c.number.ensures.number c.number.ensures.within (Read _ _) c.args.writer _ c.args.lent.now _ _ (ran c.args.writer))
     c.read.ensures.ran)
 
 pub returns-in-Len-clause-ran : goal.returns-in-Len-clause-ran
-returns-in-Len-clause-ran c =
+returns-in-Len-clause-ran g c =
     rw c.in-Len.is (c.len.ensures.ran c.args.writer _ (place_at c.args.cursors.now _ _ _ (search rules)
     c.number-in-Len.ensures.number c.number-in-Len.ensures.within))
 
 pub returns-in-Missed-clause-ran : goal.returns-in-Missed-clause-ran
-returns-in-Missed-clause-ran c =
+returns-in-Missed-clause-ran g c =
     rw c.in-Missed.is (c.missed.ensures.ran c.args.writer _ (place_at c.args.cursors.now _ _ _ (search rules)
     c.number-in-Missed.ensures.number c.number-in-Missed.ensures.within))
 
 pub returns-in-Clear-clause-ran : goal.returns-in-Clear-clause-ran
-returns-in-Clear-clause-ran c =
+returns-in-Clear-clause-ran g c =
     rw c.in-Clear.is (ran_at c.args.cursors.now _ _ _ (search rules) c.number-in-Clear.ensures.number
     c.number-in-Clear.ensures.within (Clear _) c.args.writer _ c.args.lent.now _ _ (c.clear.ensures.ran c.args.writer))
 
 pub returns-in-Forward-clause-ran : goal.returns-in-Forward-clause-ran
-returns-in-Forward-clause-ran c =
+returns-in-Forward-clause-ran g c =
     rw c.in-Forward.is (IfOk-weaker c.forward.result _ _ (λ reply. ran_at c.args.cursors.now _ _ _ (search rules)
     c.number-in-Forward.ensures.number c.number-in-Forward.ensures.within (Forward _ _) c.args.writer _ c.args.lent.now
     _ _) c.forward.ensures.ran)
 
 pub returns-in-Sum-clause-ran : goal.returns-in-Sum-clause-ran
-returns-in-Sum-clause-ran c =
+returns-in-Sum-clause-ran g c =
     rw c.in-Sum.is (IfOk-weaker c.sum.result _ _ (λ reply ran. ran_at c.args.cursors.now _ _ _ (search rules)
     c.number-in-Sum.ensures.number c.number-in-Sum.ensures.within (Sum _ _) c.args.writer _ c.args.lent.now _ _
     (ran c.args.writer)) c.sum.ensures.ran)
 
 pub returns-in-Write-clause-refused : goal.returns-in-Write-clause-refused
-returns-in-Write-clause-refused c =
+returns-in-Write-clause-refused g c =
     rw c.in-Write.is (on_err_weaker c.write.result (λ refused. refused (λ t. 0)) c.write.ensures.refused)
 
 pub returns-in-Batch-clause-refused : goal.returns-in-Batch-clause-refused
-returns-in-Batch-clause-refused c =
+returns-in-Batch-clause-refused g c =
     rw c.in-Batch.is (on_err_weaker c.batch.result (λ refused. refused (λ t. 0)) c.batch.ensures.refused)
 
 pub returns-in-Drain-clause-refused : goal.returns-in-Drain-clause-refused
-returns-in-Drain-clause-refused c =
+returns-in-Drain-clause-refused g c =
     rw c.in-Drain.is (on_err_weaker c.drain.result (λ refused. refused (λ t. 0)) c.drain.ensures.refused)

@@ -5,7 +5,7 @@ use Rattle.msg_system.proofs.AccessesUseNeeds.{same_clash}
 use Rattle.msg_system.proofs.program.Program.access.Goals as goal
 
 pub returns-clause-needs : goal.returns-clause-needs
-returns-clause-needs c =
+returns-clause-needs g c =
     let inv = c.loop-op.invariant in
     let whole : take c.loop-op.op-index c.as_slice-op-items.result.now ≡ c.args.self.now.ops =
     take_all _ c.as_slice-op-items.result.now (omega arith) ∙ c.as_slice-op-items.ensures.items in
@@ -19,4 +19,4 @@ returns-clause-needs c =
     }
 
 pub returns-clause-clash : goal.returns-clause-clash
-returns-clause-clash c = same_clash (program_needs c.args.self.now.ops) _ (returns-clause-needs c)
+returns-clause-clash g c = same_clash (program_needs c.args.self.now.ops) _ (returns-clause-needs g c)

@@ -4,7 +4,7 @@ use Rattle.msg_world.proofs.Loans.{content_merged}
 use Rattle.msg_world.proofs.lent.Lent.stands_for_some.Goals as goal
 
 pub returns : goal.returns
-returns c =
+returns g c =
     let l = c.args.self.now in
     let there = c.stands_for_some.ensures.state in
     let here = c.stands_for_some-2.ensures.state in

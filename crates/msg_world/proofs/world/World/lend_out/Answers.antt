@@ -3,7 +3,7 @@ use Rattle.msg_world.specs.Prelude.{OfResource, OfType, Registry}
 use Rattle.msg_world.proofs.world.World.lend_out.Goals as goal
 
 pub returns-clause-lent : goal.returns-clause-lent
-returns-clause-lent c =
+returns-clause-lent g c =
     let types = c.move_out.ensures in
     let resources = c.move_out-2.ensures in
     let marks = c.take_marks.ensures in

@@ -1,26 +1,23 @@
-use Rattle.std.proofs.Common.{arith, rules, ap, Some, ◌∙◌}
-use mir.Val.{SFits}
-use mir.Syntax.{w64}
-use Rattle.std.proofs.lemmas.{Int.to_z-of_z, Result.IfErr-weaker, Result.IfOk-weaker, Result.on_ok_weaker, Grind.common_steps}
+use Rattle.std.proofs.Common.{arith, Some}
+use Rattle.std.proofs.lemmas.{Result.IfErr-weaker, Result.IfOk-weaker, Result.on_ok_weaker, Grind.common_steps}
 use Rattle.msg_buffer.specs.Prelude.{StandsFor}
-use Rattle.msg_world.specs.Prelude.{HOST, OfType, PartsStand, WorldState, by}
+use Rattle.msg_world.specs.Prelude.{OfType, PartsStand, WorldState}
 use Rattle.msg_world.proofs.Worlds.{found_at, type_shape, type_stands}
 use Rattle.msg_world.proofs.world.World.post.Goals as goal
 
 pub returns : goal.returns
-returns c =
+returns g c =
     let t = c.args.t in let number = c.number.ensures.number in let kept = c.in-Some.messages in
     let home = rw (← c.self.view_is) at c.requires.home in
     let found = found_at c.self.inside.types.items t (Some kept) home
     (rw (number, c.in-Some.is) at c.index_mut-slot.ensures.value) in
-    let all = λ (s : WorldState) (stand : PartsStand c.args.self.now s). rw (← c.self.view_is) at stand in
-    let here : (s : WorldState) → PartsStand c.args.self.now s
+    let all = λ (s : WorldState g.V.Value.values) (stand : PartsStand c.args.self.now s). rw (← c.self.view_is) at stand in
+    let here : (s : WorldState g.V.Value.values) → PartsStand c.args.self.now s
     → StandsFor kept (s.histories t) = λ s stand. rw found.0 at (all s stand (OfType t)) in
-    let fits : SFits w64 c.args.value = search rules in
     rw number (record {
       meaning = on_ok_weaker c.write.result (λ meaning s stand.
           type_stands _ s t c.write.new.self _ found.1
-          (rw (to_z-of_z w64 c.args.value fits) at (meaning (s.histories t) (here s stand))) (all s stand))
+          (meaning (s.histories t) (here s stand)) (all s stand))
           c.write.ensures.meaning;
       number = IfOk-weaker c.write.result _ _ (λ id is s stand. is (s.histories t) (here s stand))
           c.write.ensures.number;
@@ -29,7 +26,5 @@ returns c =
           c.write.ensures.spent;
       shape = rw (← c.self.view_is) (type_shape _ t c.write.new.self found.1 home);
       err = grind (arith, common_steps);
-      handed_back =
-          IfErr-weaker c.write.result _ _ (λ e same. same
-          ∙ ap (by HOST) (to_z-of_z w64 c.args.value fits)) c.write.ensures.handed_back;
+      handed_back = c.write.ensures.handed_back;
     })

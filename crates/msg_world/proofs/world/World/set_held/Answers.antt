@@ -4,11 +4,11 @@ use Rattle.msg_world.proofs.Worlds.{marks_stand}
 use Rattle.msg_world.proofs.world.World.set_held.Goals as goal
 
 pub returns-clause-meaning : goal.returns-clause-meaning
-returns-clause-meaning c s stand =
+returns-clause-meaning g c s stand =
     marks_stand _ s _ (rw (← c.self.view_is) at stand)
 
 pub returns-clause-shape : goal.returns-clause-shape
-returns-clause-shape c =
+returns-clause-shape g c =
     rw (← c.self.view_is) (record {
       size = record { types = refl; resources = refl };
       there = elim [ OfType t ↦ refl | OfResource r ↦ refl | Registry ↦ grind (arith, c.requires.whole Registry tt) ];

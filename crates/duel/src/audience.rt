@@ -1,0 +1,53 @@
+// Who ends a fight.
+ghost use Rattle.std.specs.Prelude.{◌≡◌};
+ghost use Rattle.duel.specs.Audiences.{falls_counted};
+
+use msg_exec::{Frame, Host, Items, Log, NoMemory, Outcome, Turn};
+use msg_system::Reply;
+use std::alloc::Global;
+
+/// Watches a fight, and ends it once the referee has counted so many falls.
+#[derive(Clone, Copy, Debug)]
+pub struct Audience {
+    pub falls: i64,
+}
+
+/// How many falls the referee has counted by the frame of this log. A rule puts it before the
+/// fighters, so its turn is the first.
+fn counted(log: &Log) -> i64
+    ensures falls { result ≡ falls_counted log.now }
+{
+    let Some(
+        Turn {
+            outcome: Outcome::Ran(replies),
+            ..
+        },
+    ) = log.turns.as_slice().first()
+    else {
+        return 0;
+    };
+    match replies.as_slice().first() {
+        Some(Reply::Summed { value, .. }) => *value,
+        _ => 0,
+    }
+}
+
+impl Host for Audience {
+    type Value = i64;
+
+    ghost use Rattle.std.specs.Prelude.{IsNone, IsTrue, ◌↔◌};
+    ghost use Rattle.duel.specs.Audiences.{is_over};
+
+    ghost gives = { λ old last frame new.
+        (new ≡ old) × (IsNone frame ↔ IsTrue (is_over old last)) };
+
+    fn next(&mut self, alloc: Global, last: Option<&Log>) -> Result<Option<Frame>, NoMemory> {
+        if let Some(log) = last {
+            if counted(log) >= self.falls {
+                return Ok(None);
+            }
+        }
+        let posts = Items::from_vec(Vec::new(alloc));
+        Ok(Some(Frame { posts }))
+    }
+}

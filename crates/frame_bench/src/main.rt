@@ -1,0 +1,137 @@
+//! Runs frames of 64 systems without a file and without text, so that one can count what the engine
+//! takes for a job: by `valgrind --tool=callgrind`, once for some frames and once for twice as many.
+//! It prints how many turns were taken, and how many messages were written and read.
+//!
+//! `frame_bench KIND FRAMES`, where KIND says what each system does in its turn: `idle` nothing,
+//! `skipped` has a condition that doesn't hold, `get` gets a resource, `len` asks for a length,
+//! `write` writes a message, `read` reads two by a script, and `decide` reads two by a behavior.
+#![tactic(auto)]
+
+mod poster;
+mod reader;
+
+use anyhow::{Context, bail};
+use msg_exec::{EngineBuilder, Workers};
+use msg_system::{
+    Access, BehaviorSystem, Condition, Items, NoMemory, Numbered, Op, Probe, Program, Scripted,
+    Start, SystemOf,
+};
+use msg_world::{ResNo, TypeNo, World};
+use poster::Poster;
+use reader::Reading;
+use std::alloc::Global;
+use std::env;
+use std::env::Env;
+use std::io::Print;
+use std::thread::Threads;
+
+/// How many systems there are, and as many types.
+const SYSTEMS: u32 = 64;
+
+/// A script of at most one op.
+fn script(alloc: Global, op: Option<Op>) -> Result<Scripted, NoMemory> {
+    let mut ops = Vec::new(alloc);
+    if let Some(op) = op {
+        ops.push(op)?;
+    }
+    let ops = Items::from_vec(ops);
+    Ok(Scripted::new(
+        Program {
+            ops,
+            start: Start::Zero,
+        },
+        0,
+    ))
+}
+
+/// A system that decides to read.
+fn reading(alloc: Global, from: TypeNo) -> BehaviorSystem<Reading> {
+    let access = Access::none().with_read_type(from);
+    BehaviorSystem::new(alloc, Reading { from }, access, Start::Zero, 0)
+}
+
+/// What a script of this kind does in its turn.
+fn op_of(kind: &str, own: TypeNo, shared: TypeNo, r: ResNo) -> anyhow::Result<Option<Op>> {
+    Ok(match kind {
+        "idle" | "skipped" => None,
+        "get" => Some(Op::Get(r)),
+        "len" => Some(Op::Len(shared)),
+        "write" => Some(Op::Write(own, 1)),
+        "read" => Some(Op::Read(shared, None)),
+        _ => bail!("no kind has this name"),
+    })
+}
+
+/// Runs frames of these systems, and prints what was done.
+fn bench<R: Threads + AllocGlobal + Print + Sync, S: Numbered + SystemOf<Value = i64> + Send>(
+    rt: &R,
+    systems: EngineBuilder<S>,
+    mut poster: Poster,
+) -> anyhow::Result<()> {
+    let world = World::new(rt.alloc(), &[1_000_000; 64], &[0])?;
+    let mut engine = systems.build(world)?;
+    engine.run_loop(rt, &mut poster, u64::MAX, Workers::new(1).unwrap())?;
+    let mut written: u64 = 0;
+    for t in 0..SYSTEMS {
+        let messages = engine
+            .world()
+            .and_then(|world| world.messages(TypeNo::new(t)?));
+        written = written.saturating_add(messages.map_or(0, |messages| messages.count()));
+    }
+    let mut read: u64 = 0;
+    for account in engine.accounts()? {
+        read = read.saturating_add(account.got);
+    }
+    println!(rt;
+        "{} turns, {written} messages written and {read} read",
+        poster.turns
+    )?;
+    Ok(())
+}
+
+/// Runs that many frames of systems of this kind.
+fn run<R: Threads + AllocGlobal + Print + Sync>(
+    rt: &R,
+    kind: &str,
+    frames: u64,
+) -> anyhow::Result<()> {
+    let alloc = rt.alloc();
+    let (shared, r) = (TypeNo::new(0).unwrap(), ResNo::new(0).unwrap());
+    let poster = Poster {
+        left: frames,
+        posts: if kind == "read" || kind == "decide" {
+            2
+        } else {
+            0
+        },
+        to: shared,
+        turns: 0,
+    };
+    if kind == "decide" {
+        let mut systems = EngineBuilder::new(alloc);
+        for _ in 0..SYSTEMS {
+            systems.add_system(reading(alloc, shared), Vec::new(alloc), 1)?;
+        }
+        return bench(rt, systems, poster);
+    }
+    let mut systems = EngineBuilder::new(alloc);
+    for t in 0..SYSTEMS {
+        let own = TypeNo::new(t).context("a type")?;
+        let system = script(alloc, op_of(kind, own, shared, r)?)?;
+        let mut conditions = Vec::new(alloc);
+        if kind == "skipped" {
+            let probe = Probe::ResourceEquals(r, 1);
+            conditions.push(Condition { nots: 0, probe })?;
+        }
+        systems.add_system(system, conditions, 1)?;
+    }
+    bench(rt, systems, poster)
+}
+
+fn main(rt: HostRuntime) -> anyhow::Result<()> {
+    let words: Vec<String> = env::args(&rt)?.skip(1).collect(rt.alloc())?;
+    let [kind, frames] = words.as_slice() else {
+        bail!("wanted a kind and a number of frames");
+    };
+    run(&rt, kind, frames.parse().context("a number of frames")?)
+}

@@ -1,0 +1,152 @@
+//! Engines that are made alike: what they are told depends on their frames alone.
+ghost use Rattle.std.specs.Prelude.{◌≡◌, ◌++◌, ◌∷◌, [], IfOk, IfSome, List, map, ℤ};
+ghost use Rattle.msg_frames.specs.Prelude.{accounts_of, run};
+ghost use Rattle.msg_frames.specs.{declared.log.Log.Log as LogView};
+ghost use Rattle.msg_system.specs.Prelude.{new_system};
+ghost use Rattle.msg_exec.specs.Prelude.{HasRunSince, IsEngine, IsSpoiled};
+ghost use Rattle.msg_engine_tests.specs.Pairs.{one_op, pair_places, pair_state, pair_systems};
+ghost use Rattle.msg_world.specs.Prelude.{i64_values};
+
+use msg_exec::{
+    Account, BuildError, EngineBuilder, EngineOf, Frame, Items, Log, NoGate, NoMemory, Workers,
+};
+use msg_system::{Op, Program, Scripted, Start, SystemOf};
+use msg_world::{TypeNo, World};
+use std::alloc::Global;
+use std::thread::Threads;
+
+/// A script of one op.
+fn one_op(alloc: Global, op: Op) -> Result<Scripted, NoMemory>
+    ensures meaning { IfOk result (λ s. ⟦<Scripted as SystemOf>⟧.meaning s ≡ one_op op) }
+{
+    let ops = Items::from_vec(vec![in alloc; op]?);
+    let start = Start::Zero;
+    Ok(Scripted::new(Program { ops, start }, 0))
+}
+
+/// A writer and a reader of one type.
+fn pair(alloc: Global) -> Result<EngineBuilder<Scripted>, BuildError>
+    ensures systems { IfOk result (λ b.
+        map ⟦<Scripted as SystemOf>⟧.meaning b.systems ≡ pair_systems) }
+    ensures places { IfOk result (λ b. b.places ≡ pair_places) }
+    ensures rules { IfOk result (λ b. b.rules ≡ []) }
+{
+    let t = TypeNo::new(0).unwrap();
+    let mut systems = EngineBuilder::new(alloc);
+    systems.add_system(one_op(alloc, Op::Write(t, 7))?, Vec::new(alloc), 1)?;
+    systems.add_system(one_op(alloc, Op::Read(t, None))?, Vec::new(alloc), 1)?;
+    Ok(systems)
+}
+
+/// An engine of the two.
+fn engine(alloc: Global) -> Result<EngineOf<Scripted>, BuildError>
+    ensures since { IfOk result (HasRunSince ⟦<Scripted as SystemOf>⟧.meaning pair_state [] []) }
+    ensures engine { IfOk result (IsEngine i64_values ⟦<Scripted as SystemOf>⟧.meaning) }
+{
+    let world = World::new(alloc, &[100], &[])?;
+    Ok(pair(alloc)?.build(world)?)
+}
+
+/// Makes such an engine, and runs frames on it; None if there was no memory, or if a post is to
+/// another type.
+fn run_pair<R: Threads + Sync>(
+    rt: &R,
+    alloc: Global,
+    frames: &[Frame],
+    workers: Workers,
+) -> Option<Vec<Log>>
+    ensures ran { IfSome result (λ logs. logs.items ≡ (run frames.now pair_state).logs) }
+{
+    let Ok(mut engine) = engine(alloc) else {
+        return None;
+    };
+    if !engine.all_fit(frames) {
+        return None;
+    }
+    let mut logs = Vec::new(alloc);
+    match engine.run_frames(rt, frames, workers, &NoGate, &mut logs) {
+        Ok(()) => Some(logs),
+        Err(_) => None,
+    }
+}
+
+/// Makes two such engines, and runs the same frames on both, each on workers of its own.
+pub fn run_both<R: Threads + Sync>(
+    rt: &R,
+    alloc: Global,
+    frames: &[Frame],
+    workers: (Workers, Workers),
+) -> Option<(Vec<Log>, Vec<Log>)>
+
+    // However many workers each has, the logs are equal.
+    ensures equal { IfSome result (λ logs. logs.0.items ≡ logs.1.items) }
+{
+    let one = run_pair(rt, alloc, frames, workers.0)?;
+    let other = run_pair(rt, alloc, frames, workers.1)?;
+    Some((one, other))
+}
+
+/// A life of several calls: makes such an engine, runs frames, replays one more with the reader
+/// last, and asks for the accounts.
+pub fn run_life<R: Threads + Sync>(
+    rt: &R,
+    alloc: Global,
+    frames: &[Frame],
+    last: &Frame,
+    workers: Workers,
+) -> Option<(Vec<Account>, EngineOf<Scripted>)>
+
+    // All its frames are one run from the first state, and the accounts are of that run.
+    ensures since { IfSome result (λ r. (logs : List (LogView ℤ))
+        × HasRunSince ⟦<Scripted as SystemOf>⟧.meaning pair_state
+        (frames.now ++ last.now ∷ []) logs r.1) }
+    ensures accounts { IfSome result (λ r.
+        r.0.items ≡ accounts_of (run (frames.now ++ last.now ∷ []) pair_state).state) }
+{
+    let Ok(mut engine) = engine(alloc) else {
+        return None;
+    };
+    if !(engine.all_fit(frames) && engine.fits(last)) {
+        return None;
+    }
+    let mut logs = Vec::new(alloc);
+    let Ok(()) = engine.run_frames(rt, frames, workers, &NoGate, &mut logs) else {
+        return None;
+    };
+    let Ok(log) = engine.replay_frame(last, &[0, 1]) else {
+        return None;
+    };
+    engine.recycle(log);
+    match engine.accounts() {
+        Ok(accounts) => Some((accounts, engine)),
+        Err(_) => None,
+    }
+}
+
+#[cfg(test)]
+mod tests {
+    use super::{run_both, run_life};
+    use crate::making::quiet;
+    use msg_exec::Workers;
+    use std::panic::Expect;
+
+    #[test]
+    fn two_engines(rt: HostRuntime) {
+        let alloc = rt.alloc();
+        let frames = [quiet(alloc), quiet(alloc), quiet(alloc)];
+        let workers = (Workers::new(1).unwrap(), Workers::new(7).unwrap());
+        let logs = run_both(&rt, alloc, &frames, workers).expect(&rt, "logs");
+        assert!(rt; logs.0.len() == 3 && logs.0 == logs.1);
+    }
+
+    #[test]
+    fn a_life(rt: HostRuntime) {
+        let alloc = rt.alloc();
+        let frames = [quiet(alloc), quiet(alloc)];
+        let workers = Workers::new(2).unwrap();
+        let life = run_life(&rt, alloc, &frames, &quiet(alloc), workers);
+        let (accounts, engine) = life.expect(&rt, "a life");
+        assert!(rt; engine.frames_run() == 3);
+        assert!(rt; accounts.len() == 1 && accounts[0].got == 3 && accounts[0].missed == 0);
+    }
+}

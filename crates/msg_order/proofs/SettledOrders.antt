@@ -1,0 +1,89 @@
+-- The settled order: where it leads, whom it orders, and that any test of conflicts makes the same.
+use Rattle.std.proofs.Common.{◌≡◌, ℕ, ◌<◌, Bool, false, ◌&&◌, List, length, refl, ap, ◌∙◌, ◌⊎◌, inl, inr, ◌↔◌, IsTrue, arith}
+use Rattle.std.proofs.lemmas.{Bool.Decides.eqb_tells, Bool.cases_Bool, Bool.cases_order, Bool.and_parts, Bool.and_from}
+use Rattle.msg_world.specs.{Prelude.Conflict, declared.access.Access.Access}
+use Rattle.msg_world.proofs.{Bits.share_bit-and, Conflicts.collides, Conflicts.conflicts_lem}
+use Rattle.msg_order.specs.Prelude.{ConflictingSystemsAreOrdered, FewerSystemsMakeNoCycle, Graph, IsAcyclic, IsAmong, IsSettledOrder, Path, Rule, TellsConflicts, access_of, edges_of, has_joined, pairs, path, rules_among, settle, settled}
+use Rattle.msg_order.specs.inner.Paths.{conflict_among}
+use Rattle.msg_order.proofs.{Chains.path_grows, Elements.Contains-cases, Elements.Contains-filter, Elements.filter-Contains, PathTest.no_Path, PathTest.no_path, PathTest.path_trans, PathTest.same_test, PathTest.to_Path, SetPaths.joined_in, SetPaths.tells_among, SettledPairs.Contains-pairs, SettledPairs.pairs-Contains, SettledPairs.settle_covers, SettledPairs.settle_keeps}
+
+module _ (rules : List Rule) (joined : List Bool) (conflict : ℕ → ℕ → Bool) where
+  -- it leads only among those that have joined
+  pub settled_among : IsAmong joined (settled conflict rules joined)
+  settled_among =
+      settle_keeps (conflict_among joined conflict) (IsAmong joined) (pairs (length joined)) (rules_among joined rules)
+      (λ p k m test free among i j e. grind (arith, among i j, Contains-cases p k (i, j) e, and_parts, test))
+      (λ i j e. and_parts _ _ (filter-Contains _ (edges_of rules) (i, j) e).1)
+
+  -- it has no cycle where the rules make none
+  pub settled_no_cycle : IsAcyclic (rules_among joined rules) → IsAcyclic (settled conflict rules joined)
+  settled_no_cycle free i =
+      no_Path _ i i (settle_keeps (conflict_among joined conflict) (λ k. (s : ℕ) → path k s s ≡ false)
+      (pairs (length joined)) (rules_among joined rules)
+      (λ p k m test back free s.
+      let rises = pairs-Contains (length joined) p.0 p.1 m in
+      grind (arith, cases_Bool, eqb_tells, free, back, path_trans k, rises))
+      (λ k. no_path _ k k (free k)) i)
+
+  -- one of two in conflict comes before the other
+  pub settled_orders : (i j : ℕ) → i < j → IsTrue (has_joined joined i) → IsTrue (has_joined joined j)
+      → IsTrue (conflict i j)
+      → Path (settled conflict rules joined) i j ⊎ Path (settled conflict rules joined) j i
+  settled_orders i j lt at_i at_j is =
+      elim (settle_covers (conflict_among joined conflict) (pairs (length joined)) (rules_among joined rules) i j
+      (Contains-pairs (length joined) i j lt (joined_in joined j at_j)) (and_from _ _ (and_from _ _ at_i at_j) is)) [
+        | inl p ↦ inl (to_Path _ i j p)
+        | inr p ↦ inr (to_Path _ j i p)
+      ]
+
+-- rules that make no cycle among some systems make none among fewer
+pub fewer_make_none : FewerSystemsMakeNoCycle
+fewer_make_none rules joined fewer among free i p =
+    let both = λ (bs : List Bool) (e : ℕ × ℕ). has_joined bs e.0 && has_joined bs e.1 in
+    let out = filter-Contains (both fewer) (edges_of rules) in
+    let in_ = Contains-filter (both joined) (edges_of rules) in
+    free i (path_grows (rules_among fewer rules) (rules_among joined rules)
+    (λ a b e. grind (arith, out (a, b) e, in_ (a, b), and_parts, and_from, among)) i i p)
+
+-- ---- tests of conflicts
+
+-- the masks of two accesses make a test
+test_of : (a b : Access) → (test : Bool) × (IsTrue test ↔ Conflict a b)
+test_of a b = (
+  _,
+  conflicts_lem a b _ _
+      (collides a.read_types a.write_types b.read_types b.write_types _ _ (share_bit-and _ _) (share_bit-and _ _))
+      (collides a.read_res a.write_res b.read_res b.write_res _ _ (share_bit-and _ _) (share_bit-and _ _)),
+)
+
+pub some_test : (accesses : List Access) (joined : List Bool) → (conflict : ℕ → ℕ → Bool)
+    × TellsConflicts accesses joined conflict
+some_test accesses joined = (
+  λ i j. (test_of (access_of accesses i) (access_of accesses j)).0,
+  λ i j at_i at_j. (test_of (access_of accesses i) (access_of accesses j)).1,
+)
+
+-- whatever test tells the conflicts, it makes one order
+pub settled_is : (accesses : List Access) (rules : List Rule) (joined : List Bool) (conflict : ℕ → ℕ → Bool)
+    → length joined ≡ length accesses → TellsConflicts accesses joined conflict
+    → IsSettledOrder accesses rules joined (settled conflict rules joined)
+settled_is accesses rules joined conflict len tells = record { conflict = conflict; tells = tells; is = refl }
+
+pub settled_only : (accesses : List Access) (rules : List Rule) (joined : List Bool) (conflict : ℕ → ℕ → Bool) (g : Graph)
+    → length joined ≡ length accesses → TellsConflicts accesses joined conflict → IsSettledOrder accesses rules joined g
+    → g ≡ settled conflict rules joined
+settled_only accesses rules joined conflict g len tells order =
+    let here = tells_among accesses joined conflict tells in
+    let there = tells_among accesses joined order.conflict order.tells in
+    let same = λ (i j : ℕ). same_test (conflict_among joined order.conflict i j) (conflict_among joined conflict i j)
+    (λ t. (here i j).1 ((there i j).0 t)) (λ t. (there i j).1 ((here i j).0 t)) in
+    order.is ∙ ap (λ (test : ℕ → ℕ → Bool). settle test (rules_among joined rules) (pairs (length joined)))
+    (λ k i j. same i j k)
+
+pub conflicts_ordered : ConflictingSystemsAreOrdered
+conflicts_ordered accesses rules joined order len settled i j ne at_i at_j conflict =
+    let orders = settled_orders rules joined settled.conflict in
+    let back : Conflict (access_of accesses j) (access_of accesses i) = (conflict.0, grind (arith, conflict.1)) in
+    let up = λ (lt : i < j). orders i j lt at_i at_j ((settled.tells i j at_i at_j).1 conflict) in
+    let down = λ (lt : j < i). orders j i lt at_j at_i ((settled.tells j i at_j at_i).1 back) in
+    rw (settled.is) (grind (arith, cases_order i j, up, down))

@@ -1,0 +1,8 @@
+-- one step of a loop
+pub mod Steps
+-- the table of a frame
+pub mod Tables
+-- the longest chain
+mod Chains
+-- frames in the order of their plans
+mod Orders

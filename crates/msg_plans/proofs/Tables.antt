@@ -1,0 +1,170 @@
+-- The table of a frame.
+use Rattle.std.proofs.Common.{◌≡◌, ℕ, zero, suc, ◌+◌, ◌<◌, Bool, true, false, List, [], ◌∷◌, ◌++◌, length, map, nat_le, get_or, take, refl, subst, sym, ap, ◌∙◌, IsTrue, All, slice_index_or, arith, replicate, le_refl, ℤ}
+use Rattle.std.specs.List.{concat, enumerate_from}
+use Rattle.std.proofs.lemmas.{Bool.cases_lt, Bool.false≢true, List.take_more, List.get_or_past, List.length-map, List.get_or-take, List.get_or-replicate, List.Elements.All-tail, List.FromFn.fill_by_all, List.FromFn.length-enumerate_from, Nat.Bits.bit_at-zero, Simd.map-map}
+use Rattle.std.proofs.lemmas.List.{map-id}
+use Rattle.msg_world.specs.Prelude.{HasPart, OfResource, OfType, Part, Registry, no_access, i64_values}
+use Rattle.msg_world.specs.declared.access.Access.{Access}
+use Rattle.msg_system.specs.Prelude.{IsAccessOf, Meaning, Needs, needs_any, new_asked, new_system, with_conditions}
+use Rattle.msg_order.specs.Prelude.{FewerSystemsMakeNoCycle, IsAcyclic, IsPlanOf, NameSystemsBelow, access_of, edges_of, rules_among}
+use Rattle.msg_order.specs.declared.rule.Rule.{Rule}
+use Rattle.msg_order.proofs.{PathTest.from_Path, PathTest.to_Path, SetPaths.all_rules}
+use Rattle.msg_frames.specs.Prelude.{AreAccessesOf, SameSystems, State, UsesParts, before_joining, has_begun, join_flags, member_needs, nobody, nowhere, waiting_member}
+use Rattle.msg_frames.specs.TurnLaws.{SameMember}
+use Rattle.msg_frames.specs.Frames.{Member}
+use Rattle.msg_frames.specs.declared.place.Place.{Place}
+use Rattle.msg_frames.specs.Frames.{settled_order}
+use Rattle.msg_frames.proofs.{Functions.plan_order, SystemsStay.joining_on_keeps}
+use Rattle.msg_scenario_data.specs.Prelude.{IsRunnable, first_world, meanings_of, places_of, state_of}
+use Rattle.msg_scenario_data.specs.{declared.scenario.Scenario.Scenario, declared.scenario.SystemSpec.SystemSpec}
+use Rattle.msg_plans.specs.Order.{batches_in, needs_in, precedes, state_in}
+use Rattle.msg_plans.specs.inner.Tables.{AreAccesses, IsTableOf, joined_by, spec_needs}
+use Rattle.msg_plans.specs.declared.planned.Planned.{Planned}
+
+-- ---- accesses
+
+accesses_pushed : (xs : List SystemSpec) (bs : List Access) (x : SystemSpec) (a : Access) → AreAccesses xs bs
+    → IsAccessOf (spec_needs x) a → AreAccesses (xs ++ x ∷ []) (bs ++ a ∷ [])
+accesses_pushed [] [] x a are is = (is, tt)
+accesses_pushed [] (b ∷ bs) x a are is = absurd are
+accesses_pushed (y ∷ xs) [] x a are is = absurd are
+accesses_pushed (y ∷ xs) (b ∷ bs) x a are is = (are.0, accesses_pushed xs bs x a are.1 is)
+
+pub accesses_more : (xs : List SystemSpec) (bs : List Access) (i : ℕ) (d : SystemSpec) (a : Access) → i < length xs
+    → AreAccesses (take i xs) bs → IsAccessOf (spec_needs (get_or xs i d)) a
+    → AreAccesses (take (i + 1) xs) (bs ++ a ∷ [])
+accesses_more xs bs i d a lt are is =
+    rw (take_more xs i d lt) (accesses_pushed (take i xs) bs (get_or xs i d) a are is)
+
+pub one_each : (xs : List SystemSpec) (bs : List Access) → AreAccesses xs bs → length bs ≡ length xs
+one_each [] [] are = refl
+one_each [] (b ∷ bs) are = absurd are
+one_each (x ∷ xs) [] are = absurd are
+one_each (x ∷ xs) (b ∷ bs) are = ap suc (one_each xs bs are.1)
+
+-- what system i of these needs, the first of which has number n
+abbrev needs_from : ℕ → List SystemSpec → ℕ → Needs
+needs_from n xs i =
+    with_conditions (slice_index_or (map (λ x. new_system x.1.program x.0) (enumerate_from n xs)) i nobody).needs
+    (slice_index_or (map (λ x. x.place) xs) i nowhere).conditions
+
+nobody_needs : (n i : ℕ) (p : Part) → ((needs_from n [] i).reads p ≡ false) × ((needs_from n [] i).writes p ≡ false)
+nobody_needs n i (OfType t) = grind arith
+nobody_needs n i (OfResource r) = grind arith
+nobody_needs n i Registry = grind arith
+
+nobody_access : (n i : ℕ) → IsAccessOf (needs_from n [] i) no_access
+nobody_access n i = record {
+  reads = λ p. grind (arith, bit_at-zero, nobody_needs n i p);
+  writes = λ p. grind (arith, bit_at-zero, nobody_needs n i p);
+}
+
+access_from : (n : ℕ) (xs : List SystemSpec) (bs : List Access) → AreAccesses xs bs → (i : ℕ)
+    → IsAccessOf (needs_from n xs i) (access_of bs i)
+access_from n [] [] are i = nobody_access n i
+access_from n [] (b ∷ bs) are i = absurd are
+access_from n (x ∷ xs) [] are i = absurd are
+access_from n (x ∷ xs) (b ∷ bs) are zero = are.0
+access_from n (x ∷ xs) (b ∷ bs) are (suc i) = access_from (n + 1) xs bs are.1 i
+
+-- ---- parts that there may be
+
+within_from : (P : Part → Type 0) (n : ℕ) (xs : List SystemSpec)
+    → All (λ x. (p : Part) → IsTrue (needs_any (spec_needs x) p) → P p) xs → (i : ℕ) (p : Part)
+    → IsTrue (needs_any (needs_from n xs i) p) → P p
+within_from P n [] each i p needed = absurd (grind (arith, false≢true, nobody_needs n i p))
+within_from P n (x ∷ xs) each zero p needed = each 0 x (omega arith) p needed
+within_from P n (x ∷ xs) each (suc i) p needed =
+    within_from P (n + 1) xs
+    (All-tail (λ (y : SystemSpec). (q : Part) → IsTrue (needs_any (spec_needs y) q) → P q) x xs each) i p needed
+
+-- ---- who has joined
+
+flags_from : (k : ℕ) (xs : List SystemSpec) (i : ℕ) → i < length xs
+    → get_or (joined_by xs k) i false ≡ nat_le (slice_index_or (map (λ x. x.place) xs) i nowhere).join k
+flags_from k [] i lt = absurd (omega arith)
+flags_from k (x ∷ xs) zero lt = refl
+flags_from k (x ∷ xs) (suc i) lt = flags_from k xs i (omega (arith, lt))
+
+-- ---- the rules
+
+pub none_joined : FewerSystemsMakeNoCycle → (n : ℕ) (rules : List Rule) → NameSystemsBelow n rules
+    → IsAcyclic (edges_of rules) → (joined : List Bool) → length joined ≡ n → IsAcyclic (rules_among joined rules)
+none_joined law n rules below none joined size =
+    law rules (take n (replicate n true)) joined
+    (λ i has.
+    let lt : i < n = grind (arith, cases_lt, false≢true, get_or_past) in
+    get_or-take n (replicate n true) i false lt ∙ get_or-replicate n i true false lt)
+    (rw (all_rules n n rules (le_refl n) below) none)
+
+-- ---- the table
+
+needs_stay : (m n : Member ℤ) → SameMember m n → member_needs n ≡ member_needs m
+needs_stay m n same = grind arith
+
+waiting_needs : (m : Meaning ℤ) (place : Place ℤ) → member_needs (waiting_member m place)
+    ≡ with_conditions m.needs place.conditions
+waiting_needs m place =
+    ap (with_conditions m.needs)
+    (map-map (λ a. a.condition) new_asked place.conditions ∙ map-id place.conditions)
+
+module _ (s : Scenario) where
+  -- before any system joined
+  abbrev early : State i64_values
+  early = before_joining (meanings_of s) (places_of s) s.rules (length s.types) (first_world s)
+
+  joined : SameSystems early (state_of s)
+  joined = joining_on_keeps 1 early
+
+  needs_are : (i : ℕ) → needs_in s i ≡ needs_from 0 s.systems i
+  unfolding needs_in
+  needs_are i =
+      needs_stay (early.members i) ((state_of s).members i) (joined.members i)
+      ∙ waiting_needs (slice_index_or (meanings_of s) i nobody) (slice_index_or (places_of s) i nowhere)
+
+  access_is : (bs : List Access) → AreAccesses s.systems bs → (i : ℕ) → IsAccessOf (needs_in s i) (access_of bs i)
+  access_is bs are i = rw (needs_are i) (access_from 0 s.systems bs are i)
+
+  as_many : length (meanings_of s) ≡ length s.systems
+  as_many = length-map (enumerate_from 0 s.systems) (λ x. new_system x.1.program x.0) ∙ length-enumerate_from 0 s.systems
+
+  module _ (k : ℕ) (some : 0 < k) (runnable : IsRunnable s) where
+    few_parts : UsesParts (state_in s k)
+    unfolding needs_in
+    few_parts i lt p needed =
+        within_from (HasPart 64 64) 0 s.systems
+        (λ j x l q n. elim q as (λ r. HasPart (length s.types) (length s.resources) r → HasPart 64 64 r) [
+          | OfType t ↦ λ below. omega (arith, below, runnable.few_types)
+          | OfResource r ↦ λ below. omega (arith, below, runnable.few_resources)
+          | Registry ↦ λ below. tt
+        ] ((runnable.systems j x l).fits q n)) i p (subst (λ n. IsTrue (needs_any n p)) (needs_are i) needed)
+
+    flags : joined_by s.systems k ≡ join_flags (state_in s k)
+    flags =
+        fill_by_all (has_begun (state_in s k)) (joined_by s.systems k) (length (meanings_of s)) false
+        (length-map s.systems (λ x. nat_le x.place.join k) ∙ sym as_many)
+        (λ i lt. flags_from k s.systems i (omega (arith, as_many, lt)) ∙ grind (arith, joined.members i))
+
+    accesses_are : (bs : List Access) → AreAccesses s.systems bs → AreAccessesOf (state_in s k) bs
+    unfolding needs_in
+    accesses_are bs are = record {
+      each = one_each s.systems bs are ∙ sym as_many;
+      of_needs = λ i lt. access_is bs are i;
+    }
+
+    pub is_table : (p : Planned) → p.frame ≡ k → AreAccesses s.systems p.accesses.items
+        → IsPlanOf p.accesses.items s.rules (joined_by s.systems k) p.plan → p.turns.items ≡ concat p.plan.batches
+        → IsTableOf s p
+    unfolding precedes batches_in
+    is_table p frame are plan turns =
+        let t : State i64_values = state_in s k in
+        let bs : List Access = p.accesses.items in
+        let settled : plan.order ≡ settled_order t =
+        plan_order t bs plan.order few_parts (accesses_are bs are) (rw flags at plan.settled) in
+        let same : p.plan.batches ≡ batches_in s k = rw (settled, flags) at plan.computed in
+        rw frame (record {
+          accesses = access_is bs are;
+          paths = λ i j. grind (arith, plan.paths i j, settled, from_Path (settled_order t) i j, to_Path (settled_order t) i j);
+          batches = same;
+          turns = turns ∙ ap concat same;
+        })

@@ -1,0 +1,6 @@
+pub mod Laws
+pub mod Order
+pub mod PlanText
+pub mod Prelude
+pub mod Remarks
+pub mod inner

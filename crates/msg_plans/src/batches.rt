@@ -1,0 +1,193 @@
+// Batches, and the longest chain through them.
+ghost use Rattle.std.specs.Prelude.{◌≡◌, ◌<◌, ◌++◌, IfOk, OnOk, codes, decimal, find, length};
+ghost use Rattle.msg_plans.specs.Prelude.{batch_line, batches_in, batches_text, chain, chain_text, link, members_text, names_text, precedes, quoted, rank_line, ranks_text};
+ghost use Rattle.msg_plans.specs.inner.Tables.{IsTableOf};
+
+use crate::planned::Planned;
+use msg_files::NoMemory;
+use msg_files::numerals::add_count;
+use msg_scenario_data::Scenario;
+use msg_scenario_data::names::add_system;
+use std::alloc::Global;
+
+/// The names of systems, each with a space in front.
+#[tactic(auto, unfolding(crate::specs::PlanText::names_text))]
+fn add_names(text: &mut Vec<u8>, scenario: &Scenario, systems: &[u32]) -> Result<(), NoMemory>
+    ensures appends { OnOk result
+        (text.new.items ≡ text.old.items ++ names_text scenario.now systems.now) }
+{
+    for system in systems {
+        text.extend_from_slice(b" ")?;
+        add_system(text, scenario, *system)?;
+    }
+    Ok(())
+}
+
+fn add_batch(
+    text: &mut Vec<u8>,
+    scenario: &Scenario,
+    planned: &Planned,
+    b: usize,
+) -> Result<(), NoMemory>
+    requires table { IsTableOf scenario.now planned.now }
+    requires batch { b < length planned.now.plan.batches }
+    ensures appends { OnOk result
+        (text.new.items ≡ text.old.items ++ batch_line scenario.now planned.now.frame b) }
+{
+    let batch = planned.batch(b);
+    add_count(text, b"batch ", b as u64 + 1)?;
+    text.extend_from_slice(b":")?;
+    add_names(text, scenario, batch)?;
+    text.extend_from_slice(b"\n")
+}
+
+/// A line for each batch.
+#[tactic(auto, using(crate::proofs::Steps::text_more), unfolding(crate::specs::PlanText::batches_text))]
+pub(crate) fn add_batches(
+    text: &mut Vec<u8>,
+    scenario: &Scenario,
+    planned: &Planned,
+) -> Result<(), NoMemory>
+    requires table { IsTableOf scenario.now planned.now }
+    ensures appends { OnOk result
+        (text.new.items ≡ text.old.items ++ batches_text scenario.now planned.now.frame) }
+{
+    for b in 0..planned.plan.batches().len() {
+        add_batch(text, scenario, planned, b)?;
+    }
+    Ok(())
+}
+
+/// The name of a system as Graphviz reads it.
+pub(crate) fn add_quoted(
+    text: &mut Vec<u8>,
+    scenario: &Scenario,
+    system: u32,
+) -> Result<(), NoMemory>
+    ensures appends { OnOk result (text.new.items ≡ text.old.items ++ quoted scenario.now system) }
+{
+    text.extend_from_slice(b"\"")?;
+    add_system(text, scenario, system)?;
+    text.extend_from_slice(b"\"")
+}
+
+/// Systems by their quoted names.
+fn add_members(text: &mut Vec<u8>, scenario: &Scenario, systems: &[u32]) -> Result<(), NoMemory>
+    ensures appends { OnOk result
+        (text.new.items ≡ text.old.items ++ members_text scenario.now systems.now) }
+{
+    for system in systems {
+        text.extend_from_slice(b" ")?;
+        add_quoted(text, scenario, *system)?;
+        text.extend_from_slice(b";")?;
+    }
+    Ok(())
+}
+
+fn add_rank(
+    text: &mut Vec<u8>,
+    scenario: &Scenario,
+    planned: &Planned,
+    b: usize,
+) -> Result<(), NoMemory>
+    requires table { IsTableOf scenario.now planned.now }
+    requires batch { b < length planned.now.plan.batches }
+    ensures appends { OnOk result
+        (text.new.items ≡ text.old.items ++ rank_line scenario.now planned.now.frame b) }
+{
+    text.extend_from_slice(b"  { rank=same;")?;
+    add_members(text, scenario, planned.batch(b))?;
+    text.extend_from_slice(b" }\n")
+}
+
+/// A rank for each batch.
+#[tactic(auto, using(crate::proofs::Steps::text_more), unfolding(crate::specs::PlanText::ranks_text))]
+pub(crate) fn add_ranks(
+    text: &mut Vec<u8>,
+    scenario: &Scenario,
+    planned: &Planned,
+) -> Result<(), NoMemory>
+    requires table { IsTableOf scenario.now planned.now }
+    ensures appends { OnOk result
+        (text.new.items ≡ text.old.items ++ ranks_text scenario.now planned.now.frame) }
+{
+    for b in 0..planned.plan.batches().len() {
+        add_rank(text, scenario, planned, b)?;
+    }
+    Ok(())
+}
+
+/// The first system of a batch that has to run before another.
+#[tactic(auto, using(crate::proofs::Steps::find_steps))]
+fn first_before(scenario: &Scenario, planned: &Planned, batch: &[u32], system: u32) -> Option<u32>
+    requires table { IsTableOf scenario.now planned.now }
+    ensures first { result
+        ≡ find (λ i. precedes scenario.now planned.now.frame i system) batch.now }
+{
+    for i in batch {
+        if planned.precedes(scenario, *i, system) {
+            return Some(*i);
+        }
+    }
+    None
+}
+
+/// The first system of a batch that has to run before the first of a chain.
+fn link(scenario: &Scenario, planned: &Planned, batch: &[u32], chain: &[u32]) -> Option<u32>
+    requires table { IsTableOf scenario.now planned.now }
+    ensures link { result ≡ link scenario.now planned.now.frame batch.now chain.now }
+{
+    match chain.first() {
+        Some(next) => first_before(scenario, planned, batch, *next),
+        None => batch.first().copied(),
+    }
+}
+
+/// A chain through all batches, from the last one back.
+fn chain(alloc: Global, scenario: &Scenario, planned: &Planned) -> Result<Vec<u32>, NoMemory>
+    requires table { IsTableOf scenario.now planned.now }
+    ensures chain { IfOk result (λ v. v.items
+        ≡ chain scenario.now planned.now.frame (batches_in scenario.now planned.now.frame)) }
+{
+    let mut chain = Vec::new(alloc);
+    let mut left = planned.plan.batches().len();
+    'batches: while left > 0 {
+        left -= 1;
+        if let Some(system) = link(scenario, planned, planned.batch(left), &chain) {
+            chain.insert(0, system)?;
+        }
+    }
+    Ok(chain)
+}
+
+/// Systems after a head, and how many they are.
+fn add_counted(
+    text: &mut Vec<u8>,
+    head: &[u8],
+    scenario: &Scenario,
+    systems: &[u32],
+) -> Result<(), NoMemory>
+    ensures appends { OnOk result (text.new.items ≡ text.old.items
+        ++ (head.now ++ names_text scenario.now systems.now
+        ++ codes " (" ++ decimal (length systems.now) ++ codes ")\n")) }
+{
+    text.extend_from_slice(head)?;
+    add_names(text, scenario, systems)?;
+    add_count(text, b" (", systems.len() as u64)?;
+    text.extend_from_slice(b")\n")
+}
+
+/// The line of the longest chain.
+pub(crate) fn add_chain(
+    text: &mut Vec<u8>,
+    scenario: &Scenario,
+    planned: &Planned,
+) -> Result<(), NoMemory>
+    requires table { IsTableOf scenario.now planned.now }
+    ensures appends { OnOk result (text.new.items ≡ text.old.items
+        ++ chain_text scenario.now (chain scenario.now planned.now.frame
+        (batches_in scenario.now planned.now.frame))) }
+{
+    let chain = chain(*text.allocator(), scenario, planned)?;
+    add_counted(text, b"longest chain:", scenario, &chain)
+}

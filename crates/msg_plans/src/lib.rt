@@ -1,0 +1,18 @@
+//! What is told of the order in which the systems of a scenario take their turns, without running
+//! it: the batches of a frame, why one system is before another, who writes and reads each type,
+//! and the longest chain.
+#![tactic(auto)]
+
+mod batches;
+mod cause;
+mod edges;
+pub mod laws;
+mod planned;
+mod put;
+mod remarks;
+mod users;
+
+pub use cause::Cause;
+pub use planned::{Form, User};
+pub use put::put_plan;
+pub use remarks::add_remarks;

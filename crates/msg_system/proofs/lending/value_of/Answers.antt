@@ -1,0 +1,5 @@
+use Rattle.msg_world.specs.Prelude.{OfResource}
+use Rattle.msg_system.proofs.lending.value_of.Goals as goal
+
+pub returns : goal.returns
+returns g c = record { value = λ s stand. rw (← c.in-Some.ensures.shown) at (stand (OfResource c.args.r)) }

@@ -1,0 +1,38 @@
+use Rattle.std.proofs.{Common.arith, lemmas.Grind.common_steps, lemmas.Bool.cases_lt, lemmas.Bool.Decides.nat_tests}
+use Rattle.std.proofs.Common.{[], ◌∷◌}
+use Rattle.msg_buffer.specs.Prelude.{StandsFor, write}
+use Rattle.msg_system.proofs.Lendings.{written_messages_stand}
+use Rattle.msg_system.proofs.lending.write_one.Goals as goal
+
+pub returns-in-Ok-clause-numbers : goal.returns-in-Ok-clause-numbers
+returns-in-Ok-clause-numbers g c s stand =
+    let here = written_messages_stand c.args.lent.now s c.args.t _ c.requires.lent c.in-Some.ensures.writable stand in
+    let number = c.in-Ok.ensures.number (s.histories c.args.t) here in
+    let room = c.in-Ok.ensures.room (s.histories c.args.t) here in
+    grind (arith, nat_tests, number, room)
+
+pub returns-in-Ok-clause-written : goal.returns-in-Ok-clause-written
+returns-in-Ok-clause-written g c s stand =
+    let here = written_messages_stand c.args.lent.now s c.args.t _ c.requires.lent c.in-Some.ensures.writable stand in
+    (c.writes_stand.ensures.messages c.args.lent.now c.args.t c.write.new.self c.requires.lent).1 s _
+    (c.in-Ok.ensures.meaning (s.histories c.args.t) here) stand
+
+pub returns-in-Err-NumbersSpent-clause-numbers : goal.returns-in-Err-NumbersSpent-clause-numbers
+returns-in-Err-NumbersSpent-clause-numbers g c s stand =
+    let here = written_messages_stand c.args.lent.now s c.args.t _ c.requires.lent c.in-Some.ensures.writable stand in
+    let spent = c.in-Err-NumbersSpent.ensures.spent (s.histories c.args.t) here in
+    grind (arith, nat_tests, spent)
+
+pub returns-in-Err-NumbersSpent-clause-written : goal.returns-in-Err-NumbersSpent-clause-written
+returns-in-Err-NumbersSpent-clause-written g c s stand =
+    let here = written_messages_stand c.args.lent.now s c.args.t _ c.requires.lent c.in-Some.ensures.writable stand in
+    let spent = c.in-Err-NumbersSpent.ensures.spent (s.histories c.args.t) here in
+    let same : StandsFor c.write.new.self (write (c.args.message ∷ []) (s.histories c.args.t)) =
+    grind (arith, nat_tests, here, spent, c.in-Err-NumbersSpent.ensures.err) in
+    (c.writes_stand.ensures.messages c.args.lent.now c.args.t c.write.new.self c.requires.lent).1 s _ same stand
+
+pub returns-in-Err-NoMemory-clause-refused : goal.returns-in-Err-NoMemory-clause-refused
+returns-in-Err-NoMemory-clause-refused g c s stand =
+    let here = written_messages_stand c.args.lent.now s c.args.t _ c.requires.lent c.in-Some.ensures.writable stand in
+    let spent = c.in-Err-NoMemory.ensures.spent (s.histories c.args.t) here in
+    grind (arith, nat_tests, cases_lt, spent)

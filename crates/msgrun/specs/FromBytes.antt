@@ -1,0 +1,23 @@
+-- From the bytes of a file to what is answered.
+use Rattle.std.specs.Prelude.{◌≡◌, ℕ, List, Ok}
+use Rattle.serde_json.specs.Data.{Data}
+use Rattle.msg_files.specs.Prelude.{IsJsonOf, file_of}
+use Rattle.msg_files.specs.declared.calls.Calls.{Calls}
+use Rattle.msg_reading.specs.Prelude.{IsReadAs}
+use Rattle.msg_scenario_data.specs.declared.scenario.Scenario.{Scenario}
+
+-- The bytes are a scenario file, and this holds of its scenario.
+pub record IsOfScenario (bytes : List ℕ) (Holds : Scenario → Type 0) : Type 0 where
+  pub value : Data
+  pub json : IsJsonOf bytes value
+  pub scenario : Scenario
+  pub read : IsReadAs value scenario
+  pub holds : Holds scenario
+
+-- The bytes are a calls file, and this holds of its calls.
+pub record AreOfCalls (bytes : List ℕ) (Holds : Calls → Type 0) : Type 0 where
+  pub value : Data
+  pub json : IsJsonOf bytes value
+  pub calls : Calls
+  pub read : file_of value ≡ Ok calls
+  pub holds : Holds calls

@@ -1,0 +1,48 @@
+// From the bytes of a file to what is put: what the program does between its input and its output.
+ghost use Rattle.std.specs.Prelude.{◌≡◌, ◌⊎◌, OnErr, OnOk};
+ghost use Rattle.std.specs.Io.KnownBytes.{Appends};
+ghost use Rattle.msg_files.specs.Prelude.{AppendsPrefix, calls_text};
+ghost use Rattle.msg_reports.specs.Prelude.{HasPrinted, IsReported};
+ghost use Rattle.msgrun.specs.FromBytes.{AreOfCalls, IsOfScenario};
+
+use crate::boxes::{as_main_fault, run_in_boxes};
+use msg_command::MainFault;
+use msg_exec::Workers;
+use msg_files::{Sink, read_calls, run_calls};
+use msg_reading::read_scenario;
+use std::alloc::Global;
+use std::thread::Threads;
+
+/// Answers the calls of a calls file, a line for each.
+pub(crate) fn answer_bytes<S: Sink>(
+    alloc: Global,
+    bytes: &[u8],
+    sink: &mut S,
+) -> Result<(), MainFault>
+    ensures ok { OnOk result (AreOfCalls bytes.now (λ calls.
+        Appends (S.contents sink.old) (S.contents sink.new) (calls_text calls))) }
+    ensures front { OnErr result ((sink.new ≡ sink.old) ⊎ AreOfCalls bytes.now (λ calls.
+        AppendsPrefix (S.contents sink.old) (S.contents sink.new) (calls_text calls))) }
+{
+    let calls = read_calls(alloc, bytes)?;
+    Ok(run_calls(alloc, &calls, sink)?)
+}
+
+/// Runs the scenario of a scenario file, and reports it.
+pub(crate) fn report_bytes<R: Threads + Sync, S: Sink>(
+    rt: &R,
+    alloc: Global,
+    bytes: &[u8],
+    workers: Workers,
+    sink: &mut S,
+) -> Result<(), MainFault>
+
+    // Whatever the workers: the report is that of one thread.
+    ensures ok { OnOk result (IsOfScenario bytes.now (λ scenario.
+        IsReported scenario (S.contents sink.old) (S.contents sink.new))) }
+    ensures front { OnErr result ((sink.new ≡ sink.old) ⊎ IsOfScenario bytes.now (λ scenario.
+        HasPrinted scenario (S.contents sink.old) (S.contents sink.new))) }
+{
+    let scenario = read_scenario(alloc, bytes)?;
+    as_main_fault(run_in_boxes(rt, alloc, &scenario, workers, sink))
+}
