@@ -109,9 +109,15 @@ fn totals_of(alloc: Global, systems: usize, types: usize) -> Result<Vec<Vec<Tota
     ensures as_many { IfOk result (λ v. length v.items ≡ systems) }
     ensures totals { IfOk result (λ v. EachIs (λ i w. AreNoTotals types w.items) v.items) }
 {
+    let none = Totals {
+        start: None,
+        got: 0,
+        missed: 0,
+        cleared: 0,
+    };
     let mut totals = Vec::new(alloc);
     for _system in 0..systems {
-        totals.push(Vec::from_elem(alloc, Totals::none(), types)?)?;
+        totals.push(Vec::from_elem(alloc, none, types)?)?;
     }
     Ok(totals)
 }

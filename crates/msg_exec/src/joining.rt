@@ -65,7 +65,9 @@ fn open<V: Value, S: SystemOf<Value = V>>(system: &S, counts: &Counts, totals: &
     for t in 0..totals.len() {
         totals[t] = Totals {
             start: Some(first_place(system, counts, t)),
-            ..Totals::none()
+            got: 0,
+            missed: 0,
+            cleared: 0,
         };
     }
 }

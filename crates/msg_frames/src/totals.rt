@@ -1,5 +1,3 @@
-ghost use Rattle.std.specs.Prelude.{◌≡◌};
-
 /// What a reader got, missed and cleared since it joined, in messages.
 #[derive(Clone, Copy, Debug, PartialEq, Eq)]
 pub struct Totals {
@@ -8,20 +6,4 @@ pub struct Totals {
     pub got: u64,
     pub missed: u64,
     pub cleared: u64,
-}
-
-impl Totals {
-    ghost use Rattle.msg_frames.specs.Entries.{no_totals};
-
-    /// Those of a reader that hasn't joined.
-    pub fn none() -> Totals
-        ensures none { result ≡ no_totals }
-    {
-        Totals {
-            start: None,
-            got: 0,
-            missed: 0,
-            cleared: 0,
-        }
-    }
 }
