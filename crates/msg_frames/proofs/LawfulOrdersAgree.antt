@@ -92,7 +92,7 @@ module _ {V : Type 0} {values : Values V} (foot : JobFootprint values) (accesses
         (pairs_tail (λ i j. ¬ P j i) x rest a) ahead.1)))
 
 -- no path leads back in a lawful order
-lawful_forward : LawfulOrdersKeepPaths → (g : Graph) (who : List Bool) (order : List ℕ) → IsLawfulOrder g who order
+pub lawful_forward : LawfulOrdersKeepPaths → (g : Graph) (who : List Bool) (order : List ℕ) → IsLawfulOrder g who order
     → Forward (Path g) order
 lawful_forward keeps g who order lawful a b d lt l p =
     let s = keeps g who order lawful (get_or order b d) (get_or order a d) p in

@@ -28,5 +28,8 @@ mod StampsStayRecent
 mod ReadersTakeAll
 mod ReadersStayUpToDate
 mod ProgramsReadAll
+mod OneTurn
+mod WakeUps
+mod Latency
 -- ---- worked runs
 mod ReadingsOfRows

@@ -1,7 +1,7 @@
 -- A reader that reads all in each frame is up to date, and so it misses nothing.
 use Rattle.std.proofs.Common.{◌≡◌, ℕ, suc, ◌<◌, ◌≤◌, List, [], ◌∷◌, ◌++◌, map, All, Contains, arith, get_or, IsTrue, inl, inr}
 use Rattle.std.proofs.lemmas.{Bool.cases_Bool, Bool.cases_eq, Bool.false≢true, Option.same_Some, Option.slice_get_cases, Option.slice_get_within, List.append-nil, List.Elements.All-append, List.Elements.All-cons, List.Elements.All-head, List.Elements.All-map, List.Elements.All-nil, List.Elements.All-tail, Bool.Decides.nat_tests}
-use Rattle.msg_buffer.specs.Prelude.{Entry, Fits, GoesOn, History, IsPresent, Stretch, Tile, count, next_place, update}
+use Rattle.msg_buffer.specs.Prelude.{Fits, GoesOn, History, IsPresent, Stretch, Tile, count, next_place, update}
 use Rattle.msg_world.specs.{Prelude.after_update, declared.record.Record.Record, Prelude.Values}
 use Rattle.msg_frames.proofs.{ElementsAndPairs.Cut, ElementsAndPairs.cut, HistoriesGrow.BufferLaws, HistoriesGrow.counts_more, HistoriesGrow.Grows, HistoriesGrow.frame_goes_on, HistoriesGrow.grown, HistoriesGrow.posts_change, HistoriesGrow.runs_go_on, HistoriesGrow.turns_change, SystemsStay.joining_world, SystemsStay.turns_keep, SystemsStay.frame_keeps, ReaderOverJob.IsWritten, ReaderOverJob.tile_of, ReaderOverTurns.turns_moments, ReaderOverTurns.turns_read, BeforeTurns.Prepares, BeforeTurns.prepares, StatesStaySound.begun_alike, StatesStaySound.frame_sound, StatesStaySound.has_no_turn, StatesStaySound.prepared_sound, ReaderOverRun.run_further, StampsStayRecent.AreRecent, StampsStayRecent.StaysRecent, StampsStayRecent.earlier_recent, StampsStayRecent.stays_recent, ReadersTakeAll.takes_by_turn}
 use Rattle.msg_frames.specs.Prelude.{Frame, IsSoundState, IsUpToDate, frame, run, Moment, NothingDrained, ReadsAll, ReadsAllInEach, State, WhoIsUpToDateMissesNothing, WhoReadsEachFrameMissesNothing, after_turns_of, before_turns, has_begun, after_joining, moments, reader_place}
@@ -72,31 +72,42 @@ module _ {V : Type 0} {values : Values V} (laws : BufferLaws V) where
         omega (arith, caught_up reads _ _ parts.is, first, more)
 
     -- a frame keeps recent what its update leaves recent
-    frame_recent : (k p : ℕ) → AreRecent k p ((after_update s.world).histories t) → AreRecent k p (u.world.histories t)
+    pub frame_recent : (k p : ℕ) → AreRecent k p ((after_update s.world).histories t) → AreRecent k p (u.world.histories t)
     frame_recent k p recent =
         turns_change (StaysRecent k p) (stays_recent k p) order b t
         (posts_change (StaysRecent k p) (stays_recent k p) f.posts (after_update (after_joining s).world) t
         (rw (joining_world s) recent))
 
-    pub now_up_to_date : ReadsAll i t f s → NothingDrained t s u → IsUpToDate u i t
-    now_up_to_date reads drained n above within =
-        let p : ℕ = count (s.world.histories t) in
-        let had = has_frame_before reads in
-        let updated : AreRecent 0 p ((after_update s.world).histories t) = λ k e from at.
-        grind (arith, cases_Bool, slice_get_within ((after_update s.world).histories t).entries k e at) in
-        is_there p (update (u.world.histories t)) n (λ k e from at. omega (arith, frame_recent 0 p updated k e from at))
-        (omega arith) (omega (arith, drained, (sound.histories t below).floor)) within
+    -- what is written from the frame's update on is
+    pub new_recent : AreRecent 0 (count (s.world.histories t)) (u.world.histories t)
+    new_recent = frame_recent 0 (count (s.world.histories t)) (λ k e from at.
+        grind (arith, cases_Bool, slice_get_within ((after_update s.world).histories t).entries k e at))
 
-    present_at : (ms : List (Moment V)) → IsUpToDate s i t → NothingDrained t s u
-        → All (λ m. GoesOn m.history (u.world.histories t)) ms → AllPresent (reader_place s i t) ms
-    present_at ms up drained goes k d lt n above within =
+    -- who stands past all that the frame found is up to date after it
+    pub past_frame : count (s.world.histories t) ≤ reader_place u i t → NothingDrained t s u → IsUpToDate u i t
+    past_frame had drained n above within =
+        is_there (count (s.world.histories t)) (update (u.world.histories t)) n
+        (λ k e from at. omega (arith, new_recent k e from at)) (omega (arith, had, above))
+        (omega (arith, drained, had, above, (sound.histories t below).floor)) within
+
+    pub now_up_to_date : ReadsAll i t f s → NothingDrained t s u → IsUpToDate u i t
+    now_up_to_date reads drained = past_frame (has_frame_before reads) drained
+
+    -- who was up to date finds all that it wasn't given present, in any history on the way
+    pub all_there : (h : History (Record V)) → IsUpToDate s i t → NothingDrained t s u → GoesOn h (u.world.histories t) → (n : ℕ)
+        → reader_place s i t ≤ n → n < count h → IsPresent h n
+    all_there h up drained goes n above within =
         let p : ℕ = reader_place s i t in
         let recent = frame_recent 1 p
         (λ m e after at. grind (arith, cases_Bool, nat_tests, same_Some, up m after, slice_get_within)) in
-        is_there p (get_or ms k d).history n (earlier_recent 1 p _ _ (goes k d lt) recent) above
-        (grind (arith, drained, nat_tests, up n above, (sound.histories t below).floor, (goes k d lt).floor)) within
+        is_there p h n (earlier_recent 1 p _ _ goes recent) above
+        (grind (arith, drained, nat_tests, up n above, (sound.histories t below).floor, goes.floor)) within
 
-    frame_misses_none : IsTrue (has_begun s i) → IsUpToDate s i t → NothingDrained t s u
+    present_at : (ms : List (Moment V)) → IsUpToDate s i t → NothingDrained t s u
+        → All (λ m. GoesOn m.history (u.world.histories t)) ms → AllPresent (reader_place s i t) ms
+    present_at ms up drained goes k d lt = all_there (get_or ms k d).history up drained (goes k d lt)
+
+    pub frame_misses_none : IsTrue (has_begun s i) → IsUpToDate s i t → NothingDrained t s u
         → NoneMissed (turns_moments i t order b)
     frame_misses_none has up drained =
         let reads = turns_read laws i t order b (ready.histories t under) (ready.places i t under) in
@@ -104,7 +115,7 @@ module _ {V : Type 0} {values : Values V} (laws : BufferLaws V) where
         (present_at _ up drained reads.passes.earlier) (grind (arith, false≢true, prep.arrival i))
 
     -- who has a turn has joined
-    joined_by_turn : Contains order i → IsTrue (has_begun u i)
+    pub joined_by_turn : Contains order i → IsTrue (has_begun u i)
     joined_by_turn at =
         let alike = begun_alike b _ i (turns_keep order b) in
         grind (arith, alike, at, cases_Bool, has_no_turn b i)
@@ -113,13 +124,13 @@ module _ {V : Type 0} {values : Values V} (laws : BufferLaws V) where
 
   -- The state between a frame and the frames after it is sound, has as many types, and nothing was drained before or
   -- after it.
-  record Between (t : ℕ) (s m u : State values) : Type 0 where
-    sound : IsSoundState m
-    below : t < m.types
-    first : NothingDrained t s m
-    rest : NothingDrained t m u
+  pub record Between (t : ℕ) (s m u : State values) : Type 0 where
+    pub sound : IsSoundState m
+    pub below : t < m.types
+    pub first : NothingDrained t s m
+    pub rest : NothingDrained t m u
 
-  between : (f : Frame V) (frames : List (Frame V)) (s : State values) (t : ℕ) → IsSoundState s → t < s.types
+  pub between : (f : Frame V) (frames : List (Frame V)) (s : State values) (t : ℕ) → IsSoundState s → t < s.types
       → NothingDrained t s (run (f ∷ frames) s).state
       → Between t s (frame f s).state (run (f ∷ frames) s).state
   between f frames s t sound below drained =

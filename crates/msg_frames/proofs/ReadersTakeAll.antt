@@ -38,7 +38,7 @@ module _ {V : Type 0} {values : Values V} (laws : BufferLaws V) (t : ℕ) where
       more_takes (next_op m far.replies) m far _ refl so_far.goes_on.sound so_far.within
       (counts_more _ _ so_far.goes_on) (first_takes n m w sound within) is
 
-  turn_takes : (m : Meaning V) (w : WorldState values) → IsSound (w.histories t) → m.places t ≤ count (w.histories t)
+  pub turn_takes : (m : Meaning V) (w : WorldState values) → IsSound (w.histories t) → m.places t ≤ count (w.histories t)
       → IsTrue (list_any (reads_all t) (ops_answered (next_op m) (turn m w).replies))
       → count (w.histories t) ≤ (turn m w).places t
   unfolding turn

@@ -59,7 +59,7 @@ module _ {V : Type 0} where
       Contains-tail (a, e.message) (enumerate_from (a + 1) (map message_in es)) (k, m)
       (is_written es (a + 1) n k m (omega (arith, at)) (grind (arith, is)))
 
-below_count : {X : Type 0} (xs : List X) (a n : ℕ) (x : X) → Contains (enumerate_from a xs) (n, x) → n < a + length xs
+pub below_count : {X : Type 0} (xs : List X) (a n : ℕ) (x : X) → Contains (enumerate_from a xs) (n, x) → n < a + length xs
 below_count [] a n x c = absurd (not_in_none (n, x) c)
 below_count (y ∷ ys) a n x c = elim (Contains-cases (a, y) (enumerate_from (a + 1) ys) (n, x) c) [
   | inl here ↦ grind (arith, here)

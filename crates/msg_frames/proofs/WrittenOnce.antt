@@ -37,7 +37,7 @@ module _ {V : Type 0} where
 
 module _ {V : Type 0} {values : Values V} where
   -- first these steps, and then those
-  written_further : (t : ℕ) (a : WorldState values) (xs : List (ℕ × Step values)) (b : WorldState values) (ys : List (ℕ × Step values)) (c : WorldState values)
+  pub written_further : (t : ℕ) (a : WorldState values) (xs : List (ℕ × Step values)) (b : WorldState values) (ys : List (ℕ × Step values)) (c : WorldState values)
       → IsWrittenOnce t a xs b → IsWrittenOnce t b ys c → IsWrittenOnce t a (xs ++ ys) c
   written_further t a xs b ys c x y =
       grind (arith, append_assoc, flat_map-append (λ (s : ℕ × Step values). wrote t s.0 s.1.op s.1.reply) xs ys)
@@ -93,7 +93,7 @@ module _ {V : Type 0} {values : Values V} (t : ℕ) where
       → IsWrittenOnce t w (by_system i (after_job j w).steps) (after_job j w).state
   job_writes i j w is = grind (arith, cases_Bool, is, no_steps w, turn_writes j.system w)
 
-  turns_write : (is : List ℕ) (s : State values) → ((i : ℕ) → Contains is i → (s.members i).job.system.writer ≡ i)
+  pub turns_write : (is : List ℕ) (s : State values) → ((i : ℕ) → Contains is i → (s.members i).job.system.writer ≡ i)
       → IsWrittenOnce t s.world (turns_steps is s) (after_turns_of is s).state.world
   turns_write [] s own = no_steps s.world
   turns_write (i ∷ is) s own =
@@ -115,7 +115,7 @@ module _ {V : Type 0} {values : Values V} (t : ℕ) where
   update_keeps : (w : WorldState values) → all_written ((after_update w).histories t) ≡ all_written (w.histories t)
   update_keeps w = grind (arith, cases_Bool)
 
-  before_writes : (posts : List (ℕ × V)) (s : State values)
+  pub before_writes : (posts : List (ℕ × V)) (s : State values)
       → IsWrittenOnce t s.world (post_steps posts (after_update s.world)) (before_turns posts s).world
   before_writes posts s = record {
     grew = rw (joining_world s) (rw (update_keeps s.world) at (posts_write posts (after_update s.world)).grew);

@@ -59,11 +59,10 @@ module _ {V : Type 0} where
 module _ {V : Type 0} {values : Values V} where
   -- those that join with frame k have joined
   abbrev pub with_joining : ℕ → State values → State values
-  with_joining k s =
-      record s {
-        members = λ i. if (s.members i).join == k then joined_member (counts s) (s.members i)
-            else s.members i;
-      }
+  with_joining k s = record s {
+    members = λ i. if (s.members i).join == k then joined_member (counts s) (s.members i)
+        else s.members i;
+  }
 
   -- those that join with the next frame do so; those of frame 1 have joined before it
   abbrev pub after_joining : State values → State values
@@ -110,11 +109,10 @@ module _ {V : Type 0} {values : Values V} where
 
   -- the state after the turn of system i
   abbrev pub after_turn_of : ℕ → State values → State values
-  after_turn_of i s =
-      record s {
-        members = λ k. if k == i then member_after (turn_of s i) (s.members i) else s.members k;
-        world = (turn_of s i).state;
-      }
+  after_turn_of i s = record s {
+    members = λ k. if k == i then member_after (turn_of s i) (s.members i) else s.members k;
+    world = (turn_of s i).state;
+  }
 
   -- what the log says of it
   abbrev pub logged_turn : State values → ℕ → Turn V
@@ -144,12 +142,10 @@ module _ {V : Type 0} {values : Values V} where
 module _ {V : Type 0} {values : Values V} where
   -- what comes before the turns: some join, the world is updated, and the posts are written
   abbrev pub before_turns : List (ℕ × V) → State values → State values
-  before_turns posts s =
-      let ready : State values = after_joining s in
-      record ready {
-        world = after_posts posts (after_update ready.world);
-        frames = suc ready.frames;
-      }
+  before_turns posts s = record (after_joining s) {
+    world = after_posts posts (after_update (after_joining s).world);
+    frames = suc (after_joining s).frames;
+  }
 
 -- What a frame leaves, its log, and its steps: the posts, and those of the turns.
 pub record AfterFrame {V : Type 0} (values : Values V) : Type 0 where
@@ -161,15 +157,13 @@ module _ {V : Type 0} {values : Values V} where
   -- the frame whose systems take their turns in this order
   abbrev pub frame_in : List ℕ → Frame V → State values → AfterFrame values
   frame_in order frame s =
+      let posts : List (ℕ × Step values) = post_steps frame.posts (after_update s.world) in
       let ready : State values = before_turns frame.posts s in
       let turns : AfterTurns values = after_turns_of order ready in
       record {
         state = turns.state;
-        steps = post_steps frame.posts (after_update s.world) ++ turns_steps order ready;
-        log = record {
-          posts = post_replies frame.posts (after_update s.world);
-          turns = turns.turns;
-        };
+        log = record { posts = map (λ x. x.1.reply) posts; turns = turns.turns };
+        steps = posts ++ turns_steps order ready;
       }
 
 module _ {V : Type 0} where

@@ -12,5 +12,7 @@ pub mod Fates
 pub mod Soundness
 pub mod ReaderLaws
 pub mod UpToDate
+pub mod WakeUps
+pub mod Latency
 pub mod Accounts
 pub mod Rows

@@ -15,6 +15,8 @@ unfoldable pub use Rattle.msg_frames.specs.Frames.{parts, settled_order, turn_or
 pub use Rattle.msg_frames.specs.LogEntries.{entries_for, entries_told, ops_by}
 pub use Rattle.msg_frames.specs.TurnLaws.{AreOrdered, OrderIsSettled, TurnsAreInOrder, BatchesRunSideBySide, FrameKeeps, FramesAgreeInLawfulOrders, FramesKeepSystems, FramesRunByBatches, LawfulOrdersAgree, ListsOnlyGrow, SameMember, SameSystems, SameSystemsHaveSameAccesses, TurnsKeepSystems, TurnsOfOthersCommute, all_home, by_batches, home, with_member}
 pub use Rattle.msg_frames.specs.UpToDate.{IsUpToDate, MissesNothing, NothingDrained, ReadsAll, ReadsAllInEach, WhoIsUpToDateMissesNothing, WhoReadsAllCatchesUp, WhoReadsAllHasTheFrameBefore, WhoReadsAllIsUpToDate, WhoReadsEachFrameMissesNothing, WhoseProgramReadsAll, reads_all}
+pub use Rattle.msg_frames.specs.WakeUps.{IsSkipped, IsWokenBy, NoWakeUpIsLost, NothingUnread, ReadsAllIfWoken, ReadsAllWhenWoken, WhoIsWokenStaysSo, WhoSleepsHasNothingUnread, WhoseProgramReadsAllWhenWoken}
+pub use Rattle.msg_frames.specs.Latency.{AllReadersHaveItNext, HasTaken, LaterReadersHaveItAtOnce}
 pub use Rattle.msg_frames.specs.declared.frame.Frame.{Frame}
 pub use Rattle.msg_frames.specs.declared.log.Log.{Log}
 pub use Rattle.msg_frames.specs.declared.log.Outcome.{Outcome}

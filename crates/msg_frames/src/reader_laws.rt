@@ -1,7 +1,8 @@
 //! Laws of readers: facts that hold of every run of frames.
-ghost use Rattle.msg_frames.specs.Prelude.{AccountsBalance, AccountsBeginAtTheStart, AllAreAnswered, EachMeetsOneFate, FirstIsSound, FrameStaysSound, LogsTellEntries, NoneBeforeJoining, ReadersTile, ReplaysTellTheSame, RunStaysSound, RunsAreComplete, RunsCompose, WhoIsUpToDateMissesNothing, WhoReadsAllCatchesUp, WhoReadsAllHasTheFrameBefore, WhoReadsAllIsUpToDate, WhoReadsEachFrameMissesNothing, WhoseProgramReadsAll, WritersInOrder};
+ghost use Rattle.msg_frames.specs.Prelude.{AccountsBalance, AccountsBeginAtTheStart, AllAreAnswered, AllReadersHaveItNext, EachMeetsOneFate, FirstIsSound, FrameStaysSound, LaterReadersHaveItAtOnce, LogsTellEntries, NoWakeUpIsLost, NoneBeforeJoining, ReadersTile, ReplaysTellTheSame, RunStaysSound, RunsAreComplete, RunsCompose, WhoIsUpToDateMissesNothing, WhoIsWokenStaysSo, WhoReadsAllCatchesUp, WhoReadsAllHasTheFrameBefore, WhoReadsAllIsUpToDate, WhoReadsEachFrameMissesNothing, WhoSleepsHasNothingUnread, WhoseProgramReadsAll, WhoseProgramReadsAllWhenWoken, WritersInOrder};
 
 use msg_buffer::laws::{histories_only_grow, readers_tile};
+use msg_order::laws::{lawful_orders_keep_paths, turn_order_is_lawful};
 use msg_system::a_program_is_its_ops_in_order;
 use msg_world::{Record, Value};
 
@@ -91,10 +92,36 @@ pub fn who_reads_each_frame_misses_nothing<V: Value>()
     readers_tile::<Record<V>>();
 }
 
-/// A system that has joined, has no conditions, and whose program of at most 64 ops reads a type
-/// without limit, does so in each frame.
+/// A system whose one condition is that a message of a type came, and which reads all of the type
+/// if it runs, loses no wake-up. If it was skipped, nothing was unread by it as its turn came. So if
+/// it is up to date, it misses nothing over a run, unless a system drains the type.
+pub fn no_wake_up_is_lost<V: Value>()
+    ensures sleeps { WhoSleepsHasNothingUnread V.values }
+    ensures woken { WhoIsWokenStaysSo V.values }
+    ensures law { NoWakeUpIsLost V.values }
+{
+    histories_only_grow::<Record<V>>();
+    readers_tile::<Record<V>>();
+}
+
+/// What a system is told that it wrote, a reader that comes after it in the settled order, and
+/// reads all, takes in the same frame; any reader that reads all in the next frame takes it by the
+/// end of that. It is missed only if the type is drained.
+pub fn what_is_written_is_read_in_time<V: Value>()
+    ensures at_once { LaterReadersHaveItAtOnce V.values }
+    ensures next { AllReadersHaveItNext V.values }
+{
+    histories_only_grow::<Record<V>>();
+    readers_tile::<Record<V>>();
+    turn_order_is_lawful();
+    lawful_orders_keep_paths();
+}
+
+/// A system whose program of at most 64 ops reads a type without limit does so if it runs; if it
+/// has joined and has no conditions, in each frame.
 pub fn programs_read_all<V: Value>()
     ensures law { WhoseProgramReadsAll V.values }
+    ensures woken { WhoseProgramReadsAllWhenWoken V.values }
 {
     histories_only_grow::<Record<V>>();
     a_program_is_its_ops_in_order::<V>();

@@ -4,6 +4,5 @@ pub mod Loan
 pub mod LoanLaws
 pub mod Parts
 pub mod Prelude
-pub mod Values
 pub mod World
 pub mod inner

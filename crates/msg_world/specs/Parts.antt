@@ -2,7 +2,7 @@
 use Rattle.std.specs.Prelude.{◌≡◌, Option, None, IsSome, IfSome, is_some, IsTrue, List, length, slice_index_or, if◌then◌else◌}
 use Rattle.std.specs.Option.{option_or}
 use Rattle.msg_buffer.specs.Prelude.{Kept, StandsFor}
-use Rattle.msg_world.specs.{declared.record.Record.Record, declared.marks.Marks.Marks, declared.access.Access.Access, Access.HasPart, Access.Part, Access.OfType, Access.OfResource, Access.Registry, Access.uses, Access.writes, Values.Values, World.WorldState, World.Content, World.content}
+use Rattle.msg_world.specs.{declared.record.Record.Record, declared.marks.Marks.Marks, declared.access.Access.Access, Access.HasPart, Access.Part, Access.OfType, Access.OfResource, Access.Registry, Access.uses, Access.writes, World.Values, World.WorldState, World.Content, World.content}
 
 -- A slot for each type, for each resource, and for the registry's marks: empty where that part is
 -- elsewhere.

@@ -1,8 +1,19 @@
 -- The world that systems share: the history of each message type, the value of each resource, and
 -- the registry of signals.
-use Rattle.std.specs.Prelude.{ℕ, Bool, true, false, not, ◌&&◌, ◌||◌, ◌==◌, List, slice_index, slice_index_or, if◌then◌else◌}
+use Rattle.std.specs.Prelude.{ℕ, ℤ, pos, ◌+ℤ◌, Bool, true, false, not, ◌&&◌, ◌||◌, ◌==◌, List, slice_index, slice_index_or, if◌then◌else◌}
+use Rattle.std.specs.{Ordering.int_eq, Int.saturate_signed, Int.w64}
 use Rattle.msg_buffer.specs.Prelude.{History, empty, update}
-use Rattle.msg_world.specs.{declared.record.Record.Record, declared.marks.Marks.Marks, declared.access.Access.Access, Values.Values, Access.Part, Access.OfType, Access.OfResource, Access.Registry, Access.writes}
+use Rattle.msg_world.specs.{declared.record.Record.Record, declared.marks.Marks.Marks, declared.access.Access.Access, Access.Part, Access.OfType, Access.OfResource, Access.Registry, Access.writes}
+
+-- What is known of values: some value, what adding makes of two, and whether two are the same.
+pub record Values (V : Type 0) : Type 0 where
+  pub some : V
+  pub plus : V → V → V
+  pub same : V → V → Bool
+
+-- sums are held within the range of `i64`
+abbrev pub i64_values : Values ℤ
+i64_values = record { some = pos 0; plus = λ x y. saturate_signed w64 (x +ℤ y); same = int_eq }
 
 -- a world: a history for each type and a value for each resource, by number, and the registry
 pub record WorldState {V : Type 0} (values : Values V) : Type 0 where
@@ -51,12 +62,10 @@ module _ {V : Type 0} {values : Values V} where
 
   -- the frame's update: every type is updated, a signal is spent; a waiting world stays as it is
   abbrev pub after_update : WorldState values → WorldState values
-  after_update s =
-      if waits s then s
-      else record s {
-        histories = λ t. update (s.histories t);
-        marks = record s.marks { pending = false };
-      }
+  after_update s = if waits s then s else record s {
+    histories = λ t. update (s.histories t);
+    marks = record s.marks { pending = false };
+  }
 
 -- A signal makes a held world pending. It changes nothing where the world isn't held.
 abbrev pub signalled_marks : Marks → Marks

@@ -36,7 +36,7 @@
 /// threads and shared by them, as plain data may.
 pub trait Value: Copy {
     ghost use Rattle.std.specs.Prelude.{◌≡◌};
-    ghost use Rattle.msg_world.specs.Values.{Values};
+    ghost use Rattle.msg_world.specs.World.{Values};
 
     // What contracts know of the type.
     ghost values: { Values Self };
@@ -52,7 +52,7 @@ pub trait Value: Copy {
 
 // A sum is held within the range of `i64`.
 impl Value for i64 {
-    ghost use Rattle.msg_world.specs.Values.{i64_values};
+    ghost use Rattle.msg_world.specs.World.{i64_values};
 
     ghost values = { i64_values };
 
