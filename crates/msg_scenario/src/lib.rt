@@ -2,6 +2,8 @@
 //! The parts are crates of their own: reading and reports need nothing of one another.
 #![tactic(auto)]
 
+pub mod laws;
+
 pub use msg_files::{
     Call, Calls, Fault, FileFault, Key, Location, MemorySink, PutFault, ROOM, Reason, Refusal,
     ReportFault, Sink, StdSink, Step, add_told, check_calls, put_all, read_calls, run_calls,

@@ -3,7 +3,7 @@ ghost use Rattle.std.specs.Prelude.{◌≡◌, ◌⊎◌, OnErr, OnOk};
 ghost use Rattle.std.specs.Io.KnownBytes.{Appends};
 ghost use Rattle.msg_files.specs.Prelude.{AppendsPrefix, calls_text};
 ghost use Rattle.msg_reports.specs.Prelude.{HasPrinted, IsReported};
-ghost use Rattle.msgrun.specs.FromBytes.{AreOfCalls, IsOfScenario};
+ghost use Rattle.msg_scenario.specs.FromBytes.{AreOfCalls, IsOfScenario};
 
 use crate::boxes::{as_main_fault, run_in_boxes};
 use msg_command::MainFault;

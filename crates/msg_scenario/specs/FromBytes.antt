@@ -1,9 +1,10 @@
 -- From the bytes of a file to what is answered.
-use Rattle.std.specs.Prelude.{◌≡◌, ℕ, List, Ok}
+use Rattle.std.specs.Prelude.{◌≡◌, ℕ, List, Ok, Some}
 use Rattle.serde_json.specs.Data.{Data}
 use Rattle.msg_files.specs.Prelude.{IsJsonOf, file_of}
 use Rattle.msg_files.specs.declared.calls.Calls.{Calls}
 use Rattle.msg_reading.specs.Prelude.{IsReadAs}
+use Rattle.msg_reports.specs.Prelude.{IsReported}
 use Rattle.msg_scenario_data.specs.declared.scenario.Scenario.{Scenario}
 
 -- The bytes are a scenario file, and this holds of its scenario.
@@ -21,3 +22,10 @@ pub record AreOfCalls (bytes : List ℕ) (Holds : Calls → Type 0) : Type 0 whe
   pub calls : Calls
   pub read : file_of value ≡ Ok calls
   pub holds : Holds calls
+
+-- A scenario file has one report, whoever runs it, on however many workers.
+abbrev pub EachFileHasOneReport : Type 0
+EachFileHasOneReport = (bytes before one other : List ℕ)
+    → IsOfScenario bytes (λ scenario. IsReported scenario (Some before) (Some one))
+    → IsOfScenario bytes (λ scenario. IsReported scenario (Some before) (Some other))
+    → one ≡ other
