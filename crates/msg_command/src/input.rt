@@ -1,5 +1,5 @@
 ghost use Rattle.std.specs.Prelude.{◌≡◌, ◌≤◌, Err, IfOk, vec_len};
-ghost use Rattle.msg_command.specs.Prelude.{IsAllOf, GaveMoreThan};
+ghost use Rattle.msg_command.specs.Prelude.{GaveAtMost, GaveMoreThan, IsAllOf};
 
 use std::alloc::Global;
 use std::io::Read;
@@ -32,6 +32,8 @@ pub fn read_all<R: Read>(alloc: Global, input: &mut R) -> Result<Vec<u8>, InputF
     ensures small { IfOk result (λ v. vec_len v ≤ MAX_BYTES) }
     ensures large { result ≡ Err InputFault.TooLarge
         → GaveMoreThan (R.remaining input.old) (R.remaining input.new) MAX_BYTES }
+    ensures no_memory { result ≡ Err InputFault.NoMemory
+        → GaveAtMost (R.remaining input.old) (R.remaining input.new) MAX_BYTES }
 {
     let mut all = Vec::new(alloc);
     let mut buffer = [0u8; 4096];

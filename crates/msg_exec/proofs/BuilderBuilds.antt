@@ -1,10 +1,10 @@
 -- What a builder tests of systems and a world, and systems that were given their numbers.
-use Rattle.std.proofs.Common.{◌≡◌, ℕ, zero, suc, ◌+◌, ◌++◌, List, [], ◌∷◌, length, map, Some, refl, ap, arith, IsSome, slice_get}
+use Rattle.std.proofs.Common.{◌≡◌, ℕ, zero, suc, ◌+◌, ◌<◌, ◌++◌, List, [], ◌∷◌, length, map, take, drop, set, get_or, Some, refl, ap, arith, IsSome, slice_get}
 use Rattle.std.proofs.lemmas.{Bool.cases_lt, Bool.false≢true, List.get_or_past, Option.none-some, Option.same_Some, Option.slice_get_within}
 use Rattle.msg_world.specs.Prelude.{Has, OfResource, OfType, Part, Parts, Registry, slot}
 use Rattle.msg_order.specs.declared.rule.Rule.{Rule}
-use Rattle.msg_system.specs.Prelude.{HasClash, Meaning}
-use Rattle.msg_exec.specs.Prelude.{BuildRefusal, Clash, Cycle, EachIs, NoMemory, RefusesFor, numbered_from}
+use Rattle.msg_system.specs.Prelude.{Meaning}
+use Rattle.msg_exec.specs.Prelude.{BuildRefusal, Clash, Cycle, NoMemory, NoneIsClash, RefusesFor, numbered_from}
 use Rattle.msg_exec.proofs.ItemsOfLists.{item_at}
 
 -- ---- what a world has
@@ -23,12 +23,17 @@ module _ {V : Type 0} where
   abbrev as_number : ℕ → Meaning V → Meaning V
   as_number n m = record m { writer = n; places = λ t. 0 }
 
-  pub numbered_more : (n : ℕ) (ms : List (Meaning V)) (m : Meaning V) → numbered_from n (ms ++ m ∷ []) ≡ numbered_from n ms
-      ++ record m { writer = n + length ms; places = λ t. 0 } ∷ []
-  numbered_more n [] m = ap (λ k. as_number k m ∷ []) (omega arith)
-  numbered_more n (x ∷ ms) m =
-      let number : n + suc (length ms) ≡ n + 1 + length ms = omega arith in
-      rw (number, numbered_more (n + 1) ms m) refl
+  -- those below i have their numbers
+  abbrev pub numbered_below : ℕ → ℕ → List (Meaning V) → List (Meaning V)
+  numbered_below n i ms = numbered_from n (take i ms) ++ drop i ms
+
+  pub numbered_next : (n i : ℕ) (ms : List (Meaning V)) (d : Meaning V) → i < length ms
+      → set (numbered_below n i ms) i (as_number (n + i) (get_or (numbered_below n i ms) i d)) ≡ numbered_below n (suc i) ms
+  numbered_next n i [] d lt = absurd (omega (arith, lt))
+  numbered_next n zero (m ∷ ms) d lt = ap (λ k. as_number k m ∷ ms) (omega arith)
+  numbered_next n (suc i) (m ∷ ms) d lt =
+      let number : n + suc i ≡ n + 1 + i = omega arith in
+      ap (λ xs. as_number n m ∷ xs) (rw number (numbered_next (n + 1) i ms d (omega (arith, lt))))
 
 module _ {S V : Type 0} (meaning : S → Meaning V) where
   -- system i of the numbered list is system i of the old list, with its number
@@ -57,8 +62,7 @@ module _ {S V : Type 0} (meaning : S → Meaning V) where
         let y' = before i x.0 x.1 in
         (x.0, (x.1, grind (arith, same_Some, y')))
 
-    pub no_clash_before : EachIs (λ i x. ¬ HasClash (meaning x).needs) new
-        → EachIs (λ i x. ¬ HasClash (meaning x).needs) old
+    pub no_clash_before : NoneIsClash meaning new → NoneIsClash meaning old
     no_clash_before none i y there clash = let x = after i y there in none i x.0 x.1.0 (rw (← x.1.1) at clash)
 
     pub refusal_before : (rules : List Rule) (refusal : BuildRefusal) → RefusesFor meaning new rules refusal
@@ -73,4 +77,4 @@ module _ {S V : Type 0} (meaning : S → Meaning V) where
               lowest.lowest r x.0 lt x.1.0 (rw (← x.1.1) at clash);
         }
     refusal_before rules (Cycle s) refused = (no_clash_before refused.0, refused.1)
-    refusal_before rules NoMemory refused = refused
+    refusal_before rules NoMemory refused = (no_clash_before refused.0, refused.1)

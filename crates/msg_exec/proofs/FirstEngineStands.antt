@@ -1,17 +1,16 @@
 -- A new engine stands for the first state.
 use Rattle.std.proofs.Common.{◌≡◌, ℕ, ◌<◌, ◌≤◌, Bool, true, false, List, length, map, Option, Some, None, refl, sym, ap, ◌∙◌, arith, inl, inr, le_refl, replicate, slice_get, take, slice_index_or}
-use Rattle.std.proofs.lemmas.{Bool.cases_lt, Bool.false≢true, List.get_or-map, List.get_or-replicate, List.get_or_past, List.get_or-take, List.length-map, Option.get_or_from_slice_get, Option.slice_get-get_or, Option.slice_get_within, List.map-id, Simd.map-map}
+use Rattle.std.proofs.lemmas.{Bool.cases_lt, Bool.false≢true, List.get_or-map, List.get_or-replicate, List.get_or_past, List.get_or-take, List.length-map, Option.get_or_from_slice_get, Option.slice_get-get_or, List.map-id, Simd.map-map}
 use Rattle.std.specs.Global.{Box, Vec}
-use Rattle.msg_world.specs.declared.access.Access.{Access}
 use Rattle.msg_world.specs.Prelude.{Has, HasPart, IsWhole, OfResource, OfType, Part, Parts, PartsStand, Registry, WorldState, Values}
 use Rattle.msg_order.specs.declared.rule.Rule.{Rule}
 use Rattle.msg_order.specs.Prelude.{FewerSystemsMakeNoCycle, IsAcyclic, NameSystemsBelow, access_of, edges_of, rules_among}
-use Rattle.msg_system.specs.Prelude.{HasClash, Meaning, new_asked}
+use Rattle.msg_system.specs.Prelude.{Meaning, new_asked}
 use Rattle.msg_order.proofs.SetPaths.{all_rules}
 use Rattle.msg_system.proofs.AccessesUseNeeds.{uses_needs}
 use Rattle.msg_frames.specs.declared.place.Place.{Place}
 use Rattle.msg_exec.specs.Prelude.{AreJoins, Core, EachIs, GuardedSystem, Lender, LenderStands, MayBeAdded, Schedule}
-use Rattle.msg_exec.specs.{declared.building.Prepared.Prepared, inner.EngineParts.IsAccessAt, inner.EngineParts.IsPreparedFor, inner.EngineParts.IsGuardedAt, inner.SystemsOut.HaveReadNothing}
+use Rattle.msg_exec.specs.{declared.building.Prepared.Prepared, inner.EngineParts.IsPreparedFor, inner.EngineParts.IsGuardedAt, inner.SystemsOut.HaveReadNothing}
 use Rattle.msg_frames.specs.Prelude.{AreNew, nobody, nowhere, before_joining, State}
 use Rattle.msg_exec.proofs.ItemsOfLists.{item_at}
 use Rattle.msg_system.specs.declared.condition.Condition.{Condition}
@@ -75,7 +74,7 @@ module _ {S V : Type 0} (meaning : S → Meaning V) where
                   let there = slice_get-get_or guarded.items i None (omega (arith, lt, n, one_each)) in
                   let system = are_guarded i _ there f.x f.place f.sx f.sp in
                   let its = slice_get-get_or made.accesses.items i _ (omega (arith, lt, n, prepared.one_access_each)) in
-                  let access = (prepared.accesses i (access_of made.accesses.items i) its).access f.x f.place f.sx f.sp in
+                  let access = prepared.accesses i (access_of made.accesses.items i) its f.x f.place f.sx f.sp in
                   let fits = f.may.fits f.place f.sp in
                   rw (f.is, f.at)
                   (grind (arith, access, conditions_new, fits, none, system, total.1, uses_needs));
@@ -134,9 +133,3 @@ none_more law n rules below none joined size =
     let lt : i < n = grind (arith, cases_lt, false≢true, get_or_past) in
     get_or-take n (replicate n true) i false lt ∙ get_or-replicate n i true false lt)
     (rw (all_rules n n rules (le_refl n) below) none)
-
-module _ {S V : Type 0} (meaning : S → Meaning V) where
-  pub none_clashes : (systems : List S) (places : List (Place V)) (xs : List Access) → length xs ≡ length systems
-      → EachIs (IsAccessAt meaning systems places) xs → EachIs (λ i x. ¬ HasClash (meaning x).needs) systems
-  none_clashes systems places xs size each i x there = let a =
-      item_at xs i (omega (arith, size, slice_get_within systems i x there)) in (each i a.0 a.1).no_clash x there

@@ -1,8 +1,8 @@
 -- What a new engine is made of, and when there is none.
-use Rattle.std.specs.Prelude.{◌≡◌, ℕ, ◌+◌, ◌<◌, ◌≤◌, List, [], ◌∷◌, length, Some, slice_get, IsTrue, ⊤}
+use Rattle.std.specs.Prelude.{◌≡◌, ℕ, ◌+◌, ◌<◌, ◌≤◌, List, [], ◌∷◌, length, Some, slice_get, IsTrue}
 use Rattle.msg_world.specs.Prelude.{Has, Part, Parts}
 use Rattle.msg_order.specs.declared.rule.Rule.{Rule}
-use Rattle.msg_order.specs.Prelude.{IsLowestOnCycle, NameSystemsBelow, edges_of}
+use Rattle.msg_order.specs.Prelude.{IsAcyclic, IsLowestOnCycle, NameSystemsBelow, edges_of}
 use Rattle.msg_system.specs.Prelude.{HasClash, Meaning, needs_any, with_conditions}
 use Rattle.msg_frames.specs.declared.place.Place.{Place}
 use Rattle.msg_frames.specs.Prelude.{IsNew}
@@ -33,6 +33,10 @@ module _ {S V : Type 0} (meaning : S → Meaning V) where
         → FitsWorld world (meaning x) place
     pub joins : (place : Place V) → slice_get places i ≡ Some place → IsJoin place.join
 
+  -- no system reads and writes one part
+  abbrev pub NoneIsClash : List S → Type 0
+  NoneIsClash systems = EachIs (λ i x. ¬ HasClash (meaning x).needs) systems
+
   -- s is the lowest system that reads and writes one part
   pub record IsLowestClash (systems : List S) (s : ℕ) : Type 0 where
     pub system : S
@@ -41,13 +45,12 @@ module _ {S V : Type 0} (meaning : S → Meaning V) where
     pub lowest : (r : ℕ) (x : S) → r < s → slice_get systems r ≡ Some x
         → ¬ HasClash (meaning x).needs
 
-  -- A refusal names the lowest system with a clash; or, where none has one, the lowest on a cycle
-  -- of rules.
+  -- A refusal names the lowest system with a clash; else the lowest on a cycle of rules. It is want
+  -- of memory only if there is neither.
   abbrev pub RefusesFor : List S → List Rule → BuildRefusal → Type 0
   RefusesFor systems rules (Clash s) = IsLowestClash systems s
-  RefusesFor systems rules (Cycle s) = EachIs (λ i x. ¬ HasClash (meaning x).needs) systems
-      × IsLowestOnCycle (edges_of rules) s
-  RefusesFor systems rules NoMemory = ⊤
+  RefusesFor systems rules (Cycle s) = NoneIsClash systems × IsLowestOnCycle (edges_of rules) s
+  RefusesFor systems rules NoMemory = NoneIsClash systems × IsAcyclic (edges_of rules)
 
 -- ---- a builder
 

@@ -1,5 +1,5 @@
 -- When what an engine works on stands for a state.
-use Rattle.std.specs.Prelude.{◌≡◌, ℕ, ◌-◌, ◌^◌, ◌≤◌, ◌<◌, min}
+use Rattle.std.specs.Prelude.{◌≡◌, ℕ, suc, ◌-◌, ◌^◌, ◌≤◌, ◌<◌, min}
 use Rattle.msg_order.specs.Prelude.{IsPlanOf, NameSystemsBelow}
 use Rattle.msg_system.specs.Prelude.{Meaning}
 use Rattle.msg_exec.specs.{declared.engine_core.Core.Core, Lender.AreJoins, Lender.LenderStands}
@@ -10,6 +10,11 @@ module _ {V : Type 0} {values : Values V} where
   -- how many frames were run, as an engine counts them: it stays at the greatest number of its type
   abbrev pub frame_count : State values → ℕ
   frame_count s = min s.frames (2 ^ 32 - 1)
+
+  -- A system joins with the next frame. With the first none does: those of join 1 joined as the
+  -- engine was made.
+  abbrev pub SomeJoin : State values → Type 0
+  SomeJoin s = (0 < s.frames) × ((i : ℕ) × (i < s.systems) × ((s.members i).join ≡ suc s.frames))
 
 module _ {S V : Type 0} {values : Values V} where
   -- The parts of a core that no frame changes are what the state says, and keep to the bounds of an

@@ -9,10 +9,10 @@ ghost use Rattle.msg_exec.specs.inner.SystemsOut.{AreOut};
 
 use crate::job::Job;
 use crate::lender::{Lender, run_turn};
-use crate::side_by_side::run_side_by_side;
+use crate::side_by_side::{Crew, run_side_by_side};
 use crate::size::size_of_turns;
 use crate::spares::Spares;
-use crate::{Gate, NoMemory, Turn, Workers};
+use crate::{Gate, NoMemory, Turn};
 use msg_frames::laws::batches_run_side_by_side;
 use msg_system::SystemOf;
 use msg_world::Value;
@@ -42,12 +42,9 @@ fn lend_out_all<V: Value, S: SystemOf<Value = V>>(
 
 /// Runs the jobs of a batch over the workers, and appends their turns, by order of addition.
 fn run_many<R: Threads + Sync, V: Value + Send + Sync, S: SystemOf<Value = V> + Send, G: Gate>(
-    rt: &R,
-    alloc: Global,
+    crew: &Crew<R, G>,
     lender: &mut Lender<S, V>,
     batch: &[u32],
-    workers: Workers,
-    gate: &G,
     spares: &mut Spares<V>,
     turns: &mut Vec<Turn<V>>,
 ) -> Result<(), NoMemory>
@@ -61,16 +58,17 @@ fn run_many<R: Threads + Sync, V: Value + Send + Sync, S: SystemOf<Value = V> + 
     ensures turns { OnOk result ((s : State V.values) → LenderStands S.meaning lender.old s
         → turns.new.items ≡ turns.old.items ++ (after_turns_of batch.now s).turns) }
     ensures accesses { OnOk result (lender.new.accesses.items ≡ lender.old.accesses.items) }
-    ensures gate_passed { OnOk result (EachPassedGate (G.passed gate.now) workers batch.now) }
+    ensures gate_passed { OnOk result (EachPassedGate (G.passed crew.now.gate.now) crew.now.workers
+        batch.now) }
 {
     batches_run_side_by_side::<V>();
     written_parts_come_home::<V>();
-    let jobs = lend_out_all(alloc, lender, batch, spares)?;
+    let jobs = lend_out_all(crew.alloc, lender, batch, spares)?;
     let habit = spares.habit()?;
-    let results = run_side_by_side(rt, alloc, &lender.world, gate, workers, jobs, habit)?;
+    let results = run_side_by_side(crew, &lender.world, jobs, habit)?;
     for result in results {
         let done = result?;
-        turns.push(lender.take_back(alloc, done, spares))?;
+        turns.push(lender.take_back(crew.alloc, done, spares))?;
     }
     Ok(())
 }
@@ -102,11 +100,11 @@ pub(crate) fn run_turns<V: Value, S: SystemOf<Value = V>, G: Gate>(
 
 /// Whether the next batch, of so many jobs, goes over workers.
 fn goes_over_workers<V: Value>(
-    workers: Workers,
+    workers: u32,
     jobs: usize,
     spares: &mut Spares<V>,
 ) -> Result<bool, NoMemory> {
-    if workers.number() == 1 || jobs <= 1 {
+    if workers == 1 || jobs <= 1 {
         return Ok(false);
     }
     Ok(spares.habit()?.tries_next())
@@ -115,13 +113,13 @@ fn goes_over_workers<V: Value>(
 /// Tells the habit of its place how much a batch in place did, whose turns begin with `first`. One
 /// that can't go over workers has no habit.
 fn tell_in_place<V: Value>(
-    workers: Workers,
+    workers: u32,
     jobs: usize,
     turns: &[Turn<V>],
     first: usize,
     spares: &mut Spares<V>,
 ) -> Result<(), NoMemory> {
-    if workers.number() == 1 || jobs <= 1 {
+    if workers == 1 || jobs <= 1 {
         return Ok(());
     }
     spares.habit()?.did_in_place(size_of_turns(turns, first));
@@ -132,12 +130,9 @@ fn tell_in_place<V: Value>(
 /// worker runs them all, if there is at most one, and if workers didn't pay lately for the batches
 /// in this place of a frame.
 fn run_batch<R: Threads + Sync, V: Value + Send + Sync, S: SystemOf<Value = V> + Send, G: Gate>(
-    rt: &R,
-    alloc: Global,
+    crew: &Crew<R, G>,
     lender: &mut Lender<S, V>,
     batch: &[u32],
-    workers: Workers,
-    gate: &G,
     spares: &mut Spares<V>,
     turns: &mut Vec<Turn<V>>,
 ) -> Result<(), NoMemory>
@@ -151,15 +146,17 @@ fn run_batch<R: Threads + Sync, V: Value + Send + Sync, S: SystemOf<Value = V> +
     ensures turns { OnOk result ((s : State V.values) → LenderStands S.meaning lender.old s
         → turns.new.items ≡ turns.old.items ++ (after_turns_of batch.now s).turns) }
     ensures accesses { OnOk result (lender.new.accesses.items ≡ lender.old.accesses.items) }
-    ensures gate_passed { OnOk result (EachPassedGate (G.passed gate.now) workers batch.now) }
+    ensures gate_passed { OnOk result (EachPassedGate (G.passed crew.now.gate.now) crew.now.workers
+        batch.now) }
 {
+    let workers = crew.workers.number();
     let first = turns.len();
     if goes_over_workers(workers, batch.len(), spares)? {
-        run_many(rt, alloc, lender, batch, workers, gate, spares, turns)?;
+        run_many(crew, lender, batch, spares, turns)?;
         let size = size_of_turns(turns.as_slice(), first);
         spares.habit()?.did_over_workers(size);
     } else {
-        run_turns(alloc, lender, batch, gate, spares, turns)?;
+        run_turns(crew.alloc, lender, batch, crew.gate, spares, turns)?;
         tell_in_place(workers, batch.len(), turns.as_slice(), first, spares)?;
     }
     Ok(())
@@ -172,12 +169,9 @@ pub(crate) fn run_batches<
     S: SystemOf<Value = V> + Send,
     G: Gate,
 >(
-    rt: &R,
-    alloc: Global,
+    crew: &Crew<R, G>,
     lender: &mut Lender<S, V>,
     batches: &[Vec<u32>],
-    workers: Workers,
-    gate: &G,
     spares: &mut Spares<V>,
 ) -> Result<Vec<Turn<V>>, NoMemory>
     requires stands { (s : State V.values) × (LenderStands S.meaning lender.old s
@@ -193,13 +187,13 @@ pub(crate) fn run_batches<
         → turns.items
         ≡ (after_turns_of (concat (map (λ batch. batch.items) batches.now)) s).turns) }
     ensures accesses { OnOk result (lender.new.accesses.items ≡ lender.old.accesses.items) }
-    ensures gate_passed { OnOk result (EachPassedGate (G.passed gate.now) workers
+    ensures gate_passed { OnOk result (EachPassedGate (G.passed crew.now.gate.now) crew.now.workers
         (concat (map (λ batch. batch.items) batches.now))) }
 {
-    let mut turns = spares.turns(alloc, lender.accesses.len())?;
+    let mut turns = spares.turns(crew.alloc, lender.accesses.len())?;
     spares.begin_batches();
     for batch in batches {
-        run_batch(rt, alloc, lender, batch, workers, gate, spares, &mut turns)?;
+        run_batch(crew, lender, batch, spares, &mut turns)?;
         spares.next_batch();
     }
     Ok(turns)

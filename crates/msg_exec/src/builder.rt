@@ -5,7 +5,7 @@ ghost use Rattle.msg_order.specs.Prelude.{IsAcyclic, NameSystemsBelow, edges_of}
 ghost use Rattle.msg_order.specs.declared.rule.Rule.{Rule as RuleView};
 ghost use Rattle.msg_system.specs.Prelude.{HasClash};
 ghost use Rattle.msg_frames.specs.Prelude.{first_state};
-ghost use Rattle.msg_exec.specs.Prelude.{AllFit, EachIs, FitsWorld, IsEngine, IsFirstUnknown, IsLowestMisfit, HasRunSince, IsSpoiled, Misfit, RefusesToAdd, RefusesToBuild, UnknownSystem, numbered_from};
+ghost use Rattle.msg_exec.specs.Prelude.{AllFit, EachIs, FitsWorld, IsEngine, IsFirstUnknown, IsLowestMisfit, HasRunSince, IsSpoiled, Misfit, NoneIsClash, RefusesToAdd, RefusesToBuild, UnknownSystem, numbered_from};
 
 use crate::{BuildError, EngineOf, Items, NoMemory, Place};
 use msg_order::Rule;
@@ -93,23 +93,15 @@ fn check_names<S>(rules: &[Rule], systems: &[S]) -> Result<(), BuildError>
     Ok(())
 }
 
-/// The systems, each with its number.
-fn numbered<V: Value, S: Numbered + SystemOf<Value = V>>(
-    alloc: Global,
-    systems: Vec<S>,
-) -> Result<Vec<S>, NoMemory>
-    requires few { length systems.items ≤ 256 }
-    ensures as_many { IfOk result (λ v. length v.items ≡ length systems.items) }
-    ensures numbered { IfOk result (λ v.
-        map S.meaning v.items ≡ numbered_from 0 (map S.meaning systems.items)) }
+/// Gives each system its number.
+fn number_all<V: Value, S: Numbered + SystemOf<Value = V>>(systems: &mut [S])
+    requires few { length systems.old ≤ 256 }
+    ensures as_many { length systems.new ≡ length systems.old }
+    ensures numbered { map S.meaning systems.new ≡ numbered_from 0 (map S.meaning systems.old) }
 {
-    let mut numbered = Vec::new(alloc);
-    for system in systems {
-        let mut system = system;
-        system.set_number(numbered.len() as u32);
-        numbered.push(system)?;
+    for i in 0..systems.len() {
+        systems[i].set_number(i as u32);
     }
-    Ok(numbered)
 }
 
 impl<V: Value, S: Numbered + SystemOf<Value = V>> EngineBuilder<S, V> {
@@ -196,8 +188,7 @@ impl<V: Value, S: Numbered + SystemOf<Value = V>> EngineBuilder<S, V> {
         ensures fresh { IfOk result (λ e. ¬ IsSpoiled e) }
         ensures fit { OnOk result (AllFit S.meaning world self.systems self.places) }
         ensures named { OnOk result (NameSystemsBelow (length self.systems) self.rules) }
-        ensures no_clash { OnOk result
-            (EachIs (λ i x. ¬ HasClash (S.meaning x).needs) self.systems) }
+        ensures no_clash { OnOk result (NoneIsClash S.meaning self.systems) }
         ensures no_cycle { OnOk result (IsAcyclic (edges_of self.rules)) }
         ensures refusal { IfErr result (RefusesToBuild S.meaning world self) }
     {
@@ -205,14 +196,11 @@ impl<V: Value, S: Numbered + SystemOf<Value = V>> EngineBuilder<S, V> {
         check_names(&self.rules, &self.systems)?;
         let EngineBuilder {
             alloc,
-            systems,
+            mut systems,
             places,
             rules,
         } = self;
-        let systems = numbered(alloc, systems)?;
-        match EngineOf::new(alloc, world, systems, places, rules) {
-            Ok(engine) => Ok(engine),
-            Err(refusal) => Err(BuildError::Refused(refusal)),
-        }
+        number_all(&mut systems);
+        Ok(EngineOf::new(alloc, world, systems, places, rules)?)
     }
 }

@@ -1,9 +1,9 @@
 // The parts of a new engine.
-ghost use Rattle.std.specs.Prelude.{◌≡◌, ◌≤◌, ◌↔◌, IfOk, IfErr, OnOk, IsTrue, length, map};
+ghost use Rattle.std.specs.Prelude.{◌≡◌, ◌≤◌, ◌↔◌, ℕ, IfOk, IfErr, OnOk, IsTrue, length, map};
 ghost use Rattle.msg_order.specs.Prelude.{IsAcyclic, NameSystemsBelow, edges_of};
-ghost use Rattle.msg_system.specs.Prelude.{HasClash, IsAccessOf, new_asked};
-ghost use Rattle.msg_exec.specs.Prelude.{EachIs, RefusesFor};
-ghost use Rattle.msg_exec.specs.inner.EngineParts.{AreNoTotals, IsAccessAt, IsPreparedFor, IsGuardedAt, RefusesForClash, RefusesForCycle};
+ghost use Rattle.msg_system.specs.Prelude.{HasClash, new_asked};
+ghost use Rattle.msg_exec.specs.Prelude.{Clash, EachIs, IsLowestClash, NoneIsClash, RefusesFor};
+ghost use Rattle.msg_exec.specs.inner.EngineParts.{AreNoTotals, IsAccessAt, IsPreparedFor, IsGuardedAt};
 
 use crate::engine_core::plan_by;
 use crate::job::GuardedSystem;
@@ -22,39 +22,62 @@ pub(crate) struct Prepared {
     pub totals: Vec<Vec<Totals>>,
 }
 
-/// The access of a system without its conditions, and whether it reads and writes one part.
-fn own_access<V: Value, S: SystemOf<Value = V>>(system: &S) -> (Access, bool)
-    ensures access { IsAccessOf (S.meaning system.now).needs result.0 }
-    ensures clash { IsTrue result.1 ↔ HasClash (S.meaning system.now).needs }
+/// Whether a system, without its conditions, reads and writes one part.
+fn is_clash<V: Value, S: SystemOf<Value = V>>(system: &S) -> bool
+    ensures clash { IsTrue result ↔ HasClash (S.meaning system.now).needs }
 {
-    let own = system.access();
-    let clash = own.is_clash();
-    (own, clash)
+    system.access().is_clash()
 }
 
-/// The access of each system's job, unless a system's own access is a clash.
+/// Refuses the lowest system that is a clash.
+fn check_clashes<V: Value, S: SystemOf<Value = V>>(systems: &[S]) -> Result<(), BuildRefusal>
+    requires few { length systems.now ≤ 256 }
+    ensures none { OnOk result (NoneIsClash S.meaning systems.now) }
+    ensures clash { IfErr result (λ e. (s : ℕ) × (e ≡ Clash s)
+        × IsLowestClash S.meaning systems.now s) }
+{
+    for i in 0..systems.len() {
+        if is_clash(&systems[i]) {
+            return Err(BuildRefusal::Clash(i as u32));
+        }
+    }
+    Ok(())
+}
+
+/// Refuses a system that is a clash, and else rules that make a cycle. It takes no memory.
+pub(crate) fn check_build<V: Value, S: SystemOf<Value = V>>(
+    systems: &[S],
+    rules: &[Rule],
+) -> Result<(), BuildRefusal>
+    requires few { length systems.now ≤ 256 }
+    requires in_range { NameSystemsBelow (length systems.now) rules.now }
+    ensures no_clash { OnOk result (NoneIsClash S.meaning systems.now) }
+    ensures no_cycle { OnOk result (IsAcyclic (edges_of rules.now)) }
+    ensures refusal { IfErr result (RefusesFor S.meaning systems.now rules.now) }
+{
+    check_clashes(systems)?;
+    match lowest_on_cycle(systems.len(), rules) {
+        Some(system) => Err(BuildRefusal::Cycle(system)),
+        None => Ok(()),
+    }
+}
+
+/// The access of each system's job.
 fn accesses_of<V: Value, S: SystemOf<Value = V>>(
     alloc: Global,
     systems: &[S],
     places: &[Place<V>],
-) -> Result<Vec<Access>, BuildRefusal>
-    requires few { length systems.now ≤ 256 }
+) -> Result<Vec<Access>, NoMemory>
     requires one_place_each { length places.now ≡ length systems.now }
     ensures as_many { IfOk result (λ v. length v.items ≡ length systems.now) }
     ensures accesses { IfOk result (λ v. EachIs (IsAccessAt S.meaning systems.now places.now)
         v.items) }
-    ensures clash { IfErr result (RefusesForClash S.meaning systems.now) }
 {
     let mut accesses = Vec::new(alloc);
     for i in 0..systems.len() {
-        let (own, clash) = own_access(&systems[i]);
-        if clash {
-            return Err(BuildRefusal::Clash(i as u32));
-        }
+        let own = systems[i].access();
         let access = job_access(&own, places[i].conditions.as_slice());
-        let Ok(()) = accesses.push(access) else {
-            return Err(BuildRefusal::NoMemory);
-        };
+        accesses.push(access)?;
     }
     Ok(accesses)
 }
@@ -122,39 +145,24 @@ fn totals_of(alloc: Global, systems: usize, types: usize) -> Result<Vec<Vec<Tota
     Ok(totals)
 }
 
-/// Refuses rules that make a cycle among so many systems.
-fn check_rules(alloc: Global, systems: usize, rules: &[Rule]) -> Result<(), BuildRefusal>
-    requires few { systems ≤ 256 }
-    requires in_range { NameSystemsBelow systems rules.now }
-    ensures acyclic { OnOk result (IsAcyclic (edges_of rules.now)) }
-    ensures cycle { IfErr result (RefusesForCycle rules.now) }
-{
-    match lowest_on_cycle(alloc, systems, rules) {
-        Ok(None) => Ok(()),
-        Ok(Some(system)) => Err(BuildRefusal::Cycle(system)),
-        Err(_) => Err(BuildRefusal::NoMemory),
-    }
-}
-
 /// The access, the join and the totals of each system, and the plan of the first frame, over a
-/// world of so many types. Refuses a system that is a clash, and rules that make a cycle.
+/// world of so many types.
 pub(crate) fn prepare<V: Value, S: SystemOf<Value = V>>(
     alloc: Global,
     types: usize,
     systems: &[S],
     places: &[Place<V>],
     rules: &[Rule],
-) -> Result<Prepared, BuildRefusal>
+) -> Result<Prepared, NoMemory>
     requires few { length systems.now ≤ 256 }
     requires one_place_each { length places.now ≡ length systems.now }
     requires in_range { NameSystemsBelow (length systems.now) rules.now }
+    requires no_cycle { IsAcyclic (edges_of rules.now) }
     ensures prepared { IfOk result
         (IsPreparedFor S.meaning types systems.now places.now rules.now) }
-    ensures refusal { IfErr result (RefusesFor S.meaning systems.now rules.now) }
 {
     fewer_systems_make_no_cycle();
     let accesses = accesses_of(alloc, systems, places)?;
-    check_rules(alloc, systems.len(), rules)?;
     let joins = joins_of(alloc, places)?;
     let plan = plan_by(alloc, &accesses, rules, &joins, 1)?;
     let totals = totals_of(alloc, systems.len(), types)?;

@@ -1,8 +1,9 @@
-use crate::building::{Prepared, guarded_systems, prepare};
+use crate::building::{Prepared, check_build, guarded_systems, prepare};
 use crate::engine_core::{Core, run_one};
 use crate::joining::join_those;
 use crate::lender::Lender;
 use crate::replay::{accepts_next, replay_one};
+use crate::side_by_side::Crew;
 use crate::spares::Spares;
 use crate::{BuildRefusal, Frame, Gate, Log, Place, RunFault, Workers};
 use msg_frames::reader_laws::{first_states_are_sound, replays_tell_the_same, runs_are_complete};
@@ -37,14 +38,14 @@ pub struct EngineOf<S, V = i64> {
 pub type Engine = EngineOf<Box<dyn System>>;
 
 impl<V: Value, S: SystemOf<Value = V>> EngineOf<S, V> {
-    ghost use Rattle.std.specs.Prelude.{◌≡◌, ◌<◌, ◌++◌, ◌∷◌, [], ◌-◌, ◌^◌, ◌+◌, ◌↔◌, ℕ, All, drop, min, IfOk, OnOk, Err, ◌≤◌, IfErr, IfSome, IsNone, IsTrue, List, None, Some, length, map};
+    ghost use Rattle.std.specs.Prelude.{◌≡◌, ◌⊎◌, ◌<◌, ◌++◌, ◌∷◌, [], ◌-◌, ◌^◌, ◌+◌, ◌↔◌, ℕ, All, drop, min, IfOk, OnOk, Err, ◌≤◌, IfErr, IfSome, IsNone, IsTrue, List, None, Some, length, map};
     ghost use Rattle.std.specs.Option.{option_copied};
     ghost use Rattle.msg_system.specs.Needs.{HasClash};
     ghost use Rattle.msg_world.specs.declared.run_fault.RunFault.TheVariants.{BadOrder, NoMemory, Spoiled};
     ghost use Rattle.msg_world.specs.declared.record.TheConstants.{HOST};
     ghost use Rattle.msg_world.specs.Prelude.{IsWhole, PartsStand, WorldState};
     ghost use Rattle.msg_order.specs.Prelude.{IsAcyclic, NameSystemsBelow, edges_of};
-    ghost use Rattle.msg_exec.specs.{Building.EachIs, Building.MayBeAdded, Building.RefusesFor, Cores.frame_count, Engines.HasReplayed, Engines.HasRunFrame, Engines.HasRunFrames, Engines.HasRunSince, Engines.HasRunSome, Engines.IsEngine, Engines.IsSpoiled, Engines.PostsFit, Engines.EngineStands, Engines.frame_number, Engines.world_of};
+    ghost use Rattle.msg_exec.specs.{Building.EachIs, Building.MayBeAdded, Building.NoneIsClash, Building.RefusesFor, Cores.SomeJoin, Cores.frame_count, Engines.HasReplayed, Engines.HasRunFrame, Engines.HasRunFrames, Engines.HasRunSince, Engines.HasRunSome, Engines.IsEngine, Engines.IsSpoiled, Engines.PostsFit, Engines.EngineStands, Engines.frame_number, Engines.world_of};
     ghost use Rattle.msg_workers.specs.Prelude.{EachPassedGate};
     ghost use Rattle.msg_frames.specs.Prelude.{IsCompleteRun, IsLawfulFor, IsSoundState, State, first_state, turn_order_in};
     ghost use Rattle.msg_frames.specs.{declared.frame.Frame.Frame as FrameView, declared.log.Log.Log as LogView};
@@ -55,7 +56,7 @@ impl<V: Value, S: SystemOf<Value = V>> EngineOf<S, V> {
     /// # Errors
     ///
     /// `Clash` with the lowest system that reads and writes one part; else `Cycle` with the lowest
-    /// system from which the rules lead back to it; and `NoMemory`. The world and the systems are
+    /// system from which the rules lead back to it; else `NoMemory`. The world and the systems are
     /// dropped then.
     pub fn new(
         alloc: Global,
@@ -75,8 +76,7 @@ impl<V: Value, S: SystemOf<Value = V>> EngineOf<S, V> {
             (length world.types) w) [] [] e) }
         ensures engine { IfOk result (IsEngine V.values S.meaning) }
         ensures fresh { IfOk result (λ e. ¬ IsSpoiled e) }
-        ensures no_clash { OnOk result
-            (EachIs (λ i x. ¬ HasClash (S.meaning x).needs) systems.items) }
+        ensures no_clash { OnOk result (NoneIsClash S.meaning systems.items) }
         ensures no_cycle { OnOk result (IsAcyclic (edges_of rules.items)) }
         ensures refusal { IfErr result (RefusesFor S.meaning systems.items rules.items) }
     {
@@ -84,6 +84,7 @@ impl<V: Value, S: SystemOf<Value = V>> EngineOf<S, V> {
         runs_are_complete::<V>();
         fewer_systems_make_no_cycle();
         world.stands_for_some();
+        check_build(&systems, &rules)?;
         let Prepared {
             accesses,
             joins,
@@ -129,7 +130,7 @@ impl<V: Value, S: SystemOf<Value = V>> EngineOf<S, V> {
     }
 
     /// Takes the lists of turns and replies of a log that is no longer needed, for the logs of
-    /// frames to come: a loop that gives each log back asks for less memory.
+    /// frames to come. What is kept of them no clause says.
     pub fn recycle(&mut self, log: Log<V>)
         ensures meaning { (s : State V.values) → EngineStands S.meaning self.old s
             → EngineStands S.meaning self.new s }
@@ -151,9 +152,10 @@ impl<V: Value, S: SystemOf<Value = V>> EngineOf<S, V> {
     ///
     /// # Errors
     ///
-    /// `Spoiled`; `BadOrder` where the order isn't lawful for those that will have joined by this
+    /// `Spoiled`; `BadOrder` if the order isn't lawful for those that will have joined by this
     /// frame: each of them once, and each after those that the settled order puts before it. Then
-    /// nothing has changed: nobody has joined. `NoMemory`, and then the engine is spoiled.
+    /// nothing has changed: nobody has joined. `NoMemory`, and then the engine is spoiled; an order
+    /// that isn't lawful gets it only in a frame that systems join with.
     pub fn replay_frame(&mut self, frame: &Frame<V>, order: &[u32]) -> Result<Log<V>, RunFault>
         requires engine { IsEngine V.values S.meaning self.old }
         requires posts { PostsFit self.old frame.now }
@@ -176,6 +178,9 @@ impl<V: Value, S: SystemOf<Value = V>> EngineOf<S, V> {
         ensures bad_order { (s : State V.values) → EngineStands S.meaning self.old s
             → ¬ (result ≡ Err NoMemory)
             → (result ≡ Err BadOrder) ↔ (¬ IsLawfulFor frame.now s order.now) }
+        ensures asked { result ≡ Err NoMemory → (s : State V.values)
+            → EngineStands S.meaning self.old s
+            → IsLawfulFor frame.now s order.now ⊎ SomeJoin s }
         ensures nothing_done { result ≡ Err BadOrder → self.new ≡ self.old }
         ensures spoiled { (result ≡ Err Spoiled) ↔ IsSpoiled self.old }
         ensures unchanged { result ≡ Err Spoiled → self.new ≡ self.old }
@@ -327,16 +332,13 @@ impl<V: Value + Send + Sync, S: SystemOf<Value = V> + Send> EngineOf<S, V> {
         let Some(core) = self.core.take() else {
             return Err(RunFault::Spoiled);
         };
-        let Ok((core, log)) = run_one(
+        let crew = Crew {
             rt,
-            self.alloc,
-            core,
-            self.frames,
-            frame,
+            alloc: self.alloc,
             workers,
             gate,
-            &mut self.spares,
-        ) else {
+        };
+        let Ok((core, log)) = run_one(&crew, core, self.frames, frame, &mut self.spares) else {
             return Err(RunFault::NoMemory);
         };
         self.end_frame(core);

@@ -1,7 +1,7 @@
 // What an engine works on, and one frame of it.
-ghost use Rattle.std.specs.Prelude.{◌≡◌, ◌<◌, ◌≤◌, All, IfOk, List, Bool, length, map, nat_le};
+ghost use Rattle.std.specs.Prelude.{◌≡◌, ◌<◌, ◌≤◌, All, IfOk, OnErr, List, Bool, length, map, nat_le};
 ghost use Rattle.msg_order.specs.Prelude.{IsAcyclic, IsPlanOf, NameSystemsBelow, rules_among};
-ghost use Rattle.msg_exec.specs.Prelude.{CoreStands, frame_count};
+ghost use Rattle.msg_exec.specs.Prelude.{CoreStands, SomeJoin, frame_count};
 ghost use Rattle.msg_workers.specs.Prelude.{EachPassedGate};
 ghost use Rattle.msg_exec.specs.inner.FrameSteps.{HasBegunFrame, HasLeft, HasOpened, IsNextPlan};
 ghost use Rattle.msg_frames.specs.Prelude.{frame as frame_of, turn_order_in, State};
@@ -10,8 +10,9 @@ use crate::batch::run_batches;
 use crate::joining::join_those;
 use crate::lender::Lender;
 use crate::posts::post_all;
+use crate::side_by_side::Crew;
 use crate::spares::Spares;
-use crate::{Frame, Gate, Items, Log, NoMemory, Workers};
+use crate::{Frame, Gate, Items, Log, NoMemory};
 use msg_frames::reader_laws::states_stay_sound;
 use msg_order::{Plan, PlanRefusal, Rule};
 use msg_system::{Reply, SystemOf};
@@ -65,8 +66,8 @@ pub(crate) fn plan_by(
     }
 }
 
-/// The number of the next frame and its plan, where some join with it. Where nobody does there is
-/// none, and the plan stays.
+/// The number of the next frame and its plan, if some join with it. If nobody does there is none,
+/// and the plan stays.
 pub(crate) fn next_plan<V: Value, S: SystemOf<Value = V>>(
     alloc: Global,
     core: &Core<S, V>,
@@ -76,11 +77,13 @@ pub(crate) fn next_plan<V: Value, S: SystemOf<Value = V>>(
         × (CoreStands S.meaning core.now s × (frames ≡ frame_count s)) }
     ensures plan { IfOk result (λ next. (s : State V.values) → CoreStands S.meaning core.now s
         → frames ≡ frame_count s → IsNextPlan core.now s next) }
+    ensures asked { OnErr result ((s : State V.values) → CoreStands S.meaning core.now s
+        → frames ≡ frame_count s → SomeJoin s) }
 {
     let Some(next) = frames.checked_add(1) else {
         return Ok(None);
     };
-    // (those of join 1 joined as the engine was made)
+    // Those of join 1 joined as the engine was made.
     if frames == 0 {
         return Ok(None);
     }
@@ -141,13 +144,10 @@ pub(crate) fn run_one<
     S: SystemOf<Value = V> + Send,
     G: Gate,
 >(
-    rt: &R,
-    alloc: Global,
+    crew: &Crew<R, G>,
     core: Core<S, V>,
     frames: u32,
     frame: &Frame<V>,
-    workers: Workers,
-    gate: &G,
     spares: &mut Spares<V>,
 ) -> Result<(Core<S, V>, Log<V>), NoMemory>
     requires stands { (s : State V.values)
@@ -157,12 +157,12 @@ pub(crate) fn run_one<
         → frames ≡ frame_count s
         → HasLeft S.meaning (r.1 ≡ (frame_of frame.now s).log) frame.now s r.0) }
     ensures gate_passed { IfOk result
-        (λ r. EachPassedGate (G.passed gate.now) workers (turn_order_in r.1)) }
+        (λ r. EachPassedGate (G.passed crew.now.gate.now) crew.now.workers (turn_order_in r.1)) }
 {
     states_stay_sound::<V>();
-    let (mut core, posts) = open(alloc, core, frames, frame)?;
+    let (mut core, posts) = open(crew.alloc, core, frames, frame)?;
     let batches = core.plan.batches();
-    let turns = run_batches(rt, alloc, &mut core.lender, batches, workers, gate, spares)?;
+    let turns = run_batches(crew, &mut core.lender, batches, spares)?;
     let log = Log {
         posts: Items::from_vec(posts),
         turns: Items::from_vec(turns),

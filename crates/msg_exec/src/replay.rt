@@ -1,7 +1,7 @@
 // One frame in a given order, on the calling thread.
-ghost use Rattle.std.specs.Prelude.{◌≡◌, ◌<◌, ◌↔◌, All, IfOk, IsTrue, length};
+ghost use Rattle.std.specs.Prelude.{◌≡◌, ◌<◌, ◌↔◌, All, IfOk, IsTrue, OnErr, length};
 ghost use Rattle.msg_frames.specs.declared.frame.Frame.{Frame as FrameView};
-ghost use Rattle.msg_exec.specs.Prelude.{CoreStands, frame_count};
+ghost use Rattle.msg_exec.specs.Prelude.{CoreStands, SomeJoin, frame_count};
 ghost use Rattle.msg_exec.specs.inner.FrameSteps.{HasLeft, IsReplay};
 ghost use Rattle.msg_frames.specs.Prelude.{IsLawfulFor, State};
 
@@ -27,6 +27,8 @@ pub(crate) fn accepts_next<V: Value, S: SystemOf<Value = V>>(
     ensures lawful { IfOk result (λ accepts. (s : State V.values) → CoreStands S.meaning core.now s
         → frames ≡ frame_count s
         → (frame : FrameView V) → IsTrue accepts ↔ IsLawfulFor frame s order.now) }
+    ensures asked { OnErr result ((s : State V.values) → CoreStands S.meaning core.now s
+        → frames ≡ frame_count s → SomeJoin s) }
 {
     match next_plan(alloc, core, frames)? {
         Some((_, plan)) => Ok(plan.accepts(order)),

@@ -15,6 +15,15 @@ use std::marker::PhantomData;
 use std::mem::replace;
 use std::thread::Threads;
 
+/// What the jobs of a frame are run with.
+#[derive(Drop)]
+pub struct Crew<'a, R, G> {
+    pub rt: &'a R,
+    pub alloc: Global,
+    pub workers: Workers,
+    pub gate: &'a G,
+}
+
 /// A job, and the world that it was lent from.
 #[derive(Drop)]
 pub struct BatchJob<'a, S, V = i64> {
@@ -83,18 +92,15 @@ fn with_world<'a, V: Value, S: SystemOf<Value = V>>(
 }
 
 /// Runs the jobs on the world that they were lent from, over workers that draw them from a board,
-/// and gives what came of each. Where memory is refused to one, the others are still run.
+/// and gives what came of each. If memory is refused to one, the others are still run.
 pub(crate) fn run_side_by_side<
     R: Threads + Sync,
     V: Value + Send + Sync,
     S: SystemOf<Value = V> + Send,
     G: Gate,
 >(
-    rt: &R,
-    alloc: Global,
+    crew: &Crew<R, G>,
     world: &World<V>,
-    gate: &G,
-    workers: Workers,
     jobs: Vec<Job<S, V>>,
     habit: &mut Habit,
 ) -> Result<Vec<Result<Job<S, V>, NoMemory>>, NoMemory>
@@ -103,9 +109,10 @@ pub(crate) fn run_side_by_side<
     ensures run { IfOk result
         (λ results. AreResults V.values S.meaning world.now jobs.items results.items) }
     ensures gate_passed { OnOk result
-        (All (λ job. PassedGate (G.passed gate.now) (min workers (length jobs.items)) job.number)
-        jobs.items) }
+        (All (λ job. PassedGate (G.passed crew.now.gate.now)
+        (min crew.now.workers (length jobs.items)) job.number) jobs.items) }
 {
+    let alloc = crew.alloc;
     let jobs = with_world(alloc, world, jobs)?;
-    run_jobs::<R, Batch<S, V>, G>(rt, alloc, gate, workers, jobs, habit)
+    run_jobs::<R, Batch<S, V>, G>(crew.rt, alloc, crew.gate, crew.workers, jobs, habit)
 }

@@ -1,7 +1,7 @@
 -- The code's sets as the paths of a graph.
-use Rattle.std.proofs.Common.{◌≡◌, ℕ, ◌+◌, ◌-◌, ◌<◌, ◌≤◌, Bool, true, false, cond, ◌&&◌, ◌||◌, List, [], ◌∷◌, ◌++◌, length, take, map, get_or, replicate, Option, None, Some, refl, sym, ◌∙◌, arith, length-append, ◌==◌, IsTrue, IsFalse, MatchOption, ◌↔◌}
+use Rattle.std.proofs.Common.{◌≡◌, ℕ, zero, suc, ◌+◌, ◌-◌, ◌<◌, ◌≤◌, Bool, true, false, cond, ◌&&◌, ◌||◌, List, [], ◌∷◌, ◌++◌, length, take, map, get_or, replicate, Option, None, Some, refl, sym, ◌∙◌, arith, ◌==◌, IsTrue, IsFalse, MatchOption, ◌↔◌}
 use Rattle.std.specs.List.{list_any, range_with_len}
-use Rattle.std.proofs.lemmas.{Bool.cases_Bool, List.append-nil, List.get_or-map, List.length-map, List.take-map, List.get_or-take, List.get_or_past, List.get_or_push, List.get_or_append_left, Simd.get_or-replicate, List.Elements.All-head, List.Elements.All-tail, List.Elements.filter_more, List.Elements.Contains-append_left, List.Elements.Contains-push, List.Elements.Contains-push_cases, Bool.Decides.eqb_tells, Bool.cases_eq, Bool.cases_lt, Bool.or_left, Bool.or_right, Bool.or_cases, Bool.and_parts, Bool.false≢true, Bool.false_from_ne_true, Bool.eqb-true, Bool.eq-eqb}
+use Rattle.std.proofs.lemmas.{Bool.cases_Bool, List.append-nil, List.get_or-map, List.length-map, List.take-map, List.get_or-take, List.get_or_past, Simd.get_or-replicate, List.Elements.All-head, List.Elements.All-tail, List.Elements.filter_more, List.Elements.Contains-append_left, List.Elements.Contains-push, List.Elements.Contains-push_cases, Bool.Decides.eqb_tells, Bool.cases_eq, Bool.cases_lt, Bool.or_left, Bool.or_right, Bool.or_cases, Bool.and_parts, Bool.false≢true, Bool.false_from_ne_true, Bool.eqb-true, Bool.eq-eqb}
 use Rattle.msg_order.specs.Prelude.{Graph, IsAcyclic, IsLowestOnCycle, NameSystemsBelow, Rule, SystemSet, TellsConflicts, edges_of, has_joined, rules_among, settle}
 use Rattle.msg_world.specs.declared.access.Access.{Access}
 use Rattle.msg_order.specs.{inner.SystemSet.has, inner.SystemSet.meets, inner.SystemSet.no_set, Graph.path, inner.Paths.set_at, inner.Paths.comes_before, inner.Paths.AreInConflict, inner.Paths.ArePaths, inner.Paths.AreStarts, inner.Paths.conflict_among}
@@ -160,10 +160,10 @@ all_rules m n (rule ∷ rules) le below =
     grind (arith, get_or-take, get_or-replicate) in
     rw (joined rule.earlier here.0, joined rule.later here.1, rest) refl
 
--- a set that was just made
-pub sets_push : (before : List SystemSet) (set : SystemSet) → ArePaths [] before → ((k : ℕ) → has set k ≡ false)
-    → ArePaths [] (before ++ set ∷ [])
-sets_push before set h none i j =
-    let earlier = get_or_append_left before (set ∷ []) no_set j in
-    let past = none_past (before ++ set ∷ []) i j in
-    grind (arith, h i j, get_or_push before set no_set j, earlier, past, length-append before (set ∷ []))
+-- sets that were just made
+pub sets_empty : (m n : ℕ) (set : SystemSet) → ((k : ℕ) → has set k ≡ false) → ArePaths [] (take n (replicate m set))
+sets_empty zero zero set none i j = has-no_set i
+sets_empty (suc m) zero set none i j = has-no_set i
+sets_empty zero (suc n) set none i j = has-no_set i
+sets_empty (suc m) (suc n) set none i zero = none i
+sets_empty (suc m) (suc n) set none i (suc j) = sets_empty m n set none i j

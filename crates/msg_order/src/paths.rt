@@ -1,25 +1,10 @@
 // The paths of a growing graph: before each system those from which a path leads to it.
-ghost use Rattle.std.specs.Prelude.{◌≡◌, ◌==◌, ◌||◌, ◌&&◌, ℕ, ◌<◌, ◌≤◌, ◌↔◌, [], true, false, length, IfOk, IsTrue, IsFalse, MatchOption, OnErr};
+ghost use Rattle.std.specs.Prelude.{◌≡◌, ◌==◌, ◌||◌, ◌&&◌, ℕ, ◌<◌, ◌≤◌, ◌↔◌, [], true, false, length, IsTrue, IsFalse, MatchOption};
 ghost use Rattle.msg_order.specs.{Prelude.Graph, Prelude.IsAcyclic, Prelude.IsLowestOnCycle, Prelude.NameSystemsBelow, Prelude.rules_among, inner.Paths.AreInConflict, inner.Paths.ArePaths, inner.Paths.AreSettled, inner.Paths.AreStarts, inner.Paths.comes_before, inner.Paths.set_at, inner.SystemSet.has, inner.SystemSet.meets};
 
 use crate::Rule;
 use crate::system_set::SystemSet;
 use msg_world::Access;
-use std::alloc::{AllocError, Allocator};
-
-/// The sets of so many systems between which there is no path: each set is empty.
-#[tactic(auto, using(crate::proofs::SetPaths::none_past, crate::proofs::SetPaths::sets_push))]
-pub fn no_paths<A: Allocator>(alloc: A, systems: usize) -> Result<Vec<SystemSet, A>, AllocError>
-    ensures len { IfOk result (λ before. length before.items ≡ systems) }
-    ensures none_yet { IfOk result (λ before. ArePaths [] before.items) }
-    ensures asked { OnErr result (0 < systems) }
-{
-    let mut before = Vec::new(alloc);
-    for _system in 0..systems {
-        before.push(SystemSet::empty())?;
-    }
-    Ok(before)
-}
 
 /// The systems of a set, and those to which a path leads from one of these. `starts` has each system
 /// from which a path leads on.

@@ -1,12 +1,12 @@
-ghost use Rattle.std.specs.Prelude.{◌≡◌, ◌<◌, ◌≤◌, [], length, map, Err, IfErr, IfOk, OnOk};
+ghost use Rattle.std.specs.Prelude.{◌≡◌, ◌<◌, ◌≤◌, [], length, map, Err, IfErr, IfOk, OnErr, OnOk};
 ghost use Rattle.msg_order.specs.{declared.plan_refusal.PlanRefusal.TheVariants.NoMemory, Graph.IsAcyclic, Order.NameSystemsBelow, Settled.rules_among, Plan.IsPlanOf, Plan.PlanView, Plan.RefusesPlan, inner.Paths.AreKept, inner.Paths.ArePaths, inner.Paths.IsSetOf, inner.Paths.view_of};
 
 use crate::levels::batches_of;
-use crate::paths::{no_paths, settle};
+use crate::paths::settle;
 use crate::system_set::SystemSet;
 use crate::{PlanRefusal, Rule};
 use msg_world::Access;
-use std::alloc::{Allocator, Global};
+use std::alloc::{AllocError, Allocator, Global};
 use std::marker::Model;
 
 /// In which order systems run: batches one after the other, and the systems of a batch side by
@@ -47,10 +47,22 @@ fn set_of(joined: &[bool]) -> SystemSet
     set
 }
 
-/// The plan, over sets that have no path yet.
+/// The sets, in memory of their own.
+fn kept<A: Allocator>(alloc: A, sets: &[SystemSet]) -> Result<Vec<SystemSet, A>, AllocError>
+    ensures items { IfOk result (λ kept. kept.items ≡ sets.now) }
+    ensures asked { OnErr result (0 < length sets.now) }
+{
+    let mut kept = Vec::with_capacity(alloc, sets.len())?;
+    for set in sets {
+        kept.push(*set)?;
+    }
+    Ok(kept)
+}
+
+/// The plan, by way of sets that have no path yet. The order is settled before it takes memory.
 fn plan_over<A: Allocator + Copy>(
     alloc: A,
-    mut before: Vec<SystemSet, A>,
+    before: &mut [SystemSet],
     accesses: &[Access],
     rules: &[Rule],
     joined: &[bool],
@@ -58,18 +70,19 @@ fn plan_over<A: Allocator + Copy>(
     requires few { length accesses.now ≤ 256 }
     requires one_each { length joined.now ≡ length accesses.now }
     requires in_range { NameSystemsBelow (length accesses.now) rules.now }
-    requires as_many { length before.items ≡ length accesses.now }
-    requires none_yet { ArePaths [] before.items }
+    requires as_many { length before.old ≡ length accesses.now }
+    requires none_yet { ArePaths [] before.old }
     ensures plan { IfOk result (IsPlanOf accesses.now rules.now joined.now) }
     ensures acyclic { OnOk result (IsAcyclic (rules_among joined.now rules.now)) }
     ensures refusal { IfErr result (RefusesPlan (rules_among joined.now rules.now)) }
     ensures no_memory { result ≡ Err NoMemory
         → IsAcyclic (rules_among joined.now rules.now) × (0 < length accesses.now) }
 {
-    if let Some(s) = settle(&mut before, accesses, rules, joined) {
+    if let Some(s) = settle(before, accesses, rules, joined) {
         return Err(PlanRefusal::Cycle(s));
     }
     let joined = set_of(joined);
+    let before = kept(alloc, before)?;
     let batches = batches_of(alloc, &before, &joined)?;
     Ok(Plan {
         before,
@@ -89,7 +102,7 @@ impl<A: Allocator + Copy> Plan<A> {
     /// # Errors
     ///
     /// `Cycle` with the lowest joined system from which the rules among joined systems lead back to
-    /// it, and `NoMemory`.
+    /// it; else `NoMemory`.
     pub fn build(
         alloc: A,
         accesses: &[Access],
@@ -104,11 +117,18 @@ impl<A: Allocator + Copy> Plan<A> {
         ensures acyclic { OnOk result (IsAcyclic (rules_among joined.now rules.now)) }
         ensures refusal { IfErr result (RefusesPlan (rules_among joined.now rules.now)) }
 
-        // A plan of no systems takes no memory.
-        ensures no_memory { result ≡ Err NoMemory → 0 < length accesses.now }
+        // It takes memory only once it knows that there is no cycle, and for no systems none.
+        ensures no_memory { result ≡ Err NoMemory
+            → IsAcyclic (rules_among joined.now rules.now) × (0 < length accesses.now) }
     {
-        let before = no_paths(alloc, accesses.len())?;
-        plan_over(alloc, before, accesses, rules, joined)
+        let mut before = [SystemSet::empty(); 256];
+        plan_over(
+            alloc,
+            &mut before[..accesses.len()],
+            accesses,
+            rules,
+            joined,
+        )
     }
 }
 

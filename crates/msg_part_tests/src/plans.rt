@@ -82,11 +82,10 @@ fn refusals_say_why(rt: HostRuntime) {
 
 #[test]
 fn the_lowest_system_on_a_cycle(rt: HostRuntime) {
-    let alloc = rt.alloc();
     let around = [Rule::before(0, 1), Rule::before(3, 2), Rule::after(3, 2)];
-    assert_eq!(rt; lowest_on_cycle(alloc, 4, &around), Ok(Some(2)));
-    assert_eq!(rt; lowest_on_cycle(alloc, 4, &around[..2]), Ok(None));
-    assert_eq!(rt; lowest_on_cycle(alloc, 0, &[]), Ok(None));
+    assert_eq!(rt; lowest_on_cycle(4, &around), Some(2));
+    assert_eq!(rt; lowest_on_cycle(4, &around[..2]), None);
+    assert_eq!(rt; lowest_on_cycle(0, &[]), None);
 }
 
 #[test]

@@ -10,8 +10,6 @@ use Rattle.msg_reading.specs.Prelude.{HasFault, NoneClash, scenario_of, unfit}
 -- rules that make a cycle are the fault of a scenario in which no program clashes
 pub cycle_is_fault : (d : Data) (scenario : Scenario) (e : Fault) → scenario_of d ≡ Ok scenario
     → NoneClash scenario.systems
-    → (e.reason ≡ reason.NoMemory)
-    ⊎ ((s : ℕ) × (e ≡ unfit (reason.Cycle s)) × IsLowestOnCycle (edges_of scenario.rules) s)
+    → (s : ℕ) × (e ≡ unfit (reason.Cycle s)) × IsLowestOnCycle (edges_of scenario.rules) s
     → (e.reason ≡ reason.NoMemory) ⊎ HasFault d e
-cycle_is_fault d scenario e reads none (inl h) = inl h
-cycle_is_fault d scenario e reads none (inr h) = rw h.1 (inr (inr (scenario, reads, refl, (none, h.2))))
+cycle_is_fault d scenario e reads none h = rw h.1 (inr (inr (scenario, reads, refl, (none, h.2))))

@@ -70,6 +70,6 @@ fn read_value(alloc: Global, value: &Value) -> Result<Scenario, Fault>
     let scenario = file::read_sections(alloc, value)?;
     clash::check_clashes(scenario.systems.as_slice())?;
     let systems = scenario.systems.as_slice().len();
-    cycle::check_cycles(alloc, systems, scenario.rules.as_slice())?;
+    cycle::check_cycles(systems, scenario.rules.as_slice())?;
     Ok(scenario)
 }

@@ -63,9 +63,7 @@ fn lag(rt: &(impl Abort + AllocGlobal), rule: Rule, posted: TypeNo) -> Scenario 
 fn a_scenario_of_code_is_reported(rt: HostRuntime) {
     let alloc = rt.alloc();
     let scenario = lag(&rt, Rule::before(0, 1), TypeNo::new(0).unwrap());
-    let Ok(true) = scenario.is_runnable(alloc) else {
-        panic!(rt; "it can't be run")
-    };
+    assert!(rt; scenario.is_runnable());
     let mut engine = sparing_engine(alloc, &scenario, 100).expect(&rt, "an engine");
     let mut sink = MemorySink::new();
     let workers = workers(&rt, 2);
@@ -92,6 +90,6 @@ fn scenarios_that_cant_be_run(rt: HostRuntime) {
         (Rule::before(0, 1), none),
     ] {
         let scenario = lag(&rt, rule, posted);
-        assert_eq!(rt; scenario.is_runnable(rt.alloc()), Ok(false));
+        assert!(rt; !scenario.is_runnable());
     }
 }

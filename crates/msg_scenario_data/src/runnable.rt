@@ -1,5 +1,5 @@
 // Whether a scenario can be run.
-ghost use Rattle.std.specs.Prelude.{◌≤◌, ◌↔◌, All, IfOk, IsTrue, length};
+ghost use Rattle.std.specs.Prelude.{◌≤◌, ◌↔◌, All, IsTrue, length};
 ghost use Rattle.msg_world.specs.Prelude.{HasPart, Part};
 ghost use Rattle.msg_order.specs.Prelude.{IsAcyclic, NameSystemsBelow, edges_of};
 ghost use Rattle.msg_system.specs.Prelude.{job_needs, needs_any};
@@ -9,8 +9,7 @@ use crate::limits::{LAST_JOIN, MAX_OPS, MAX_RESOURCES, MAX_SYSTEMS, MAX_TYPES};
 use crate::{Scenario, SystemSpec};
 use msg_frames::Frame;
 use msg_order::{Rule, lowest_on_cycle};
-use msg_system::{NoMemory, job_access};
-use std::alloc::Global;
+use msg_system::job_access;
 
 /// Whether the system and its conditions use only types below `types`, and resources below
 /// `resources`.
@@ -99,41 +98,34 @@ fn is_small(scenario: &Scenario) -> bool
 }
 
 /// Whether the rules of so many systems make no cycle.
-fn are_acyclic(alloc: Global, systems: usize, rules: &[Rule]) -> Result<bool, NoMemory>
+fn are_acyclic(systems: usize, rules: &[Rule]) -> bool
     requires few { systems ≤ MAX_SYSTEMS }
     requires in_range { NameSystemsBelow systems rules.now }
-    ensures acyclic { IfOk result (λ is. IsTrue is ↔ IsAcyclic (edges_of rules.now)) }
+    ensures acyclic { IsTrue result ↔ IsAcyclic (edges_of rules.now) }
 {
-    match lowest_on_cycle(alloc, systems, rules)? {
-        Some(_) => Ok(false),
-        None => Ok(true),
-    }
+    lowest_on_cycle(systems, rules).is_none()
 }
 
 impl Scenario {
     /// Whether an engine can be made of it and all its frames can be run, as a report asks. One
-    /// that was read can.
-    ///
-    /// # Errors
-    ///
-    /// `NoMemory`, where there is no memory to look for cycles of the rules.
-    pub fn is_runnable(&self, alloc: Global) -> Result<bool, NoMemory>
-        ensures runnable { IfOk result (λ is. IsTrue is ↔ IsRunnable self.now) }
+    /// that was read can. It takes no memory.
+    pub fn is_runnable(&self) -> bool
+        ensures runnable { IsTrue result ↔ IsRunnable self.now }
     {
         if !is_small(self) {
-            return Ok(false);
+            return false;
         }
         if !are_runnable_systems(self) {
-            return Ok(false);
+            return false;
         }
         let systems = self.systems.as_slice().len();
         let rules = self.rules.as_slice();
         if !name_systems_below(systems, rules) {
-            return Ok(false);
+            return false;
         }
         if !all_posts_are_to_types(self) {
-            return Ok(false);
+            return false;
         }
-        are_acyclic(alloc, systems, rules)
+        are_acyclic(systems, rules)
     }
 }

@@ -28,7 +28,7 @@ pub struct SystemSpec {
 ///     rules: Items::from_vec(vec![in alloc; Rule::before(0, 1)]?),
 ///     frames: Items::from_vec(frames),
 /// };
-/// let can_be_run = scenario.is_runnable(alloc)?;
+/// let can_be_run = scenario.is_runnable();
 /// ```
 #[derive(Debug, Drop)]
 pub struct Scenario {

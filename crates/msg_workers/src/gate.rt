@@ -6,7 +6,7 @@ pub trait Gate: Sync {
     // What follows from its call for this worker and this system. By default that is nothing.
     ghost passed: { Self → ℕ → ℕ → Type 0 } = { λ gate worker system. ⊤ };
 
-    /// It has to return. Workers are numbered from 0.
+    /// An implementation must return: a frame waits for it. Workers are numbered from 0.
     fn pass(&self, worker: u32, system: u32)
         ensures passed { Self.passed self.now worker system };
 }

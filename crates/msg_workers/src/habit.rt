@@ -1,5 +1,5 @@
 // Whether workers have paid, and how many to start at once.
-ghost use Rattle.std.specs.Prelude.{◌≡◌, ◌⊎◌};
+ghost use Rattle.std.specs.Prelude.{◌≡◌, ◌+◌, if◌then◌else◌, nat_le};
 
 /// At most so many batches run in place between two tries.
 const LONGEST_PAUSE: u32 = 256;
@@ -7,18 +7,18 @@ const LONGEST_PAUSE: u32 = 256;
 /// What the batches in one place of a frame have shown so far: whether the next of them goes over
 /// workers, and how many of these begin at once.
 ///
-/// A batch over workers paid where others than the first worker ran at least a quarter of its jobs.
-/// Where it didn't, the first worker ran nearly all by the time that the others had started: so the
-/// next batch runs in place, and after each further try that doesn't pay twice as many do, at most
-/// 256. A try that pays ends that, and so does a batch in place that did more than twice as much as
-/// the one of the last try: then the next goes over workers. No result depends on it.
+/// A batch over workers paid if others than the first worker ran at least a quarter of its jobs. If
+/// it didn't, the first worker ran nearly all by the time that the others had started: so the next
+/// batch runs in place, and after each further try that doesn't pay twice as many do, at most 256.
+/// A try that pays ends that, and so does a batch in place that did more than twice as much as the
+/// one of the last try: then the next goes over workers. No result depends on it.
 #[derive(Clone, Copy, Debug)]
 pub struct Habit {
     /// How many others the first worker starts before it runs a job.
     pub at_once: u32,
     /// How many batches run in place before workers are tried again.
     in_place: u32,
-    /// How many ran in place before the last try; 0 where that paid.
+    /// How many ran in place before the last try; 0 if that paid.
     pause: u32,
     /// How much the batch of the last try did.
     tried: u64,
@@ -35,7 +35,7 @@ impl Habit {
         }
     }
 
-    /// Whether the next batch goes over workers. Where it doesn't, it counts as one in place.
+    /// Whether the next batch goes over workers. If it doesn't, it counts as one in place.
     pub fn tries_next(&mut self) -> bool {
         let tries = self.in_place == 0;
         self.in_place = self.in_place.saturating_sub(1);
@@ -56,7 +56,8 @@ impl Habit {
 
     /// Learns from a batch of so many jobs over so many workers, of which the first ran `own` jobs.
     pub(crate) fn learn(&mut self, workers: u32, jobs: u32, own: u32)
-        ensures at_once { (self.new.at_once ≡ 1) ⊎ (self.new.at_once ≡ workers) }
+        ensures at_once { self.new.at_once
+            ≡ (if nat_le (own + own) jobs then workers else 1) }
     {
         let others = jobs.saturating_sub(own);
         self.at_once = if own <= jobs / 2 { workers } else { 1 };

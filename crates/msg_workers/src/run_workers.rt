@@ -1,5 +1,5 @@
 // Workers side by side.
-ghost use Rattle.std.specs.Prelude.{◌≡◌, ◌+◌, ◌<◌, ◌≤◌, ◌⊎◌, ℕ, All, IfOk, OnOk, Some, length, min, slice_get};
+ghost use Rattle.std.specs.Prelude.{◌≡◌, ◌+◌, ◌-◌, ◌^◌, ◌<◌, ◌≤◌, ◌⊎◌, ℕ, All, IfOk, IfSome, OnOk, Some, length, min, slice_get};
 ghost use Rattle.std.specs.Thread.{IsSend, IsSync};
 ghost use Rattle.msg_board.specs.Prelude.{IsLawfulOutcome, IsNewPass, jobs_of};
 ghost use Rattle.msg_workers.specs.Work.{EachMay, PassedGate};
@@ -12,19 +12,20 @@ use std::alloc::Global;
 use std::sync::atomic::{AtomicBool, Ordering};
 use std::thread::{Threads, join_mut, yield_now};
 
-/// How often a worker that was started, and may start another, looks whether the jobs have run out,
-/// before it draws. So many looks take some 50 microseconds, about twice the start of a thread.
-const LOOKS: u32 = 80_000;
+/// How often, at most, a worker that was started, and may start another, looks whether the jobs have
+/// run out, before it draws. So many looks take some 50 microseconds, about twice the start of a
+/// thread.
+const SPIN_LIMIT: u32 = 80_000;
 
 /// Returns once the jobs have run out, and at the latest after so many looks. After the first look
-/// it gives way, once: where it shares a processor with the worker that started it, that one draws
+/// it gives way, once: if it shares a processor with the worker that started it, that one draws
 /// on for a slice of time, in which it can run many short jobs.
 fn look(run_out: &AtomicBool) {
     if run_out.load(Ordering::SeqCst) {
         return;
     }
     yield_now();
-    for _ in 0..LOOKS {
+    for _ in 0..SPIN_LIMIT {
         if run_out.load(Ordering::SeqCst) {
             return;
         }
@@ -33,7 +34,8 @@ fn look(run_out: &AtomicBool) {
 
 /// What all workers of a list of jobs share.
 #[derive(Drop)]
-struct Shared<'a, W: Work, G> {
+struct Shared<'a, R, W: Work, G> {
+    rt: &'a R,
     alloc: Global,
     board: &'a Board<W>,
     gate: &'a G,
@@ -42,14 +44,21 @@ struct Shared<'a, W: Work, G> {
     run_out: &'a AtomicBool,
 }
 
+/// The workers that are yet to begin: they are numbered from `next` on, and `at_once` of them, but
+/// at least one, begin in new threads before the worker that starts them runs a job.
+#[derive(Clone, Copy)]
+struct Beginners {
+    next: u32,
+    at_once: u32,
+}
+
 /// Lets the workers of these passes draw all jobs that are left, and gives how many the first of
-/// them ran. They are numbered from `worker` on, and the first draws in this thread. Where it gets
-/// a job, `at_once` others, but at least one, begin in new threads before that job is run. Where it
-/// gets none, none is left, and the others draw None here, one by one.
+/// them ran. They are numbered from `worker` on, and the first draws in this thread. If it gets a
+/// job, `at_once` others, but at least one, begin in new threads before that job is run. If it gets
+/// none, none is left, and the others draw None here, one by one.
 #[cycle(workers)]
 fn work_from<R: Threads + Sync, W: Runs + Send, G: Gate>(
-    rt: &R,
-    shared: &Shared<W, G>,
+    shared: &Shared<R, W, G>,
     worker: u32,
     at_once: u32,
     passes: &mut [Pass<W::Job, W::Done>],
@@ -57,6 +66,8 @@ fn work_from<R: Threads + Sync, W: Runs + Send, G: Gate>(
     requires few { worker + length passes.old ≤ 64 }
     requires new { All (IsNewPass shared.now.board.now) passes.old }
     requires may { EachMay W.may (jobs_of shared.now.board.now) }
+    ensures ran { IfSome (slice_get passes.new 0)
+        (λ pass. result ≡ min (length pass.drawn) (2 ^ 32 - 1)) }
     ensures worked { HaveWorked shared.now.board.now
         (λ worker job. G.passed shared.now.gate.now worker (W.system_of job)) worker passes.new }
 {
@@ -67,39 +78,41 @@ fn work_from<R: Threads + Sync, W: Runs + Send, G: Gate>(
     let next = worker + 1;
     if first.is_none() || others.is_empty() {
         let own = work_on(shared.alloc, shared.board, shared.gate, worker, first, pass);
-        work_from(rt, shared, next, 1, others);
+        work_from(shared, next, 1, others);
         own
     } else {
-        work_beside(rt, shared, worker, first, pass, next, at_once, others)
+        let beginners = Beginners { next, at_once };
+        work_beside(shared, worker, first, pass, beginners, others)
     }
 }
 
 /// Starts a thread in which the next worker draws, while this worker runs the job that it drew first
-/// and draws on here. The others are numbered from `next` on. Where more than one is to begin at
-/// once, the next worker starts no other, and this worker starts the rest before it runs its job;
-/// else the next worker may start the one after it, and first looks for a while whether the jobs
-/// run out: short ones are drawn here by then, and it starts none. Gives how many jobs it ran.
+/// and draws on here. If more than one is to begin at once, the next worker starts no other, and
+/// this worker starts the rest before it runs its job; else the next worker may start the one after
+/// it, and first looks for a while whether the jobs run out: short ones are drawn here by then, and
+/// it starts none. Gives how many jobs it ran.
 #[cycle(workers)]
 fn work_beside<R: Threads + Sync, W: Runs + Send, G: Gate>(
-    rt: &R,
-    shared: &Shared<W, G>,
+    shared: &Shared<R, W, G>,
     worker: u32,
     mut first: Option<(usize, W::Job)>,
     pass: &mut Pass<W::Job, W::Done>,
-    next: u32,
-    at_once: u32,
+    beginners: Beginners,
     others: &mut [Pass<W::Job, W::Done>],
 ) -> u32
-    requires few { next + length others.old ≤ 64 }
+    requires few { beginners.next + length others.old ≤ 64 }
     requires some { 0 < length others.old }
     requires first { IsFirstDraw shared.now.board.now pass.old first }
     requires new { All (IsNewPass shared.now.board.now) others.old }
     requires may { EachMay W.may (jobs_of shared.now.board.now) }
+    ensures ran { result ≡ min (length pass.new.drawn) (2 ^ 32 - 1) }
     ensures own { HasWorked shared.now.board.now
         (λ job. G.passed shared.now.gate.now worker (W.system_of job)) pass.new }
     ensures others { HaveWorked shared.now.board.now
-        (λ worker job. G.passed shared.now.gate.now worker (W.system_of job)) next others.new }
+        (λ worker job. G.passed shared.now.gate.now worker (W.system_of job)) beginners.next
+        others.new }
 {
+    let Beginners { next, at_once } = beginners;
     let begun = if at_once > 1 { 1 } else { others.len() };
     let (beside, rest) = others.split_at_mut(begun);
     let after = next + begun as u32;
@@ -112,7 +125,8 @@ fn work_beside<R: Threads + Sync, W: Runs + Send, G: Gate>(
             (λ job. G.passed shared.entry.now.gate.now worker (W.system_of job)) pass.exit.now
             × HaveWorked shared.entry.now.board.now
             (λ worker job. G.passed shared.entry.now.gate.now worker (W.system_of job)) after
-            rest.exit.now }
+            rest.exit.now
+            × (result ≡ min (length pass.exit.now.drawn) (2 ^ 32 - 1)) }
     {
         let drew = first.take();
         if rest.is_empty() {
@@ -120,16 +134,11 @@ fn work_beside<R: Threads + Sync, W: Runs + Send, G: Gate>(
             shared.run_out.store(true, Ordering::SeqCst);
             ran
         } else {
-            work_beside(
-                rt,
-                shared,
-                worker,
-                drew,
-                pass,
-                after,
-                at_once.saturating_sub(1),
-                rest,
-            )
+            let beginners = Beginners {
+                next: after,
+                at_once: at_once.saturating_sub(1),
+            };
+            work_beside(shared, worker, drew, pass, beginners, rest)
         }
     };
     let mut theirs = ||
@@ -143,19 +152,19 @@ fn work_beside<R: Threads + Sync, W: Runs + Send, G: Gate>(
         if beside.len() > 1 {
             look(shared.run_out);
         }
-        work_from(rt, shared, next, 1, beside)
+        work_from(shared, next, 1, beside)
     };
-    let (_, ran) = join_mut(rt, &mut theirs, &mut own);
+    let (_, ran) = join_mut(shared.rt, &mut theirs, &mut own);
     ran
 }
 
 /// Runs the jobs, by at most so many workers and at most one for each job, and gives their results
 /// in the order of the jobs. The first worker starts as many others before it runs a job as the
 /// habit says, but at least one and no more than there are, and the last of these starts the next
-/// where it gets a job. Where no thread can be made, a worker draws in the thread that was to start
-/// it, after the jobs of that one. Afterwards the habit is what serves a batch of such jobs best:
-/// all workers begin at once, where the others ran at least half of these jobs, and else one; and
-/// where they ran less than a quarter, the next batches run in place.
+/// if it gets a job. If no thread can be made, a worker draws in the thread that was to start it,
+/// after the jobs of that one. Then the habit learns how many jobs the first worker ran: all
+/// workers begin at once in the next such batch if the others ran at least half of these jobs, and
+/// else one; and if they ran less than a quarter, the next batches run in place.
 ///
 /// # Errors
 ///
@@ -181,12 +190,13 @@ pub fn run_jobs<R: Threads + Sync, W: Runs + Send, G: Gate>(
     let run_out = AtomicBool::new(false);
     let (board, mut passes) = Board::<W>::new(alloc, jobs, most)?;
     let shared = Shared {
+        rt,
         alloc,
         board: &board,
         gate,
         run_out: &run_out,
     };
-    let own = work_from(rt, &shared, 0, habit.at_once, passes.as_mut_slice());
+    let own = work_from(&shared, 0, habit.at_once, passes.as_mut_slice());
     habit.learn(most, number, own);
     board.close(alloc, passes)
 }

@@ -1,5 +1,5 @@
 // What a worker does: it draws jobs from a board, runs them, and hands in what they gave.
-ghost use Rattle.std.specs.Prelude.{◌≡◌, ◌-◌, ◌^◌, ℕ, Some, length, min, slice_get};
+ghost use Rattle.std.specs.Prelude.{◌≡◌, ◌-◌, ◌^◌, ◌≤◌, ℕ, Some, length, min, slice_get};
 ghost use Rattle.msg_board.specs.Prelude.{HandedIn, HasEnded, IsIdle, IsOf, jobs_of};
 ghost use Rattle.msg_workers.specs.{Work.EachMay, Work.EachNewIs, inner.Workers.HasWorked, inner.Workers.IsFirstDraw};
 
@@ -25,24 +25,24 @@ pub trait Runs: Work {
         ensures lawful { Self.lawful job result };
 }
 
-/// Runs the job that the pass holds, once the gate is passed, and hands in what it gave.
+/// Runs the job that the pass drew last, once the gate is passed, and hands in what it gave.
 fn run_drawn<W: Runs, G: Gate>(
     alloc: Global,
     board: &Board<W>,
-    pass: &mut Pass<W::Job, W::Done>,
-    k: usize,
-    job: W::Job,
-    worker: u32,
     gate: &G,
+    worker: u32,
+    drawn: (usize, W::Job),
+    pass: &mut Pass<W::Job, W::Done>,
 )
     requires own { IsOf board.now pass.old }
-    requires holds { pass.old.holding ≡ Some k }
-    requires there { slice_get (jobs_of board.now) k ≡ Some job }
-    requires may { W.may job }
+    requires holds { pass.old.holding ≡ Some drawn.0 }
+    requires there { slice_get (jobs_of board.now) drawn.0 ≡ Some drawn.1 }
+    requires may { W.may drawn.1 }
     ensures own { IsOf board.now pass.new }
-    ensures handed_in { HandedIn pass.old pass.new k }
-    ensures gate_passed { G.passed gate.now worker (W.system_of job) }
+    ensures handed_in { HandedIn pass.old pass.new drawn.0 }
+    ensures gate_passed { G.passed gate.now worker (W.system_of drawn.1) }
 {
+    let (k, job) = drawn;
     gate.pass(worker, W::number(&job));
     board.hand_in(pass, k, W::run(alloc, job));
 }
@@ -59,13 +59,14 @@ pub fn work<W: Runs, G: Gate>(
     requires may { EachMay W.may (jobs_of board.now) }
     ensures ran { result
         ≡ min (length pass.new.drawn - length pass.old.drawn) (2 ^ 32 - 1) }
+    ensures more { length pass.old.drawn ≤ length pass.new.drawn }
     ensures ended { HasEnded board.now pass.new }
     ensures gate_passed { EachNewIs (λ job. G.passed gate.now worker (W.system_of job))
         (jobs_of board.now) pass.old.drawn pass.new.drawn }
 {
     let mut ran = 0u32;
-    while let Some((k, job)) = board.draw(pass) {
-        run_drawn(alloc, board, pass, k, job, worker, gate);
+    while let Some(drawn) = board.draw(pass) {
+        run_drawn(alloc, board, gate, worker, drawn, pass);
         ran = ran.saturating_add(1);
     }
     ran
@@ -83,12 +84,13 @@ pub(crate) fn work_on<W: Runs, G: Gate>(
 ) -> u32
     requires first { IsFirstDraw board.now pass.old first }
     requires may { EachMay W.may (jobs_of board.now) }
+    ensures ran { result ≡ min (length pass.new.drawn) (2 ^ 32 - 1) }
     ensures worked { HasWorked board.now (λ job. G.passed gate.now worker (W.system_of job))
         pass.new }
 {
-    let Some((number, job)) = first else {
+    let Some(first) = first else {
         return 0;
     };
-    run_drawn(alloc, board, pass, number, job, worker, gate);
+    run_drawn(alloc, board, gate, worker, first, pass);
     work(alloc, board, pass, worker, gate).saturating_add(1)
 }

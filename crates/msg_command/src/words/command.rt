@@ -1,5 +1,5 @@
 // The command line, as `clap` is told of it.
-ghost use Rattle.std.specs.Prelude.{◌≡◌, [], IfOk, IfErr, OnOk, false, true};
+ghost use Rattle.std.specs.Prelude.{◌≡◌, ◌⊎◌, [], IfOk, IfErr, OnOk, false, true};
 ghost use Rattle.clap.specs.{Words.app_of, Words.rule_of, Words.fault_of, Words.takes, Words.subcommand_of, Words.subcommand_rows_of, Words.kind_of, declared.Command.out-Command as fields_of, declared.error.ErrorKind.TheVariants.OutOfMemory};
 ghost use Rattle.msg_command.specs.Prelude.{IsHelp, IsShown, IsToldOf, dot_rule, file_app, file_rule, frame_rule, msgrun_app, plan_app, run_app, running_app, texts_of, workers_rule};
 
@@ -160,6 +160,8 @@ fn fault(alloc: Global, error: clap::Error) -> WordFault
     ensures memory { kind_of error ≡ OutOfMemory → result ≡ WordFault.NoMemory }
     ensures help { IsHelp result → IsShown (kind_of error) }
     ensures bad { result ≡ WordFault.Bad → ¬ IsShown (kind_of error) }
+    ensures no_memory { result ≡ WordFault.NoMemory
+        → (kind_of error ≡ OutOfMemory) ⊎ IsShown (kind_of error) }
 {
     match error.kind() {
         ErrorKind::OutOfMemory => WordFault::NoMemory,

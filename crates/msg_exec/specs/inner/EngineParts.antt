@@ -1,34 +1,20 @@
--- What the parts of a new engine are, and what a refusal says before all is looked at.
-use Rattle.std.specs.Prelude.{◌≡◌, ℕ, ◌<◌, List, length, map, nat_le, Option, Some, slice_get, IsSomeAnd, ⊤}
+-- What the parts of a new engine are.
+use Rattle.std.specs.Prelude.{◌≡◌, ℕ, ◌<◌, List, length, map, nat_le, Option, Some, slice_get, IsSomeAnd}
 use Rattle.std.specs.Global.{Box}
 use Rattle.msg_world.specs.declared.access.Access.{Access}
 use Rattle.msg_order.specs.declared.rule.Rule.{Rule}
-use Rattle.msg_order.specs.Prelude.{IsAcyclic, IsLowestOnCycle, IsPlanOf, edges_of}
-use Rattle.msg_system.specs.Prelude.{HasClash, IsAccessOf, Meaning, with_conditions}
-use Rattle.msg_exec.specs.{declared.job.GuardedSystem.GuardedSystem, Jobs.job_state, Keeping.totals_at, declared.build_refusal.BuildRefusal.BuildRefusal, declared.build_refusal.BuildRefusal.TheVariants.Clash, declared.build_refusal.BuildRefusal.TheVariants.Cycle, declared.build_refusal.BuildRefusal.TheVariants.NoMemory, Building.EachIs, Building.IsLowestClash, declared.building.Prepared.Prepared}
+use Rattle.msg_order.specs.Prelude.{IsPlanOf}
+use Rattle.msg_system.specs.Prelude.{IsAccessOf, Meaning, with_conditions}
+use Rattle.msg_exec.specs.{declared.job.GuardedSystem.GuardedSystem, Jobs.job_state, Keeping.totals_at, Building.EachIs, declared.building.Prepared.Prepared}
 use Rattle.msg_frames.specs.{declared.place.Place.Place, declared.totals.Totals.Totals}
 use Rattle.msg_frames.specs.Prelude.{new_job, no_totals}
 
--- what is said of a refusal for the rules alone
-abbrev pub RefusesForCycle : List Rule → BuildRefusal → Type 0
-RefusesForCycle rules (Clash s) = ⊥
-RefusesForCycle rules (Cycle s) = IsLowestOnCycle (edges_of rules) s
-RefusesForCycle rules NoMemory = ⊤
-
 module _ {S V : Type 0} (meaning : S → Meaning V) where
-  -- what is said of a refusal before the rules are looked at
-  abbrev pub RefusesForClash : List S → BuildRefusal → Type 0
-  RefusesForClash systems (Clash s) = IsLowestClash meaning systems s
-  RefusesForClash systems (Cycle s) = ⊥
-  RefusesForClash systems NoMemory = ⊤
-
-  -- an access is that of system i with its conditions, and the system is no clash
-  pub record IsAccessAt (systems : List S) (places : List (Place V)) (i : ℕ)
-      (a : Access) : Type 0 where
-    pub access : (x : S) (place : Place V) → slice_get systems i ≡ Some x → slice_get places i
-        ≡ Some place
-        → IsAccessOf (with_conditions (meaning x).needs place.conditions) a
-    pub no_clash : (x : S) → slice_get systems i ≡ Some x → ¬ HasClash (meaning x).needs
+  -- an access is that of system i with its conditions
+  abbrev pub IsAccessAt : List S → List (Place V) → ℕ → Access → Type 0
+  IsAccessAt systems places i a = (x : S) (place : Place V) → slice_get systems i ≡ Some x
+      → slice_get places i ≡ Some place
+      → IsAccessOf (with_conditions (meaning x).needs place.conditions) a
 
   -- it is system i, with its conditions
   abbrev pub IsGuardedAt : List S → List (Place V) → ℕ → Option (Box (GuardedSystem S V)) → Type 0
@@ -42,12 +28,11 @@ pub record AreNoTotals (types : ℕ) (xs : List Totals) : Type 0 where
   pub each : (t : ℕ) → t < types → totals_at xs t ≡ no_totals
 
 module _ {S V : Type 0} (meaning : S → Meaning V) where
-  -- What is reckoned of systems of which none is a clash, and of rules that make no cycle: the
-  -- plan is that of the first frame.
+  -- What is reckoned of systems and of rules that make no cycle: the plan is that of the first
+  -- frame.
   pub record IsPreparedFor (types : ℕ) (systems : List S) (places : List (Place V))
       (rules : List Rule)
       (made : Prepared) : Type 0 where
-    pub no_cycle : IsAcyclic (edges_of rules)
     pub one_access_each : length made.accesses.items ≡ length systems
     pub accesses : EachIs (IsAccessAt meaning systems places) made.accesses.items
     pub joins : made.joins.items ≡ map (λ place. place.join) places

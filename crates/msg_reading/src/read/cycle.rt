@@ -1,7 +1,7 @@
 // Whether the rules of a file go round in a circle.
-ghost use Rattle.std.specs.Prelude.{◌≡◌, ◌≢◌, ◌≤◌, ◌⊎◌, ℕ, Err, IfErr, OnOk};
+ghost use Rattle.std.specs.Prelude.{◌≡◌, ◌≤◌, ℕ, IfErr, OnOk};
 ghost use Rattle.msg_order.specs.Prelude.{IsAcyclic, IsLowestOnCycle, NameSystemsBelow, edges_of};
-ghost use Rattle.msg_files.specs.declared.reason.Reason.TheVariants.{Cycle, NoMemory};
+ghost use Rattle.msg_files.specs.declared.reason.Reason.TheVariants.{Cycle};
 ghost use Rattle.msg_reading.specs.Prelude.{unfit};
 
 use crate::Fault;
@@ -9,18 +9,17 @@ use msg_files::fault::inside;
 use msg_files::{Key, Reason, Step};
 use msg_order::{Rule, lowest_on_cycle};
 use msg_scenario_data::MAX_SYSTEMS;
-use std::alloc::Global;
 
 /// Checks that the rules of so many systems make no cycle; else `Cycle` with the lowest system on
-/// one. Also `NoMemory`.
-pub fn check_cycles(alloc: Global, systems: usize, rules: &[Rule]) -> Result<(), Fault>
+/// one. It takes no memory.
+pub fn check_cycles(systems: usize, rules: &[Rule]) -> Result<(), Fault>
     requires few { systems ≤ MAX_SYSTEMS }
     requires in_range { NameSystemsBelow systems rules.now }
     ensures acyclic { OnOk result (IsAcyclic (edges_of rules.now)) }
-    ensures refused { IfErr result (λ e. (e.reason ≡ NoMemory)
-        ⊎ ((s : ℕ) × (e ≡ unfit (Cycle s)) × IsLowestOnCycle (edges_of rules.now) s)) }
+    ensures refused { IfErr result (λ e.
+        (s : ℕ) × (e ≡ unfit (Cycle s)) × IsLowestOnCycle (edges_of rules.now) s) }
 {
-    match lowest_on_cycle(alloc, systems, rules)? {
+    match lowest_on_cycle(systems, rules) {
         None => Ok(()),
         Some(s) => inside(
             Step::Section(Key::Rules),

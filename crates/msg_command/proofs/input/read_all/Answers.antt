@@ -17,3 +17,11 @@ returns-then-len-n-gt-MAX_BYTES-clause-large g c = λ _. (
   Consumes-trans _ _ _ c.loop.all.items _ c.loop.invariant.0 c.in-Ok.ensures.bytes.0,
   simp (length-append, length-take) (omega (arith, c.in-Ok.ensures.bound.0)),
 )
+
+-- no memory for what a read gave within the limit
+pub returns-then-is_err-clause-no_memory : goal.returns-then-is_err-clause-no_memory
+returns-then-is_err-clause-no_memory g c = λ _. (
+  _,
+  Consumes-trans _ _ _ c.loop.all.items _ c.loop.invariant.0 c.in-Ok.ensures.bytes.0,
+  simp (length-append, length-take) (omega (arith, c.in-Ok.ensures.bound.0)),
+)

@@ -60,7 +60,7 @@ returns g c =
     let far = c.loop-result.invariant in
     let rest = c.loop-result.result-iterator.rest in
     let none : length rest.items ≡ 0 = sym rest.ok.0 ∙ c.in-None.ensures.steps.0 in
-    let passed = g.G.Gate.passed c.args.gate.now in
+    let passed = g.G.Gate.passed c.args.crew.now.gate.now in
     let batch = c.args.batch.now in
     let jobs = c.in_ok-jobs.jobs.items in
     let out = c.in_ok-jobs.ensures.out.each in
@@ -69,6 +69,6 @@ returns g c =
       turns = λ s stands. (all_came m law none (far s stands)).1;
       accesses = (far _ c.requires.stands.1.0).half.accesses;
       gate_passed = rw (AllZip-long (IsOut c.args.lender.now) batch jobs out) at
-          (of_batch (PassedGate passed (min c.args.workers (length jobs))) c.args.lender.now batch jobs out
+          (of_batch (PassedGate passed (min c.args.crew.now.workers (length jobs))) c.args.lender.now batch jobs out
           c.in_ok-results.ensures.gate_passed);
     }

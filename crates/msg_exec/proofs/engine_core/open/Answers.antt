@@ -1,4 +1,4 @@
-use Rattle.std.proofs.Common.{ℕ, ◌<◌, ◌∙◌, arith, refl}
+use Rattle.std.proofs.Common.{◌∙◌, arith, refl}
 use Rattle.msg_world.specs.Prelude.{SameShape, WorldState, after_update}
 use Rattle.msg_frames.specs.Prelude.{after_joining}
 use Rattle.msg_frames.proofs.SystemsStay.{joining_world}

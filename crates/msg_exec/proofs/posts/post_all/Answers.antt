@@ -1,4 +1,4 @@
-use Rattle.std.proofs.Common.{ℕ, ◌∙◌, refl, arith, take, rules}
+use Rattle.std.proofs.Common.{ℕ, ◌∙◌, refl, arith, take}
 use Rattle.std.proofs.lemmas.{List.length_push, List.take_all, List.take_more, Option.slice_get_read}
 use Rattle.msg_world.specs.Prelude.{OfType}
 use Rattle.msg_frames.specs.Prelude.{after_posts}

@@ -1,6 +1,5 @@
-use Rattle.std.proofs.Common.{◌≡◌, ℕ, List, Bool, length, map, refl, ap, ◌∙◌, arith}
-use Rattle.std.specs.{List.concat, Vec.with_items}
-use Rattle.std.proofs.lemmas.List.{with_items_is}
+use Rattle.std.proofs.Common.{ℕ, List, Bool, length, map, refl, ap, ◌∙◌, arith}
+use Rattle.std.specs.List.{concat}
 use Rattle.msg_order.specs.Prelude.{AreBatches, Graph, IsAmong, SystemSet, settled}
 use Rattle.msg_order.proofs.{Functions.batches_are, PathTest.from_Path, PathTest.to_Path, SettledOrders.settled_among, SettledOrders.settled_is, SettledOrders.settled_no_cycle, SettledOrders.some_test, TurnOrders.in_lawful_order, TurnOrders.in_turn_order, TurnOrders.none_conflict, PlanViews.seen_edges, PlanViews.systems-view, PlanViews.sets_kept}
 use Rattle.msg_order.proofs.plan.plan_over.Goals as goal
@@ -10,8 +9,7 @@ invariant_of-result _g c =
     let joined : List Bool = c.args.joined.now in
     let before : List SystemSet = c.settle.new.before in
     let test = some_test c.args.accesses.now joined in
-    let is : (with_items c.args.before before).items ≡ before = with_items_is c.args.before before (omega arith) in
-    rw is (sets_kept (settled test.0 c.args.rules.now joined) joined before c.set_of-joined.result
+    rw c.in_ok-before.ensures.items (sets_kept (settled test.0 c.args.rules.now joined) joined before c.set_of-joined.result
     (omega (arith, c.requires.as_many)) (omega (arith, c.requires.as_many)) (c.in_default.ensures.1 test.0 test.1)
     c.set_of-joined.ensures (settled_among c.args.rules.now joined test.0))
 
@@ -26,8 +24,7 @@ returns-clause-plan _g c =
     let order : Graph = settled test.0 rules joined in
     let paths = c.in_default.ensures.1 test.0 test.1 in
     let is_settled = settled_is accesses rules joined test.0 c.requires.one_each test.1 in
-    let is : (with_items c.args.before c.settle.new.before).items ≡ c.settle.new.before =
-    with_items_is c.args.before c.settle.new.before (omega arith) in
+    let is = c.in_ok-before.ensures.items in
     let among : IsAmong joined order = settled_among rules joined test.0 in
     let free = settled_no_cycle rules joined test.0 c.in_default.ensures.0 in
     let made = c.in_ok-batches.ensures.batches order joined (rw (c.deref.ensures.value ∙ is) paths) c.set_of-joined.ensures

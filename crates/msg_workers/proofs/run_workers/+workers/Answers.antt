@@ -3,13 +3,11 @@ use Rattle.msg_workers.specs.inner.Workers.{HasWorked, HaveWorked}
 use Rattle.msg_workers.proofs.WorkersDraw.{by_next, by_parts}
 use Rattle.msg_workers.proofs.run_workers.+workers.Goals as goal
 
-pub work_from-returns-then-is_empty : goal.work_from-returns-then-is_empty
-work_from-returns-then-is_empty g t c =
-    record { worked = by_next c.work_on-own.ensures.worked c.work_from.ensures.worked }
+pub work_from-returns-then-is_empty-clause-worked : goal.work_from-returns-then-is_empty-clause-worked
+work_from-returns-then-is_empty-clause-worked g t c = by_next c.work_on-own.ensures.worked c.work_from.ensures.worked
 
-pub work_from-returns-else-is_empty : goal.work_from-returns-else-is_empty
-work_from-returns-else-is_empty g t c =
-    record { worked = by_next c.work_beside.ensures.own c.work_beside.ensures.others }
+pub work_from-returns-else-is_empty-clause-worked : goal.work_from-returns-else-is_empty-clause-worked
+work_from-returns-else-is_empty-clause-worked g t c = by_next c.work_beside.ensures.own c.work_beside.ensures.others
 
 pub work_beside-returns-clause-own : goal.work_beside-returns-clause-own
 work_beside-returns-clause-own g t c =
@@ -21,5 +19,5 @@ pub work_beside-returns-clause-others : goal.work_beside-returns-clause-others
 work_beside-returns-clause-others g t c =
     let told : ℕ → g.row.W-Job.Denot → Type 0 =
     λ worker job. g.G.Gate.passed c.args.shared.now.gate.now worker (g.W.Runs.system_of job) in
-    subst (HaveWorked c.args.shared.now.board.now told c.args.next) (search rules)
+    subst (HaveWorked c.args.shared.now.board.now told c.args.beginners.next) (search rules)
     (by_parts {Such = told} c.join_mut-ran.ensures.0.met.1 c.join_mut-ran.ensures.1.met.1.1 (search rules))

@@ -1,4 +1,4 @@
-use Rattle.std.proofs.Common.{ℕ, ℤ, ◌<◌, get_or, length}
+use Rattle.std.proofs.Common.{ℕ, ◌<◌, get_or, length}
 use Rattle.msg_exec.proofs.engine.EngineOf.fits.Given as goal
 
 abbrev pub invariant-loop-post : goal.invariant-loop-post

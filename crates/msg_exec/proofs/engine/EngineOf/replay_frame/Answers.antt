@@ -1,4 +1,4 @@
-use Rattle.std.proofs.Common.{◌≡◌, ◌∷◌, [], refl, sym, ap, ◌∙◌, arith, inr, is_some}
+use Rattle.std.proofs.Common.{◌≡◌, ◌∷◌, [], refl, sym, ap, ◌∙◌, arith, inl, inr, is_some}
 use Rattle.std.proofs.lemmas.Bool.{false≢true}
 use Rattle.std.specs.Result.{is_ok}
 use Rattle.msg_exec.proofs.EngineRunsFrames.{is_alive, its_core, still_fit, stood}
@@ -71,3 +71,8 @@ returns-clause-fits g c =
     let frame = c.args.frame.now in
     let was = stood m c.args.self.now (ap is_some c.in-Some.is) c.requires.engine in
     still_fit m _ _ was.0 _ was.1 (returns-clause-replayed g c was.0 was.1).stands (run_keeps (frame ∷ []) was.0).types
+
+pub returns-in_default-replay_one-clause-asked : goal.returns-in_default-replay_one-clause-asked
+returns-in_default-replay_one-clause-asked g c refused s stands =
+    let core = rw c.in-Some.is at stands.core in
+    inl ((c.in-Ok.ensures.lawful s core stands.frames c.args.frame.now).0 c.if-not-is_lawful.false)

@@ -1,5 +1,4 @@
 use Rattle.std.proofs.Common.{refl}
-use Rattle.std.proofs.lemmas.Result.{IfOk-weaker}
 use Rattle.msg_scenario_data.proofs.scenario.Scenario.is_runnable.Goals as goal
 
 pub returns : goal.returns
@@ -7,8 +6,9 @@ returns c =
     let systems = c.as_slice-systems.ensures.items in
     let rules = c.as_slice-rules.ensures.items in
     let small = c.if-not-is_small.ensures.small.0 refl in
+    let acyclic = c.are_acyclic.ensures.acyclic in
     record {
-      runnable = IfOk-weaker c.are_acyclic.result _ _ (λ is acyclic. (
+      runnable = (
         λ yes. record {
           few_types = small.0;
           few_resources = small.1;
@@ -19,5 +19,5 @@ returns c =
           posts = c.if-not-all_posts_are_to_types.ensures.posts.0 refl;
         },
         λ runnable. acyclic.1 (rw rules runnable.acyclic),
-      )) c.are_acyclic.ensures.acyclic;
+      );
     }

@@ -1,0 +1,5 @@
+use Rattle.msg_order.proofs.SetPaths.{sets_empty}
+use Rattle.msg_order.proofs.plan.Plan.build.Goals as goal
+
+pub plan_over-requires-clause-none_yet : goal.plan_over-requires-clause-none_yet
+plan_over-requires-clause-none_yet _g c = sets_empty 256 _ c.empty-before.result c.empty-before.ensures
