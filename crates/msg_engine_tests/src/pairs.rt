@@ -1,16 +1,18 @@
 //! Engines that are made alike: what they are told depends on their frames alone.
-ghost use Rattle.std.specs.Prelude.{◌≡◌, ◌++◌, ◌∷◌, [], IfOk, IfSome, List, map, ℤ};
-ghost use Rattle.msg_frames.specs.Prelude.{accounts_of, run};
+ghost use Rattle.std.specs.Prelude.{◌≡◌, ◌++◌, ◌∷◌, [], All, IfOk, IfSome, List, map, ℤ};
+ghost use Rattle.msg_frames.specs.Prelude.{IsSoundState, NothingDrained, accounts_of, log_entries, run};
 ghost use Rattle.msg_frames.specs.{declared.log.Log.Log as LogView};
 ghost use Rattle.msg_system.specs.Prelude.{new_system};
 ghost use Rattle.msg_exec.specs.Prelude.{HasRunSince, IsEngine, IsSpoiled};
-ghost use Rattle.msg_engine_tests.specs.Pairs.{one_op, pair_places, pair_state, pair_systems};
+ghost use Rattle.msg_engine_tests.specs.Pairs.{one_op, pair_places, pair_state, pair_systems, waking_state};
 ghost use Rattle.msg_world.specs.Prelude.{i64_values};
 
+use msg_exec::engine_laws::engines_stand;
 use msg_exec::{
     Account, BuildError, EngineBuilder, EngineOf, Frame, Items, Log, NoGate, NoMemory, Workers,
 };
-use msg_system::{Op, Program, Scripted, Start, SystemOf};
+use msg_frames::reader_laws::{each_message_meets_one_fate, no_wake_up_is_lost, programs_read_all};
+use msg_system::{Condition, Op, Probe, Program, Scripted, Start, SystemOf};
 use msg_world::{TypeNo, World};
 use std::alloc::Global;
 use std::thread::Threads;
@@ -24,27 +26,28 @@ fn one_op(alloc: Global, op: Op) -> Result<Scripted, NoMemory>
     Ok(Scripted::new(Program { ops, start }, 0))
 }
 
-/// A writer and a reader of one type.
-fn pair(alloc: Global) -> Result<EngineBuilder<Scripted>, BuildError>
+/// A writer and a reader of one type, which runs under these conditions.
+fn pair(alloc: Global, conditions: Vec<Condition>) -> Result<EngineBuilder<Scripted>, BuildError>
     ensures systems { IfOk result (λ b.
         map ⟦<Scripted as SystemOf>⟧.meaning b.systems ≡ pair_systems) }
-    ensures places { IfOk result (λ b. b.places ≡ pair_places) }
+    ensures places { IfOk result (λ b. b.places ≡ pair_places conditions.items) }
     ensures rules { IfOk result (λ b. b.rules ≡ []) }
 {
     let t = TypeNo::new(0).unwrap();
     let mut systems = EngineBuilder::new(alloc);
     systems.add_system(one_op(alloc, Op::Write(t, 7))?, Vec::new(alloc), 1)?;
-    systems.add_system(one_op(alloc, Op::Read(t, None))?, Vec::new(alloc), 1)?;
+    systems.add_system(one_op(alloc, Op::Read(t, None))?, conditions, 1)?;
     Ok(systems)
 }
 
 /// An engine of the two.
-fn engine(alloc: Global) -> Result<EngineOf<Scripted>, BuildError>
-    ensures since { IfOk result (HasRunSince ⟦<Scripted as SystemOf>⟧.meaning pair_state [] []) }
+fn engine(alloc: Global, conditions: Vec<Condition>) -> Result<EngineOf<Scripted>, BuildError>
+    ensures since { IfOk result
+        (HasRunSince ⟦<Scripted as SystemOf>⟧.meaning (pair_state conditions.items) [] []) }
     ensures engine { IfOk result (IsEngine i64_values ⟦<Scripted as SystemOf>⟧.meaning) }
 {
     let world = World::new(alloc, &[100], &[])?;
-    Ok(pair(alloc)?.build(world)?)
+    Ok(pair(alloc, conditions)?.build(world)?)
 }
 
 /// Makes such an engine, and runs frames on it; None if there was no memory, or if a post is to
@@ -52,12 +55,16 @@ fn engine(alloc: Global) -> Result<EngineOf<Scripted>, BuildError>
 fn run_pair<R: Threads + Sync>(
     rt: &R,
     alloc: Global,
+    conditions: Vec<Condition>,
     frames: &[Frame],
     workers: Workers,
 ) -> Option<Vec<Log>>
-    ensures ran { IfSome result (λ logs. logs.items ≡ (run frames.now pair_state).logs) }
+    ensures ran { IfSome result
+        (λ logs. logs.items ≡ (run frames.now (pair_state conditions.items)).logs) }
+    ensures sound { IfSome result (λ logs. IsSoundState (pair_state conditions.items)) }
 {
-    let Ok(mut engine) = engine(alloc) else {
+    engines_stand::<Scripted>();
+    let Ok(mut engine) = engine(alloc, conditions) else {
         return None;
     };
     if !engine.all_fit(frames) {
@@ -81,9 +88,36 @@ pub fn run_both<R: Threads + Sync>(
     // However many workers each has, the logs are equal.
     ensures equal { IfSome result (λ logs. logs.0.items ≡ logs.1.items) }
 {
-    let one = run_pair(rt, alloc, frames, workers.0)?;
-    let other = run_pair(rt, alloc, frames, workers.1)?;
+    let one = run_pair(rt, alloc, Vec::new(alloc), frames, workers.0)?;
+    let other = run_pair(rt, alloc, Vec::new(alloc), frames, workers.1)?;
     Some((one, other))
+}
+
+/// Makes such an engine whose reader waits for a message, and runs frames on it.
+pub fn run_waking<R: Threads + Sync>(
+    rt: &R,
+    alloc: Global,
+    frames: &[Frame],
+    workers: Workers,
+) -> Option<Vec<Log>>
+
+    // Unless the type is drained, the reader misses nothing: it loses no wake-up.
+    ensures none_missed { IfSome result (λ logs.
+        NothingDrained 0 waking_state (run frames.now waking_state).state
+        → All (λ e. e.stretch.missed ≡ 0)
+        (log_entries 1 0 (waking_state.members 1).job.system logs.items)) }
+{
+    no_wake_up_is_lost::<i64>();
+    programs_read_all::<i64>();
+    each_message_meets_one_fate::<i64>();
+    let probe = Probe::OnMessage(TypeNo::new(0).unwrap());
+    let Ok(conditions) = vec![in alloc; Condition { nots: 0, probe }] else {
+        return None;
+    };
+    let Some(logs) = run_pair(rt, alloc, conditions, frames, workers) else {
+        return None;
+    };
+    Some(logs)
 }
 
 /// A life of several calls: makes such an engine, runs frames, replays one more with the reader
@@ -98,12 +132,12 @@ pub fn run_life<R: Threads + Sync>(
 
     // All its frames are one run from the first state, and the accounts are of that run.
     ensures since { IfSome result (λ r. (logs : List (LogView ℤ))
-        × HasRunSince ⟦<Scripted as SystemOf>⟧.meaning pair_state
+        × HasRunSince ⟦<Scripted as SystemOf>⟧.meaning (pair_state [])
         (frames.now ++ last.now ∷ []) logs r.1) }
     ensures accounts { IfSome result (λ r.
-        r.0.items ≡ accounts_of (run (frames.now ++ last.now ∷ []) pair_state).state) }
+        r.0.items ≡ accounts_of (run (frames.now ++ last.now ∷ []) (pair_state [])).state) }
 {
-    let Ok(mut engine) = engine(alloc) else {
+    let Ok(mut engine) = engine(alloc, Vec::new(alloc)) else {
         return None;
     };
     if !(engine.all_fit(frames) && engine.fits(last)) {
@@ -125,9 +159,9 @@ pub fn run_life<R: Threads + Sync>(
 
 #[cfg(test)]
 mod tests {
-    use super::{run_both, run_life};
+    use super::{run_both, run_life, run_waking};
     use crate::making::quiet;
-    use msg_exec::Workers;
+    use msg_exec::{Outcome, Workers};
     use std::panic::Expect;
 
     #[test]
@@ -137,6 +171,21 @@ mod tests {
         let workers = (Workers::new(1).unwrap(), Workers::new(7).unwrap());
         let logs = run_both(&rt, alloc, &frames, workers).expect(&rt, "logs");
         assert!(rt; logs.0.len() == 3 && logs.0 == logs.1);
+    }
+
+    #[test]
+    fn a_reader_that_waits(rt: HostRuntime) {
+        let alloc = rt.alloc();
+        let frames = [quiet(alloc), quiet(alloc), quiet(alloc)];
+        let workers = Workers::new(2).unwrap();
+        let logs = run_waking(&rt, alloc, &frames, workers).expect(&rt, "logs");
+        assert!(rt; logs.len() == 3);
+        for log in logs.as_slice() {
+            let [_, reader] = log.turns.as_slice() else {
+                panic!(rt; "two turns")
+            };
+            assert!(rt; reader.outcome != Outcome::Skipped);
+        }
     }
 
     #[test]
