@@ -84,9 +84,10 @@ pub fn no_wake_up_is_lost<V: Value>()
     ensures law { NoWakeUpIsLost V.values }
 {}
 
-/// What a system is told that it wrote, a reader that comes after it in the settled order, and
-/// reads all, takes in the same frame; any reader that reads all in the next frame takes it by the
-/// end of that. It is missed only if the type is drained.
+/// What a system is told that it wrote in a frame, a reader that comes after it in the settled
+/// order, and reads all, takes in that frame; any reader that has joined by the end of the frame,
+/// and reads all in the next one, takes it by the end of that. It is missed only if the type is
+/// drained.
 pub fn what_is_written_is_read_in_time<V: Value>()
     ensures at_once { LaterReadersHaveItAtOnce V.values }
     ensures next { AllReadersHaveItNext V.values }
