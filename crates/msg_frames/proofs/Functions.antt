@@ -1,11 +1,11 @@
 -- What the functions of the order, of frames and of runs come to.
-use Rattle.std.proofs.Common.{◌≡◌, ℕ, ◌<◌, Bool, ◌&&◌, ◌||◌, List, [], ◌∷◌, ◌++◌, append_assoc, length, refl, sym, ap, ◌∙◌, arith, ◌↔◌, ◌⊎◌, ◌≢◌, inl, inr, IsTrue, Contains, map}
+use Rattle.std.proofs.Common.{◌≡◌, ℕ, ◌<◌, Bool, ◌&&◌, ◌||◌, List, [], ◌∷◌, ◌++◌, append_assoc, refl, sym, ap, ◌∙◌, arith, ◌↔◌, ◌⊎◌, ◌≢◌, inl, inr, IsTrue, Contains, map}
 use Rattle.std.specs.List.{list_any, range_with_len}
 use Rattle.std.proofs.Math.Bool.{or_comm}
 use Rattle.std.proofs.lemmas.{Bool.cases_Bool, Bool.cases_order, List.Elements.Contains-append_left, List.Elements.Contains-append_right, List.FromFn.length-map-range_with_len}
 use Rattle.msg_world.specs.{Prelude.Conflict, Prelude.HasPart, Prelude.OfResource, Prelude.OfType, Prelude.Part, Prelude.Registry, Prelude.uses, Prelude.writes, declared.access.Access.Access, Prelude.Values}
-use Rattle.msg_order.specs.Prelude.{Graph, IsAcyclic, IsAmong, IsSettledOrder, IsTurnOrder, Path, TellsConflicts, TurnOrderIsLawful, has_joined, turns}
-use Rattle.msg_order.proofs.{Elements.Contains-head, Elements.Contains-list_any, Elements.Contains-map, Elements.Contains-range, Elements.list_any-Contains, Functions.batches_are, Functions.settled_among, Functions.settled_is, Functions.settled_no_cycle, Functions.settled_only, Functions.settled_orders, Functions.turns_are}
+use Rattle.msg_order.specs.Prelude.{Graph, IsAcyclic, IsAmong, IsSettledOrder, IsTurnOrder, Path, TellsConflicts, has_joined, turns}
+use Rattle.msg_order.proofs.{Elements.Contains-head, Elements.Contains-list_any, Elements.Contains-map, Elements.Contains-range, Elements.list_any-Contains, Functions.batches_are, Functions.settled_among, Functions.settled_no_cycle, Functions.settled_only, Functions.settled_orders, Functions.turns_are, TurnOrders.in_lawful_order}
 use Rattle.msg_system.specs.Prelude.{IsAccessOf, Needs, needs_any}
 use Rattle.msg_frames.specs.Prelude.{AfterRun, AreAccessesOf, Frame, Log, NoCycle, SameSystems, State, TurnsAreInOrder, UsesParts, are_in_conflict, before_turns, frame, has_begun, join_flags, member_needs, needs_conflict, run}
 use Rattle.msg_frames.specs.Frames.{parts, settled_order, turn_order}
@@ -66,15 +66,11 @@ module _ {V : Type 0} {values : Values V} where
 -- ---- the order of turns
 
 module _ {V : Type 0} {values : Values V} where
-  as_many : (s : State values) (accesses : List Access) → AreAccessesOf s accesses → length (join_flags s) ≡ length accesses
-  as_many s accesses are = length-map-range_with_len (has_begun s) 0 s.systems ∙ sym are.each
-
   pub order_is_settled : (s : State values) (accesses : List Access) → UsesParts s → AreAccessesOf s accesses
       → IsSettledOrder accesses s.rules (join_flags s) (settled_order s)
   unfolding settled_order
   order_is_settled s accesses uses are =
-      settled_is accesses s.rules (join_flags s) (are_in_conflict s) (as_many s accesses are)
-      (conflicts_tell s accesses are uses)
+      record { conflict = are_in_conflict s; tells = conflicts_tell s accesses are uses; is = refl }
 
   pub order_among : (s : State values) → IsAmong (join_flags s) (settled_order s)
   unfolding settled_order
@@ -113,13 +109,13 @@ module _ {V : Type 0} {values : Values V} where
       ]
 
   -- how those that have joined are ordered
-  pub are_ordered : TurnOrderIsLawful → TurnsAreInOrder values
-  are_ordered is_lawful s free = record {
+  pub are_ordered : TurnsAreInOrder values
+  are_ordered s free = record {
     no_cycle = order_free s free;
     conflicts = in_conflict s;
     by_number = batches_are (settled_order s) (join_flags s) (order_among s) (order_free s free);
     turns = order_is s free;
-    once = is_lawful (settled_order s) (join_flags s) (turn_order s) (order_among s) (order_is s free);
+    once = in_lawful_order (settled_order s) (join_flags s) (turn_order s) (order_among s) (order_is s free);
   }
 
   -- what a plan has is the settled order, and its turns
@@ -127,7 +123,7 @@ module _ {V : Type 0} {values : Values V} where
       → IsSettledOrder accesses s.rules (join_flags s) g → g ≡ settled_order s
   unfolding settled_order
   plan_order s accesses g uses are is =
-      settled_only accesses s.rules (join_flags s) (are_in_conflict s) g (as_many s accesses are)
+      settled_only accesses s.rules (join_flags s) (are_in_conflict s) g
       (conflicts_tell s accesses are uses) is
 
   pub plan_turns : (s : State values) (accesses : List Access) (g : Graph) (order : List ℕ) → UsesParts s

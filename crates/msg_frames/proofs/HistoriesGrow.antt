@@ -2,6 +2,7 @@
 use Rattle.std.proofs.Common.{ℕ, zero, suc, ◌≤◌, List, [], ◌∷◌, map, Option, None, Some, append-nil, append_assoc, length-append, arith}
 use Rattle.std.proofs.lemmas.{Bool.cases_Bool, Bool.Decides.eqb_tells}
 use Rattle.msg_buffer.specs.Prelude.{ClearsFit, GoesOn, History, IsSound, OnlyGrows, ReadsFit, clear, count, write}
+use Rattle.msg_buffer.proofs.{Growth.only_grows, Tiles.clears_fit, Tiles.reads_fit}
 use Rattle.msg_world.specs.{Prelude.WorldState, Prelude.after_update, Prelude.by, Prelude.with_history, declared.record.Record.Record, Prelude.Values}
 use Rattle.msg_system.specs.{declared.op.Op.Op, declared.op.Op.TheVariants.Write, declared.op.Op.TheVariants.Batch, declared.op.Op.TheVariants.Forward, declared.op.Op.TheVariants.Drain}
 use Rattle.msg_system.specs.Prelude.{AfterProgram, Job, Meaning, after_at_most, after_job, after_op, again_by, next_op, one_more, took, turn}
@@ -16,8 +17,8 @@ pub record BufferLaws (V : Type 0) : Type 0 where
   pub clears : ClearsFit (Record V)
 
 module _ {V : Type 0} where
-  pub buffer_laws : OnlyGrows (Record V) → ReadsFit (Record V) → ClearsFit (Record V) → BufferLaws V
-  buffer_laws grow reads clears = record { grow = grow; reads = reads; clears = clears }
+  pub buffer_laws : BufferLaws V
+  buffer_laws = record { grow = only_grows; reads = reads_fit; clears = clears_fit }
 
   pub stays : (h : History (Record V)) → IsSound h → GoesOn h h
   stays h sound = grind (arith, append-nil h.entries)

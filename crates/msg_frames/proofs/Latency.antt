@@ -5,7 +5,7 @@ use Rattle.std.proofs.lemmas.{Bool.cases_Bool, Bool.false≢true, Bool.Decides.e
 use Rattle.msg_buffer.specs.Prelude.{GoesOn, count}
 use Rattle.msg_world.specs.{Prelude.Values, Prelude.WorldState, Prelude.after_update, declared.record.Record.Record}
 use Rattle.msg_system.specs.Prelude.{Step}
-use Rattle.msg_order.specs.Prelude.{Path, TurnOrderIsLawful, LawfulOrdersKeepPaths}
+use Rattle.msg_order.specs.Prelude.{Path}
 use Rattle.msg_order.proofs.Elements.{Contains-cases, Contains-flat_map, Contains-head, Contains-range, Contains-tail, filter-Contains, flat_map-Contains, map-Contains, not_in_none}
 use Rattle.msg_frames.specs.Prelude.{AllReadersHaveItNext, Frame, HasTaken, IsSoundState, IsTrueEntry, IsWrittenOnce, LaterReadersHaveItAtOnce, Moment, NothingDrained, State, after_turn_of, after_turns_of, before_turns, entries_in_run, found_at, frame, has_begun, moments, numbers_missed, post_steps, reader_place, run, told, told_to, turn_of, turns_steps, wrote}
 use Rattle.msg_frames.specs.Frames.{settled_order, turn_order}
@@ -138,15 +138,15 @@ module _ {V : Type 0} {values : Values V} where
       (no_steps_of i js (after_turn_of j s) (λ at. out (Contains-tail j js i at)))
 
 module _ {V : Type 0} {values : Values V} (laws : BufferLaws V) where
-  pub later_at_once : TurnOrderIsLawful → LawfulOrdersKeepPaths → LaterReadersHaveItAtOnce values
-  later_at_once is_lawful keeps f s i j t sound below path reads n m c =
+  pub later_at_once : LaterReadersHaveItAtOnce values
+  later_at_once f s i j t sound below path reads n m c =
       let b : State values = before_turns f.posts s in
       let g = settled_order b in
       let order : List ℕ = turn_order b in
       let ready : IsSoundState b = prepared_sound s b sound (prepares laws.grow f.posts s) in
-      let ordered = are_ordered is_lawful b ready.no_cycle in
+      let ordered = are_ordered b ready.no_cycle in
       let cuts : Cut order j = cut order j reads.has_turn in
-      let forward = rw (cuts.is) at (lawful_forward keeps g _ order ordered.once) in
+      let forward = rw (cuts.is) at (lawful_forward g _ order ordered.once) in
       let later = pairs_head (λ k l. ¬ Path g l k) j cuts.rest (pairs_right (λ k l. ¬ Path g l k) cuts.before (j ∷ cuts.rest) forward) in
       let out : ¬ Contains (j ∷ cuts.rest) i = λ at. elim (Contains-cases j cuts.rest i at) [
         | inl same ↦ ordered.no_cycle i (rw same at path)

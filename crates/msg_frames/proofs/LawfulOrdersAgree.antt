@@ -1,10 +1,11 @@
 -- Two lawful orders of turns leave the same.
 use Rattle.std.proofs.Common.{◌≡◌, ◌≢◌, ℕ, ◌<◌, ◌⊎◌, Bool, List, [], ◌∷◌, ◌++◌, length, get_or, refl, sym, ◌∙◌, arith, ◌↔◌, All, AllPairs, Contains, IsPermutation, IsTrue}
-use Rattle.std.proofs.lemmas.{Bool.cases_order, Grind.get_or_default_zero, List.Elements.All-contains, List.Elements.Contains-append_left, List.Elements.Contains-get_or, List.Elements.All-append, List.Elements.All-tail, List.FromFn.length-map-range_with_len, List.Sorted.IsPermutation-cons, List.Sorted.IsPermutation-middle, List.Sorted.IsPermutation-refl, List.Sorted.IsPermutation-trans, List.Sorted.Contains-permutation, List.Sorted.IsPermutation-sym, Option.get_or_from_slice_get, Option.slice_get_within}
+use Rattle.std.proofs.lemmas.{Bool.cases_order, Grind.get_or_default_zero, List.Elements.All-contains, List.Elements.Contains-append_left, List.Elements.Contains-get_or, List.Elements.All-append, List.Elements.All-tail, List.Sorted.IsPermutation-cons, List.Sorted.IsPermutation-middle, List.Sorted.IsPermutation-refl, List.Sorted.IsPermutation-trans, List.Sorted.Contains-permutation, List.Sorted.IsPermutation-sym, Option.get_or_from_slice_get, Option.slice_get_within}
 use Rattle.msg_world.specs.{Prelude.Conflict, declared.access.Access.Access, Prelude.Values}
-use Rattle.msg_order.specs.Prelude.{ConflictingSystemsAreOrdered, Graph, IsLawfulOrder, LawfulOrdersKeepPaths, Path, TurnOrderIsLawful, access_of, has_joined}
+use Rattle.msg_order.proofs.{SettledOrders.conflicts_ordered, TurnOrders.in_lawful_order, TurnOrders.kept_along}
+use Rattle.msg_order.specs.Prelude.{Graph, IsLawfulOrder, Path, access_of, has_joined}
 use Rattle.msg_system.specs.Prelude.{JobFootprint}
-use Rattle.msg_frames.specs.Prelude.{AreAccessesOf, FramesAgreeInLawfulOrders, LawfulOrdersAgree, State, after_turn_of, after_turns_of, before_turns, has_begun, join_flags, logged_turn, Turn}
+use Rattle.msg_frames.specs.Prelude.{AreAccessesOf, FramesAgreeInLawfulOrders, LawfulOrdersAgree, State, after_turn_of, after_turns_of, before_turns, join_flags, logged_turn, Turn}
 use Rattle.msg_frames.specs.Frames.{settled_order, turn_order}
 use Rattle.msg_frames.proofs.{Functions.order_among, Functions.order_is, Functions.order_is_settled, SystemsStay.uses_stay, SystemsStay.before_keeps, SystemsStay.no_cycle_stays, TurnsCommute.turns_commute, SystemsStay.accesses_stay, SystemsStay.joined_below, SystemsStay.one_turn_keeps, ElementsAndPairs.Cut, ElementsAndPairs.cut, ElementsAndPairs.pairs_head, ElementsAndPairs.pairs_middle, ElementsAndPairs.pairs_right, ElementsAndPairs.pairs_tail}
 use Rattle.msg_order.proofs.Elements.{Contains-cases, Contains-head, Contains-tail, not_in_none}
@@ -92,34 +93,32 @@ module _ {V : Type 0} {values : Values V} (foot : JobFootprint values) (accesses
         (pairs_tail (λ i j. ¬ P j i) x rest a) ahead.1)))
 
 -- no path leads back in a lawful order
-pub lawful_forward : LawfulOrdersKeepPaths → (g : Graph) (who : List Bool) (order : List ℕ) → IsLawfulOrder g who order
+pub lawful_forward : (g : Graph) (who : List Bool) (order : List ℕ) → IsLawfulOrder g who order
     → Forward (Path g) order
-lawful_forward keeps g who order lawful a b d lt l p =
-    let s = keeps g who order lawful (get_or order b d) (get_or order a d) p in
+lawful_forward g who order lawful a b d lt l p =
+    let s = kept_along g who order lawful (get_or order b d) (get_or order a d) p in
     let one = lawful.once in
     let places = cases_order s.earlier b in
     let others = cases_order s.later a in
     grind (arith, one, places, others, s, get_or_default_zero, get_or_from_slice_get, slice_get_within)
 
 module _ {V : Type 0} {values : Values V} where
-  pub orders_agree : JobFootprint values → ConflictingSystemsAreOrdered → LawfulOrdersKeepPaths → LawfulOrdersAgree values
-  orders_agree foot ordered keeps s accesses settled a b are is_settled la lb =
+  pub orders_agree : JobFootprint values → LawfulOrdersAgree values
+  orders_agree foot s accesses settled a b are is_settled la lb =
       reordered foot accesses (Path settled) (λ i. IsTrue (has_joined (join_flags s) i))
       (λ i joined. rw (are.each) (joined_below s i joined))
-      (λ i j p q ne conflict. ordered accesses s.rules (join_flags s) settled
-      (length-map-range_with_len (has_begun s) 0 s.systems ∙ sym are.each) is_settled i j ne p q conflict)
+      (λ i j p q ne conflict. conflicts_ordered accesses s.rules (join_flags s) settled is_settled i j ne p q conflict)
       b a (λ k d lt. (lb.of_joined _).0 (Contains-get_or b k d lt)) (λ i. grind (arith, la.of_joined i, lb.of_joined i))
-      lb.once la.once (lawful_forward keeps settled (join_flags s) b lb)
-      (lawful_forward keeps settled (join_flags s) a la) s are
+      lb.once la.once (lawful_forward settled (join_flags s) b lb)
+      (lawful_forward settled (join_flags s) a la) s are
 
-  pub frames_agree : JobFootprint values → ConflictingSystemsAreOrdered → LawfulOrdersKeepPaths → TurnOrderIsLawful
-      → FramesAgreeInLawfulOrders values
-  frames_agree foot ordered keeps is_lawful f s accesses order uses free are lawful =
+  pub frames_agree : JobFootprint values → FramesAgreeInLawfulOrders values
+  frames_agree foot f s accesses order uses free are lawful =
       let b : State values = before_turns f.posts s in
       let same = before_keeps f.posts s in
       let are' = accesses_stay s b accesses same are in
       let free' = no_cycle_stays s b same free in
-      let own = is_lawful (settled_order b) (join_flags b) (turn_order b) (order_among b) (order_is b free') in
-      let agree = orders_agree foot ordered keeps b accesses (settled_order b) order (turn_order b) are'
+      let own = in_lawful_order (settled_order b) (join_flags b) (turn_order b) (order_among b) (order_is b free') in
+      let agree = orders_agree foot b accesses (settled_order b) order (turn_order b) are'
       (order_is_settled b accesses (uses_stay s b same uses) are') lawful.lawful own in
       (agree.0, record { posts = refl; turns = agree.1 })

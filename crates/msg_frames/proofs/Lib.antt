@@ -25,10 +25,10 @@ mod WritersInOrder
 mod ReaderOverRun
 mod ReplaysTellTheSame
 mod StampsStayRecent
+mod OneTurn
 mod ReadersTakeAll
 mod ReadersStayUpToDate
 mod ProgramsReadAll
-mod OneTurn
 mod WakeUps
 mod Latency
 -- ---- worked runs

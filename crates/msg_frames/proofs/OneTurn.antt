@@ -1,12 +1,12 @@
 -- One turn in a frame: what it finds, and what the turns of others leave of it.
-use Rattle.std.proofs.Common.{◌≡◌, ◌≢◌, ℕ, ◌<◌, List, ◌∷◌, ◌++◌, All, AllPairs, Contains, arith, refl, ◌∙◌, ap}
+use Rattle.std.proofs.Common.{◌≡◌, ◌≢◌, ℕ, ◌<◌, ◌≤◌, List, ◌∷◌, ◌++◌, All, AllPairs, Contains, arith, refl, ◌∙◌, ap}
 use Rattle.std.proofs.lemmas.{Bool.Decides.eqb_tells, List.Elements.All-contains}
-use Rattle.msg_buffer.specs.Prelude.{GoesOn}
+use Rattle.msg_buffer.specs.Prelude.{GoesOn, count}
 use Rattle.msg_system.specs.Prelude.{after_job}
 use Rattle.msg_world.specs.Prelude.{Values}
-use Rattle.msg_frames.specs.Prelude.{AfterTurns, Frame, IsSoundState, State, Turn, after_turn_of, after_turns_of, before_turns, frame, logged_turn}
+use Rattle.msg_frames.specs.Prelude.{AfterTurns, Frame, IsSoundState, State, Turn, after_turn_of, after_turns_of, before_turns, frame, logged_turn, reader_place}
 use Rattle.msg_frames.specs.Frames.{turn_order}
-use Rattle.msg_frames.proofs.{BatchesSideBySide.turns_then_more, ElementsAndPairs.all_middle, ElementsAndPairs.pairs_head, ElementsAndPairs.pairs_middle, ElementsAndPairs.pairs_right, HistoriesGrow.BufferLaws, HistoriesGrow.Grows, HistoriesGrow.goes_further, HistoriesGrow.grown, HistoriesGrow.turns_change, BeforeTurns.Prepares, BeforeTurns.prepares, ReaderOverTurns.turns_skip, StatesStaySound.has_one_turn}
+use Rattle.msg_frames.proofs.{BatchesSideBySide.turns_then_more, ElementsAndPairs.all_middle, ElementsAndPairs.pairs_head, ElementsAndPairs.pairs_middle, ElementsAndPairs.pairs_right, HistoriesGrow.BufferLaws, HistoriesGrow.Grows, HistoriesGrow.goes_further, HistoriesGrow.grown, HistoriesGrow.turns_change, BeforeTurns.Prepares, BeforeTurns.prepares, ReaderOverTurns.Reads, ReaderOverTurns.turns_moments, ReaderOverTurns.turns_read, ReaderOverTurns.turns_skip, StatesStaySound.has_one_turn, StatesStaySound.prepared_sound}
 
 module _ {V : Type 0} {values : Values V} (f : Frame V) (s : State values) (i : ℕ) (earlier later : List ℕ)
     (is : turn_order (before_turns f.posts s) ≡ earlier ++ i ∷ later) where
@@ -49,11 +49,20 @@ module _ {V : Type 0} {values : Values V} (f : Frame V) (s : State values) (i : 
   job_left = grind (arith, left_is, turns_skip i 0 later (after_turn_of i found) not_later, eqb_tells)
 
   module _ (laws : BufferLaws V) (t : ℕ) (sound : IsSoundState s) (below : t < s.types) where
+    prep : Prepares s begun
+    prep = prepares laws.grow f.posts s
+
+    others : Reads i t begun (turns_moments i t earlier begun) found
+    others =
+        let ready : IsSoundState begun = prepared_sound s begun sound prep in
+        let under : t < begun.types = rw (prep.same.types) below in
+        turns_read laws i t earlier begun (ready.histories t under) (ready.places i t under)
+
     pub goes_to_turn : GoesOn (s.world.histories t) (found.world.histories t)
-    goes_to_turn =
-        let prep : Prepares s begun = prepares laws.grow f.posts s in
-        let goes = prep.world t (sound.histories t below) in
-        goes_further _ _ _ goes (turns_change Grows (grown laws.grow) earlier begun t goes.sound)
+    goes_to_turn = goes_further _ _ _ (prep.world t (sound.histories t below)) others.passes.goes_on
+
+    pub within_turn : reader_place found i t ≤ count (found.world.histories t)
+    within_turn = others.passes.within
 
     pub goes_from_turn : GoesOn (found.world.histories t) ((frame f s).state.world.histories t)
     goes_from_turn = rw left_is (turns_change Grows (grown laws.grow) (i ∷ later) found t goes_to_turn.sound)

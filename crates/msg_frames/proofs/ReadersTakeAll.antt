@@ -1,13 +1,13 @@
--- A reader whose turn reads all of a type goes past all that had been written by then.
-use Rattle.std.proofs.Common.{◌≡◌, ◌≢◌, ℕ, zero, suc, ◌≤◌, List, [], ◌∷◌, ◌++◌, All, Option, None, Some, refl, arith, IsTrue}
+-- A job whose turn reads all of a type goes past all that had been written by then.
+use Rattle.std.proofs.Common.{◌≡◌, ◌≢◌, ℕ, zero, suc, ◌≤◌, Option, None, Some, refl, arith, IsTrue}
 use Rattle.std.specs.List.{list_any}
 use Rattle.std.proofs.lemmas.{Bool.cases_Bool, Bool.false≢true, Bool.or_cases, List.Folds.list_any-append, Bool.Decides.eqb_tells}
 use Rattle.msg_buffer.specs.Prelude.{IsSound, count}
 use Rattle.msg_world.specs.Prelude.{WorldState, Values}
-use Rattle.msg_system.specs.{Prelude.AfterProgram, Prelude.Meaning, Prelude.after_at_most, Prelude.after_op, Prelude.next_op, Prelude.one_more, Prelude.ops_answered, Prelude.turn, declared.op.Op.Op}
+use Rattle.msg_system.specs.{Prelude.AfterProgram, Prelude.Job, Prelude.Meaning, Prelude.after_at_most, Prelude.after_job, Prelude.after_op, Prelude.next_op, Prelude.one_more, Prelude.ops_answered, Prelude.turn, declared.op.Op.Op}
 use Rattle.msg_system.proofs.Turns.{ops_answered-snoc}
-use Rattle.msg_frames.specs.Prelude.{Skipped, State, after_turn_of, after_turns_of, logged_turn, reader_place, reads_all}
-use Rattle.msg_frames.proofs.{HistoriesGrow.BufferLaws, HistoriesGrow.counts_more, TellsEachOnce.tiles_rise, ReaderOverJob.first_passes, ReaderOverJob.next_moments, ReaderOverJob.next_passes, ReaderOverTurns.one_member, ReaderOverTurns.turn_reads}
+use Rattle.msg_frames.specs.Prelude.{Skipped, outcome_of, reads_all}
+use Rattle.msg_frames.proofs.{HistoriesGrow.BufferLaws, HistoriesGrow.counts_more, TellsEachOnce.tiles_rise, ReaderOverJob.first_passes, ReaderOverJob.next_moments, ReaderOverJob.next_passes}
 
 module _ {V : Type 0} {values : Values V} (laws : BufferLaws V) (t : ℕ) where
   op_takes_all : (op : Op V) (writer : ℕ) (ps : ℕ → ℕ) (w : WorldState values) → IsSound (w.histories t)
@@ -38,35 +38,14 @@ module _ {V : Type 0} {values : Values V} (laws : BufferLaws V) (t : ℕ) where
       more_takes (next_op m far.replies) m far _ refl so_far.goes_on.sound so_far.within
       (counts_more _ _ so_far.goes_on) (first_takes n m w sound within) is
 
-  pub turn_takes : (m : Meaning V) (w : WorldState values) → IsSound (w.histories t) → m.places t ≤ count (w.histories t)
+  turn_takes : (m : Meaning V) (w : WorldState values) → IsSound (w.histories t) → m.places t ≤ count (w.histories t)
       → IsTrue (list_any (reads_all t) (ops_answered (next_op m) (turn m w).replies))
       → count (w.histories t) ≤ (turn m w).places t
   unfolding turn
   turn_takes m w sound within is = first_takes 64 m w sound within is
 
-  -- where the last ops of system i read all, it stands at c or after it
-  abbrev Took : ℕ → ℕ → State values → Type 0
-  Took i c s = IsTrue (list_any (reads_all t) (s.members i).job.system.last) → c ≤ reader_place s i t
-
-  turns_keep_it : (i c : ℕ) (js : List ℕ) (s : State values) → IsSound (s.world.histories t)
-      → reader_place s i t ≤ count (s.world.histories t) → c ≤ count (s.world.histories t)
-      → Took i c s → Took i c (after_turns_of js s).state
-  turns_keep_it i c [] s sound within less has = has
-  turns_keep_it i c (j ∷ js) s sound within less has =
-      let first = (turn_reads laws i t j s sound within).passes in
-      turns_keep_it i c js (after_turn_of j s) first.goes_on.sound first.within
-      (omega (arith, less, counts_more _ _ first.goes_on)) (grind (arith, cases_Bool, one_member, turn_takes))
-
-  pub takes_by_turn : (i : ℕ) (earlier later : List ℕ) (b : State values) → IsSound (b.world.histories t)
-      → reader_place b i t ≤ count (b.world.histories t)
-      → All (λ turn. turn.system ≡ i → turn.outcome ≢ Skipped) (after_turns_of (earlier ++ i ∷ later) b).turns
-      → Took i (count ((after_turns_of earlier b).state.world.histories t))
-      (after_turns_of (earlier ++ i ∷ later) b).state
-  takes_by_turn i [] later b sound within ran =
-      let own : Took i (count (b.world.histories t)) (after_turn_of i b) =
-      let runs = ran 0 (logged_turn b i) (omega arith) in grind (arith, cases_Bool, one_member, runs, turn_takes) in
-      grind (arith, counts_more, own, turn_reads, turns_keep_it)
-  takes_by_turn i (j ∷ more) later b sound within ran =
-      let first = (turn_reads laws i t j b sound within).passes in
-      takes_by_turn i more later (after_turn_of j b) first.goes_on.sound first.within
-      (λ k d lt. ran (suc k) d (omega arith))
+  -- so a job whose last turn read all goes past all that it found
+  pub job_takes : (j : Job V) (w : WorldState values) → IsSound (w.histories t) → j.system.places t ≤ count (w.histories t)
+      → outcome_of (after_job j w).replies ≢ Skipped → IsTrue (list_any (reads_all t) (after_job j w).job.system.last)
+      → count (w.histories t) ≤ (after_job j w).job.system.places t
+  job_takes j w sound within ran reads = grind (arith, cases_Bool, turn_takes j.system w sound within, ran, reads)

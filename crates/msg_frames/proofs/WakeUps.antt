@@ -9,7 +9,7 @@ use Rattle.msg_system.specs.{Prelude.Asked, Prelude.Job, Prelude.after_job, Prel
 use Rattle.msg_frames.specs.Prelude.{Frame, IsSkipped, IsSoundState, IsUpToDate, IsWokenBy, NoWakeUpIsLost, NothingDrained, NothingUnread, ReadsAllIfWoken, ReadsAllWhenWoken, Skipped, State, WhoIsWokenStaysSo, WhoSleepsHasNothingUnread, after_turns_of, before_turns, frame, has_begun, moments, outcome_of, reader_place, reads_all, run}
 use Rattle.msg_frames.specs.Frames.{turn_order}
 use Rattle.msg_order.proofs.Elements.{Contains-head}
-use Rattle.msg_frames.proofs.{BeforeTurns.prepares, ElementsAndPairs.Cut, ElementsAndPairs.cut, HistoriesGrow.BufferLaws, HistoriesGrow.counts_more, OneTurn.goes_from_turn, OneTurn.goes_to_turn, OneTurn.in_log, OneTurn.job_left, OneTurn.member_found, ProgramsReadAll.has_turn, ReaderOverRun.run_further, ReadersStayUpToDate.Between, ReadersStayUpToDate.NoneMissed, ReadersStayUpToDate.all_there, ReadersStayUpToDate.between, ReadersStayUpToDate.frame_misses_none, ReadersStayUpToDate.joined_by_turn, ReadersStayUpToDate.past_frame, ReadersTakeAll.turn_takes, SystemsStay.frame_keeps, SystemsStay.no_cycle_stays}
+use Rattle.msg_frames.proofs.{BeforeTurns.prepares, ElementsAndPairs.Cut, ElementsAndPairs.cut, HistoriesGrow.BufferLaws, HistoriesGrow.counts_more, OneTurn.goes_from_turn, OneTurn.goes_to_turn, OneTurn.in_log, OneTurn.job_left, OneTurn.member_found, OneTurn.within_turn, ProgramsReadAll.has_turn, ReaderOverRun.run_further, ReadersStayUpToDate.Between, ReadersStayUpToDate.NoneMissed, ReadersStayUpToDate.all_there, ReadersStayUpToDate.between, ReadersStayUpToDate.frame_misses_none, ReadersStayUpToDate.joined_by_turn, ReadersStayUpToDate.past_frame, ReadersTakeAll.job_takes, SystemsStay.frame_keeps, SystemsStay.no_cycle_stays}
 
 -- ---- what is gone stays gone
 
@@ -66,7 +66,9 @@ module _ {V : Type 0} {values : Values V} (t : ℕ) where
         → (outcome_of (after_job j w).replies ≢ Skipped → IsTrue (list_any (reads_all t) (after_job j w).job.system.last))
         → CameOrSlept
     came_or_slept laws sound within gone reads = elim (cases_Bool (all_hold j.conditions w)) [
-      | inl holds ↦ inl (grind (arith, holds, reads, turn_takes laws t j.system w sound within))
+      | inl holds ↦
+          let ran : outcome_of (after_job j w).replies ≢ Skipped = grind (arith, holds) in
+          inl (job_takes laws t j w sound within ran (reads ran))
       | inr fails ↦ inr (grind (arith, fails), slept sound gone (grind (arith, fails)))
     ]
 
@@ -112,7 +114,7 @@ module _ {V : Type 0} {values : Values V} (laws : BufferLaws V) (f : Frame V) (s
     took_or_slept =
         let j : Job V = (found.members i).job in
         let here = came_or_slept t j found.world woken.place waits laws to_turn.sound
-        (rw (reader_place, stood) (omega (arith, sound.places i t below, counts_more _ _ to_turn))) gone
+        (within_turn f s i earlier later is laws t sound below) gone
         (λ ran. rw (← job_left f s i earlier later is)
         (reads (λ skipped. ran (in_log f s i earlier later is (λ turn. turn.system ≡ i → turn.outcome ≡ Skipped) skipped refl)))) in
         rw (reader_place, job_left f s i earlier later is, ← stood) here

@@ -3,9 +3,6 @@
 ghost use Rattle.msg_frames.specs.Prelude.{BatchesRunSideBySide, FramesAgreeInLawfulOrders, FramesKeepSystems, FramesRunByBatches, LawfulOrdersAgree, ListsOnlyGrow, OrderIsSettled, TurnsAreInOrder, SameSystemsHaveSameAccesses, TurnsKeepSystems, TurnsOfOthersCommute};
 
 use msg_buffer::laws::histories_only_grow;
-use msg_order::laws::{
-    conflicting_systems_are_ordered, lawful_orders_keep_paths, turn_order_is_lawful,
-};
 use msg_system::nothing_else_is_used;
 use msg_world::{Record, Value};
 
@@ -58,8 +55,6 @@ pub fn lawful_orders_agree<V: Value>()
     ensures law { LawfulOrdersAgree V.values }
 {
     nothing_else_is_used::<V>();
-    conflicting_systems_are_ordered();
-    lawful_orders_keep_paths();
 }
 
 /// The order of a state's systems is the settled one. If the rules make no cycle, it has none, it
@@ -68,18 +63,13 @@ pub fn lawful_orders_agree<V: Value>()
 pub fn turns_are_in_settled_order<V: Value>()
     ensures turns { TurnsAreInOrder V.values }
     ensures settled { OrderIsSettled V.values }
-{
-    turn_order_is_lawful();
-}
+{}
 
 /// In any lawful order a frame leaves the same state, and each system's turn comes out alike.
 pub fn frames_agree_in_lawful_orders<V: Value>()
     ensures law { FramesAgreeInLawfulOrders V.values }
 {
     nothing_else_is_used::<V>();
-    conflicting_systems_are_ordered();
-    lawful_orders_keep_paths();
-    turn_order_is_lawful();
 }
 
 /// Over a run each type's list of messages only grows.

@@ -1,19 +1,14 @@
 //! Laws of readers: facts that hold of every run of frames.
 ghost use Rattle.msg_frames.specs.Prelude.{AccountsBalance, AccountsBeginAtTheStart, AllAreAnswered, AllReadersHaveItNext, EachMeetsOneFate, FirstIsSound, FrameStaysSound, LaterReadersHaveItAtOnce, LogsTellEntries, NoWakeUpIsLost, NoneBeforeJoining, ReadersTile, ReplaysTellTheSame, RunStaysSound, RunsAreComplete, RunsCompose, WhoIsUpToDateMissesNothing, WhoIsWokenStaysSo, WhoReadsAllCatchesUp, WhoReadsAllHasTheFrameBefore, WhoReadsAllIsUpToDate, WhoReadsEachFrameMissesNothing, WhoSleepsHasNothingUnread, WhoseProgramReadsAll, WhoseProgramReadsAllWhenWoken, WritersInOrder};
 
-use msg_buffer::laws::{histories_only_grow, readers_tile};
-use msg_order::laws::{lawful_orders_keep_paths, turn_order_is_lawful};
 use msg_system::a_program_is_its_ops_in_order;
-use msg_world::{Record, Value};
+use msg_world::Value;
 
 /// A frame leaves a sound state sound, and so does a run of frames.
 pub fn states_stay_sound<V: Value>()
     ensures frame { FrameStaysSound V.values }
     ensures run { RunStaysSound V.values }
-{
-    histories_only_grow::<Record<V>>();
-    readers_tile::<Record<V>>();
-}
+{}
 
 /// A state before any frame is sound, where its systems are new ones over a sound world.
 pub fn first_states_are_sound<V: Value>()
@@ -28,10 +23,7 @@ pub fn first_states_are_sound<V: Value>()
 pub fn runs_are_complete<V: Value>()
     ensures law { RunsAreComplete V.values }
     ensures answered { AllAreAnswered V.values }
-{
-    histories_only_grow::<Record<V>>();
-    readers_tile::<Record<V>>();
-}
+{}
 
 /// Calls in a row are one run: frames, and then more of them from the state that these leave.
 #[tactic(auto, using(crate::proofs::Functions::run_append))]
@@ -51,10 +43,7 @@ pub fn each_message_meets_one_fate<V: Value>()
 /// The reads and clears of each reader tile over a run.
 pub fn readers_tile_over_runs<V: Value>()
     ensures law { ReadersTile V.values }
-{
-    histories_only_grow::<Record<V>>();
-    readers_tile::<Record<V>>();
-}
+{}
 
 /// Logs that tell the same as those of a run tell each system what the run tells it. So frames of
 /// which some are replayed tell each reader what the run of the same frames tells.
@@ -72,10 +61,7 @@ pub fn accounts_add_up<V: Value>()
 /// whether it joined before the first frame or later.
 pub fn accounts_begin_at_the_start<V: Value>()
     ensures law { AccountsBeginAtTheStart V.values }
-{
-    histories_only_grow::<Record<V>>();
-    readers_tile::<Record<V>>();
-}
+{}
 
 /// A system that reads a type without limit in each frame misses nothing of it after the first of
 /// these frames, unless a system drains the type. At the end of its turn it was given, or went
@@ -87,10 +73,7 @@ pub fn who_reads_each_frame_misses_nothing<V: Value>()
     ensures up_to_date { WhoReadsAllIsUpToDate V.values }
     ensures next_frame { WhoIsUpToDateMissesNothing V.values }
     ensures law { WhoReadsEachFrameMissesNothing V.values }
-{
-    histories_only_grow::<Record<V>>();
-    readers_tile::<Record<V>>();
-}
+{}
 
 /// A system whose one condition is that a message of a type came, and which reads all of the type
 /// if it runs, loses no wake-up. If it was skipped, nothing was unread by it as its turn came. So if
@@ -99,23 +82,16 @@ pub fn no_wake_up_is_lost<V: Value>()
     ensures sleeps { WhoSleepsHasNothingUnread V.values }
     ensures woken { WhoIsWokenStaysSo V.values }
     ensures law { NoWakeUpIsLost V.values }
-{
-    histories_only_grow::<Record<V>>();
-    readers_tile::<Record<V>>();
-}
+{}
 
-/// What a system is told that it wrote, a reader that comes after it in the settled order, and
-/// reads all, takes in the same frame; any reader that reads all in the next frame takes it by the
-/// end of that. It is missed only if the type is drained.
+/// What a system is told that it wrote in a frame, a reader that comes after it in the settled
+/// order, and reads all, takes in that frame; any reader that has joined by the end of the frame,
+/// and reads all in the next one, takes it by the end of that. It is missed only if the type is
+/// drained.
 pub fn what_is_written_is_read_in_time<V: Value>()
     ensures at_once { LaterReadersHaveItAtOnce V.values }
     ensures next { AllReadersHaveItNext V.values }
-{
-    histories_only_grow::<Record<V>>();
-    readers_tile::<Record<V>>();
-    turn_order_is_lawful();
-    lawful_orders_keep_paths();
-}
+{}
 
 /// A system whose program of at most 64 ops reads a type without limit does so if it runs; if it
 /// has joined and has no conditions, in each frame.
@@ -123,6 +99,5 @@ pub fn programs_read_all<V: Value>()
     ensures law { WhoseProgramReadsAll V.values }
     ensures woken { WhoseProgramReadsAllWhenWoken V.values }
 {
-    histories_only_grow::<Record<V>>();
     a_program_is_its_ops_in_order::<V>();
 }

@@ -9,7 +9,7 @@ pub mod SetPaths
 pub mod SettledOrders
 -- Batches and turns
 mod BatchLevels
-mod TurnOrders
+pub mod TurnOrders
 -- What a plan says
 mod PlanViews
 mod AcceptedOrders

@@ -1,5 +1,5 @@
 -- The settled order: where it leads, whom it orders, and that any test of conflicts makes the same.
-use Rattle.std.proofs.Common.{◌≡◌, ℕ, ◌<◌, Bool, false, ◌&&◌, List, length, refl, ap, ◌∙◌, ◌⊎◌, inl, inr, ◌↔◌, IsTrue, arith}
+use Rattle.std.proofs.Common.{◌≡◌, ℕ, ◌<◌, Bool, false, ◌&&◌, List, length, ap, ◌∙◌, ◌⊎◌, inl, inr, ◌↔◌, IsTrue, arith}
 use Rattle.std.proofs.lemmas.{Bool.Decides.eqb_tells, Bool.cases_Bool, Bool.cases_order, Bool.and_parts, Bool.and_from}
 use Rattle.msg_world.specs.{Prelude.Conflict, declared.access.Access.Access}
 use Rattle.msg_world.proofs.{Bits.share_bit-and, Conflicts.collides, Conflicts.conflicts_lem}
@@ -64,15 +64,10 @@ some_test accesses joined = (
 )
 
 -- whatever test tells the conflicts, it makes one order
-pub settled_is : (accesses : List Access) (rules : List Rule) (joined : List Bool) (conflict : ℕ → ℕ → Bool)
-    → length joined ≡ length accesses → TellsConflicts accesses joined conflict
-    → IsSettledOrder accesses rules joined (settled conflict rules joined)
-settled_is accesses rules joined conflict len tells = record { conflict = conflict; tells = tells; is = refl }
-
 pub settled_only : (accesses : List Access) (rules : List Rule) (joined : List Bool) (conflict : ℕ → ℕ → Bool) (g : Graph)
-    → length joined ≡ length accesses → TellsConflicts accesses joined conflict → IsSettledOrder accesses rules joined g
+    → TellsConflicts accesses joined conflict → IsSettledOrder accesses rules joined g
     → g ≡ settled conflict rules joined
-settled_only accesses rules joined conflict g len tells order =
+settled_only accesses rules joined conflict g tells order =
     let here = tells_among accesses joined conflict tells in
     let there = tells_among accesses joined order.conflict order.tells in
     let same = λ (i j : ℕ). same_test (conflict_among joined order.conflict i j) (conflict_among joined conflict i j)
@@ -81,7 +76,7 @@ settled_only accesses rules joined conflict g len tells order =
     (λ k i j. same i j k)
 
 pub conflicts_ordered : ConflictingSystemsAreOrdered
-conflicts_ordered accesses rules joined order len settled i j ne at_i at_j conflict =
+conflicts_ordered accesses rules joined order settled i j ne at_i at_j conflict =
     let orders = settled_orders rules joined settled.conflict in
     let back : Conflict (access_of accesses j) (access_of accesses i) = (conflict.0, grind (arith, conflict.1)) in
     let up = λ (lt : i < j). orders i j lt at_i at_j ((settled.tells i j at_i at_j).1 conflict) in

@@ -109,9 +109,8 @@ in_lawful_order g joined order among t = record {
 
 -- no two systems of a batch conflict
 pub none_conflict : (accesses : List Access) (rules : List Rule) (joined : List Bool) (g : Graph) (bs : List (List ℕ))
-    → length joined ≡ length accesses → IsSettledOrder accesses rules joined g → AreBatches g joined bs
-    → All (NoneConflict accesses) bs
-none_conflict accesses rules joined g bs len settled h =
+    → IsSettledOrder accesses rules joined g → AreBatches g joined bs → All (NoneConflict accesses) bs
+none_conflict accesses rules joined g bs settled h =
     All-from_get_or (NoneConflict accesses) bs [] (λ b l a c d lt l2 x.
     let batch : List ℕ = batch_at bs b in
     let i : ℕ = get_or batch a d in
@@ -119,5 +118,5 @@ none_conflict accesses rules joined g bs len settled h =
     let rising : i < j = AllPairs-from_increasing batch (h.by_addition b [] l) a c d lt l2 in
     let at_i = (h.of_number b i).0 (Contains-get_or batch a d (omega arith)) in
     let at_j = (h.of_number b j).0 (Contains-get_or batch c d l2) in
-    let paths = conflicts_ordered accesses rules joined g len settled i j (omega arith) at_i.0 at_j.0 x in
+    let paths = conflicts_ordered accesses rules joined g settled i j (omega arith) at_i.0 at_j.0 x in
     grind (arith, paths, number_rises g i j b b, number_rises g j i b b, at_i.1, at_j.1))

@@ -1,5 +1,5 @@
 -- Laws of the settled order. Each is the contract of a function of the same name in src/laws.rt.
-use Rattle.std.specs.Prelude.{◌≡◌, ◌≢◌, ◌<◌, ℕ, Bool, List, length, IsTrue, ◌⊎◌, ◌↔◌}
+use Rattle.std.specs.Prelude.{◌≡◌, ◌≢◌, ◌<◌, ℕ, Bool, List, IsTrue, ◌⊎◌, ◌↔◌}
 use Rattle.msg_world.specs.{Prelude.Conflict, declared.access.Access.Access}
 use Rattle.msg_order.specs.{declared.rule.Rule.Rule, Graph.Graph, Graph.Path, Graph.IsAcyclic, Graph.IsBatchNumber, Settled.has_joined, Order.access_of, Settled.rules_among, Order.IsAmong, Order.IsSettledOrder, Order.TellsConflicts, Order.AreBatches, Order.IsTurnOrder, Order.StandsBefore, Order.IsLawfulOrder, Settled.batches, Settled.settled, Settled.turns}
 
@@ -18,14 +18,13 @@ SettlingMakesNoCycle = (accesses : List Access) (rules : List Rule) (joined : Li
 -- The settled order leads from one of two joined systems in conflict to the other.
 abbrev pub ConflictingSystemsAreOrdered : Type 0
 ConflictingSystemsAreOrdered = (accesses : List Access) (rules : List Rule) (joined : List Bool)
-    → (order : Graph) → length joined ≡ length accesses → IsSettledOrder accesses rules joined order
+    → (order : Graph) → IsSettledOrder accesses rules joined order
     → (i j : ℕ) → i ≢ j → IsTrue (has_joined joined i) → IsTrue (has_joined joined j)
     → Conflict (access_of accesses i) (access_of accesses j) → Path order i j ⊎ Path order j i
 
 -- There is a settled order. Whatever test tells the conflicts, it makes that order.
 abbrev pub SettledIsTheOrder : Type 0
 SettledIsTheOrder = (accesses : List Access) (rules : List Rule) (joined : List Bool)
-    → length joined ≡ length accesses
     → ((g : Graph) × IsSettledOrder accesses rules joined g)
     × ((conflict : ℕ → ℕ → Bool) → TellsConflicts accesses joined conflict
     → (g : Graph) → IsSettledOrder accesses rules joined g ↔ (g ≡ settled conflict rules joined))

@@ -2,7 +2,4 @@ use Rattle.msg_frames.proofs.LawfulOrdersAgree.{orders_agree}
 use Rattle.msg_frames.proofs.laws.lawful_orders_agree.Goals as goal
 
 pub returns : goal.returns
-returns g c =
-    let joined = c.conflicting_systems_are_ordered.ensures.law in
-    let kept = c.lawful_orders_keep_paths.ensures.law in
-    record { law = orders_agree c.nothing_else_is_used.ensures.jobs joined kept }
+returns g c = record { law = orders_agree c.nothing_else_is_used.ensures.jobs }
