@@ -5,8 +5,8 @@ ghost use Rattle.msg_plans.specs.Unfit as Spec;
 use msg_files::NoMemory;
 use msg_files::numerals::add_count;
 use msg_order::Rule;
-use msg_scenario_data::names::add_system;
 use msg_scenario_data::Scenario;
+use msg_scenario_data::names::add_system;
 use std::alloc::Global;
 
 /// The rules that lead from a system back to it, as few as there are, by their places; none if it
@@ -73,9 +73,7 @@ fn levels_back(alloc: Global, rules: &[Rule], system: u32) -> Result<Vec<Vec<u32
 fn first_rule(rules: &[Rule], system: u32, systems: &[u32]) -> Option<usize>
     ensures first { result ≡ Spec.first_rule rules.now system systems.now }
 {
-    rules
-        .iter()
-        .position(|rule| rule.earlier == system && is_one_of(systems, rule.later))
+    rules.iter().position(|rule| rule.earlier == system && is_one_of(systems, rule.later))
 }
 
 /// The system to which a rule leads.

@@ -18,7 +18,7 @@ mod users;
 pub use cause::Cause;
 pub use clash::{Clash, clash_of};
 pub use cycle::round;
-pub use planned::{Form, User};
+pub use planned::{Form, Use, User};
 pub use put::put_plan;
 pub use remarks::add_remarks;
 pub use unfit::add_unfit;
