@@ -1,5 +1,5 @@
 -- Names that are near to a text.
-use Rattle.std.proofs.Common.{◌≡◌, ℕ, List, [], ◌∷◌, refl, ap, ◌∙◌, map, position, Bool, arith}
+use Rattle.std.proofs.Common.{◌≡◌, ℕ, List, [], ◌∷◌, refl, ◌∙◌, map, position, Bool, arith}
 use Rattle.std.proofs.lemmas.Option.{slice_get-map}
 use Rattle.serde_json.specs.{View.view, declared.value.Value.Value}
 use Rattle.msg_files.specs.Json.{Text}

@@ -1,7 +1,7 @@
 -- Reading a JSON value: what it is, or its first fault: why it is refused, and where.
-use Rattle.std.specs.Prelude.{◌≡◌, ◌⊎◌, IsUtf8, ⊤, ℕ, Bool, List, Option, Some, None, Result, Ok, Err, codes, if◌then◌else◌}
-use Rattle.serde_json.specs.{Data.Data, Read.read}
-use Rattle.msg_files.specs.Json.{IsJsonOf}
+use Rattle.std.specs.Prelude.{◌≡◌, ◌⊎◌, ⊤, ℕ, Bool, List, Option, Some, None, Result, Ok, Err, codes, if◌then◌else◌}
+use Rattle.serde_json.specs.Data.{Data}
+use Rattle.msg_files.specs.Json.{IsJsonOf, IsNotJson}
 use Rattle.msg_files.specs.declared.fault.Fault.{Fault}
 use Rattle.msg_files.specs.declared.file_fault.FileFault.{FileFault}
 use Rattle.msg_files.specs.declared.file_fault.FileFault.TheVariants as file_fault
@@ -161,12 +161,12 @@ IsRefusedFor has r = (e : Fault) × has e × (r ≡ reason_refusal e.reason)
 
 -- the bytes are no JSON text; or memory was refused
 abbrev pub IsUnread : List ℕ → FileFault → Type 0
-IsUnread bytes (file_fault.NotJson line column) = IsUtf8 bytes → read bytes ≡ None
+IsUnread bytes (file_fault.NotJson line column) = IsNotJson bytes
 IsUnread bytes (file_fault.At e) = e.reason ≡ reason.NoMemory
 
 -- Bytes have this fault, if it is told which faults a value has: they are no JSON text; or they are
 -- the text of a value that has it; or memory was refused.
 abbrev pub IsFaultOf : (Data → Fault → Type 0) → List ℕ → FileFault → Type 0
-IsFaultOf has bytes (file_fault.NotJson line column) = IsUtf8 bytes → read bytes ≡ None
+IsFaultOf has bytes (file_fault.NotJson line column) = IsNotJson bytes
 IsFaultOf has bytes (file_fault.At e) = (e.reason ≡ reason.NoMemory)
     ⊎ ((d : Data) × IsJsonOf bytes d × has d e)

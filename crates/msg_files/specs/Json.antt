@@ -50,6 +50,10 @@ not_negative (negsuc n) = None
 abbrev pub only_below : ℕ → ℕ → Option ℕ
 only_below end n = if nat_lt n end then Some n else None
 
+-- the bytes aren't UTF-8, or serde_json reads no value in them
+abbrev pub IsNotJson : List ℕ → Type 0
+IsNotJson bytes = IsUtf8 bytes → read bytes ≡ None
+
 -- the bytes are UTF-8, and serde_json reads this value in them
 pub record IsJsonOf (bytes : List ℕ) (d : Data) : Type 0 where
   pub utf8 : IsUtf8 bytes

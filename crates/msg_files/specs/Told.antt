@@ -135,7 +135,7 @@ sentence reason.Kind = codes "wanted script, relay or tally"
 sentence reason.NotOfKind = codes "a relay has one forward as its ops, and a tally one sum"
 sentence reason.Start = codes "wanted zero or current"
 sentence (reason.Clash system) = codes "the ops of this system read and write one type"
-sentence (reason.Cycle system) = codes "the rules lead round, from the system of this number: "
+sentence (reason.Cycle system) = codes "the rules lead round"
 sentence reason.NoMemory = codes "want of memory"
 
 -- the number or key that the sentence of a reason ends with
@@ -144,7 +144,6 @@ detail (reason.Missing key) = key_text key
 detail (reason.AtMost most) = decimal most
 detail (reason.Below end) = decimal (end - 1)
 detail (reason.StandsAt n) = decimal n
-detail (reason.Cycle system) = decimal system
 detail _ = []
 
 -- ---- both

@@ -3,4 +3,5 @@ pub mod Order
 pub mod PlanText
 pub mod Prelude
 pub mod Remarks
+pub mod Unfit
 pub mod inner

@@ -9,7 +9,7 @@ use Rattle.msg_frames.specs.Prelude.{State, join_flags, member_needs}
 use Rattle.msg_frames.specs.Frames.{settled_order}
 use Rattle.msg_scenario_data.specs.Prelude.{state_of}
 use Rattle.msg_scenario_data.specs.declared.scenario.Scenario.{Scenario}
-use Rattle.msg_plans.specs.{declared.cause.Cause.Cause, declared.planned.User.User}
+use Rattle.msg_plans.specs.{declared.cause.Cause.Cause, declared.planned.Use.Use, declared.planned.Use.TheVariants.Read, declared.planned.Use.TheVariants.Write, declared.planned.User.User}
 use Rattle.msg_plans.specs.declared.cause.Cause.TheVariants as cause
 
 -- the state in which the turns of frame k are taken, as far as their order depends on it
@@ -65,20 +65,24 @@ causes s i j = filter (holds s i j) (all_causes s)
 
 -- ---- who uses a type
 
+-- system i writes, or reads, type t
+abbrev pub uses : Use → Scenario → ℕ → ℕ → Bool
+uses Write s t i = (needs_in s i).writes (OfType t)
+uses Read s t i = (needs_in s i).reads (OfType t)
+
 -- system i runs before a system that writes type t, and so is given its messages a frame late
 abbrev pub is_late : Scenario → ℕ → ℕ → ℕ → Bool
 is_late s k t i =
-    list_any (λ w. (needs_in s w).writes (OfType t) && precedes s k i w) (turns_in s k)
+    list_any (λ w. uses Write s t w && precedes s k i w) (turns_in s k)
 
--- the systems of frame k that write type t
-abbrev pub writers : Scenario → ℕ → ℕ → List User
-writers s k t = map (λ i. record { system = i; is_late = false })
-    (filter (λ i. (needs_in s i).writes (OfType t)) (turns_in s k))
+-- a system that uses type t in frame k; a writer is never late
+abbrev pub user : Use → Scenario → ℕ → ℕ → ℕ → User
+user Write s k t i = record { system = i; is_late = false }
+user Read s k t i = record { system = i; is_late = is_late s k t i }
 
--- the systems of frame k that read type t
-abbrev pub readers : Scenario → ℕ → ℕ → List User
-readers s k t = map (λ i. record { system = i; is_late = is_late s k t i })
-    (filter (λ i. (needs_in s i).reads (OfType t)) (turns_in s k))
+-- the systems of frame k that write, or read, type t
+abbrev pub users : Use → Scenario → ℕ → ℕ → List User
+users how s k t = map (user how s k t) (filter (uses how s t) (turns_in s k))
 
 -- ---- the longest chain
 

@@ -5,15 +5,24 @@ use Rattle.msg_order.specs.Prelude.{batch_at}
 use Rattle.msg_files.specs.Prelude.{Text}
 use Rattle.msg_scenario_data.specs.Prelude.{resource_name, system_name, type_name}
 use Rattle.msg_scenario_data.specs.declared.scenario.Scenario.{Scenario}
-use Rattle.msg_plans.specs.Order.{batches_in, causes, chain, has_rule, is_next, readers, turns_in, writers}
-use Rattle.msg_plans.specs.{declared.cause.Cause.Cause, declared.planned.Form.Form, declared.planned.Form.TheVariants.Dot, declared.planned.Form.TheVariants.Lines, declared.planned.User.User}
+use Rattle.msg_plans.specs.Order.{batches_in, causes, chain, has_rule, is_next, turns_in, users}
+use Rattle.msg_plans.specs.{declared.cause.Cause.Cause, declared.planned.Form.Form, declared.planned.Form.TheVariants.Dot, declared.planned.Form.TheVariants.Lines, declared.planned.Use.TheVariants.Read, declared.planned.Use.TheVariants.Write, declared.planned.User.User}
 use Rattle.msg_plans.specs.declared.cause.Cause.TheVariants as cause
 
 -- ---- parts of a line
 
--- the names of systems, each with a space in front
-unfoldable pub names_text : Scenario → List ℕ → Text
-names_text s systems = flat_map (λ i. codes " " ++ system_name s i) systems
+-- the name of a system as Graphviz reads it
+abbrev pub quoted : Scenario → ℕ → Text
+quoted s i = codes "\"" ++ system_name s i ++ codes "\""
+
+-- a system of a batch, with a space in front
+abbrev pub member_text : Form → Scenario → ℕ → Text
+member_text Lines s i = codes " " ++ system_name s i
+member_text Dot s i = codes " " ++ quoted s i ++ codes ";"
+
+-- systems of a batch
+unfoldable pub members_text : Form → Scenario → List ℕ → Text
+members_text form s systems = flat_map (member_text form s) systems
 
 -- a cause by its kind and name
 abbrev pub cause_text : Scenario → Cause → Text
@@ -38,11 +47,20 @@ users_text s (u ∷ us) = user_text s u ++ flat_map (λ v. codes ", " ++ user_te
 
 -- ---- lines
 
--- batch b of frame k; they are counted from 1
-abbrev pub batch_line : Scenario → ℕ → ℕ → Text
-batch_line s k b =
-    codes "batch " ++ decimal (b + 1) ++ codes ":" ++ names_text s (batch_at (batches_in s k) b)
-    ++ codes "\n"
+-- how batch b begins; they are counted from 1, and for Graphviz stand side by side
+abbrev pub batch_head : Form → ℕ → Text
+batch_head Lines b = codes "batch " ++ decimal (b + 1) ++ codes ":"
+batch_head Dot b = codes "  { rank=same;"
+
+-- how a batch ends
+abbrev pub batch_end : Form → Text
+batch_end Lines = codes "\n"
+batch_end Dot = codes " }\n"
+
+-- batch b of frame k
+abbrev pub batch_text : Form → Scenario → ℕ → ℕ → Text
+batch_text form s k b =
+    batch_head form b ++ members_text form s (batch_at (batches_in s k) b) ++ batch_end form
 
 -- why system i is before system j
 abbrev pub edge_line : Scenario → ℕ → ℕ → List Cause → Text
@@ -53,29 +71,16 @@ edge_line s i j causes =
 -- who writes type t in frame k, and who reads it
 abbrev pub type_line : Scenario → ℕ → ℕ → Text
 type_line s k t =
-    codes "type " ++ type_name s t ++ codes ": written by " ++ users_text s (writers s k t)
-    ++ codes "; read by " ++ users_text s (readers s k t) ++ codes "\n"
+    codes "type " ++ type_name s t ++ codes ": written by " ++ users_text s (users Write s k t)
+    ++ codes "; read by " ++ users_text s (users Read s k t) ++ codes "\n"
 
 -- the longest chain, and how many systems it has
 abbrev pub chain_text : Scenario → List ℕ → Text
 chain_text s systems =
-    codes "longest chain:" ++ names_text s systems ++ codes " (" ++ decimal (length systems)
+    codes "longest chain:" ++ members_text Lines s systems ++ codes " (" ++ decimal (length systems)
     ++ codes ")\n"
 
 -- ---- for Graphviz
-
--- the name of a system as Graphviz reads it
-abbrev pub quoted : Scenario → ℕ → Text
-quoted s i = codes "\"" ++ system_name s i ++ codes "\""
-
--- systems by their quoted names
-abbrev pub members_text : Scenario → List ℕ → Text
-members_text s systems = flat_map (λ i. codes " " ++ quoted s i ++ codes ";") systems
-
--- the systems of batch b of frame k, which stand side by side
-abbrev pub rank_line : Scenario → ℕ → ℕ → Text
-rank_line s k b =
-    codes "  { rank=same;" ++ members_text s (batch_at (batches_in s k) b) ++ codes " }\n"
 
 -- an arrow with its causes, dashed if no rule is one of them
 abbrev pub arrow_text : Scenario → ℕ → ℕ → List Cause → Text
@@ -97,13 +102,10 @@ edges_text form s k =
     flat_map (λ i. flat_map (λ j. if is_next s k i j then edge_text form s i j else [])
     (turns_in s k)) (turns_in s k)
 
--- a line for each batch
-unfoldable pub batches_text : Scenario → ℕ → Text
-batches_text s k = flat_map (batch_line s k) (range_with_len 0 (length (batches_in s k)))
-
--- a rank for each batch
-unfoldable pub ranks_text : Scenario → ℕ → Text
-ranks_text s k = flat_map (rank_line s k) (range_with_len 0 (length (batches_in s k)))
+-- each batch
+unfoldable pub batches_text : Form → Scenario → ℕ → Text
+batches_text form s k =
+    flat_map (batch_text form s k) (range_with_len 0 (length (batches_in s k)))
 
 -- a line for each type
 unfoldable pub types_text : Scenario → ℕ → Text
@@ -112,7 +114,7 @@ types_text s k = flat_map (type_line s k) (range_with_len 0 (length s.types))
 -- the plan of frame k as lines
 abbrev pub lines_text : Scenario → ℕ → Text
 lines_text s k =
-    codes "frame " ++ decimal k ++ codes "\n" ++ batches_text s k ++ edges_text Lines s k
+    codes "frame " ++ decimal k ++ codes "\n" ++ batches_text Lines s k ++ edges_text Lines s k
     ++ types_text s k ++ chain_text s (chain s k (batches_in s k))
 
 -- how the graph of frame k begins
@@ -121,7 +123,7 @@ dot_head k = codes "digraph frame_" ++ decimal k ++ codes " {\n  rankdir=LR;\n"
 
 -- the plan of frame k for Graphviz
 abbrev pub dot_text : Scenario → ℕ → Text
-dot_text s k = dot_head k ++ ranks_text s k ++ edges_text Dot s k ++ codes "}\n"
+dot_text s k = dot_head k ++ batches_text Dot s k ++ edges_text Dot s k ++ codes "}\n"
 
 -- the plan of frame k in this form
 abbrev pub plan_text : Form → Scenario → ℕ → Text

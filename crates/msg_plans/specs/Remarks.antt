@@ -8,7 +8,8 @@ use Rattle.msg_frames.specs.declared.frame.Frame.{Frame}
 use Rattle.msg_scenario_data.specs.Prelude.{resource_name, system_name, type_name}
 use Rattle.msg_scenario_data.specs.{declared.scenario.Scenario.Scenario, declared.scenario.SystemSpec.SystemSpec}
 use Rattle.msg_order.specs.declared.rule.Rule.{Rule}
-use Rattle.msg_plans.specs.Order.{needs_in, precedes, turns_in}
+use Rattle.msg_plans.specs.Order.{needs_in, precedes, turns_in, uses}
+use Rattle.msg_plans.specs.{declared.planned.Use.Use, declared.planned.Use.TheVariants.Read, declared.planned.Use.TheVariants.Write, declared.remarks.TypeRemark.TypeRemark, declared.remarks.TypeRemark.TheVariants.Half, declared.remarks.TypeRemark.TheVariants.Late, declared.remarks.TypeRemark.TheVariants.Skipped}
 
 -- a frame in which every system has joined
 abbrev pub everybody : ℕ
@@ -20,9 +21,9 @@ all_turns s = turns_in s everybody
 
 -- ---- types and resources
 
--- a system reads type t
-abbrev pub is_read : Scenario → ℕ → Bool
-is_read s t = list_any (λ i. (needs_in s i).reads (OfType t)) (all_turns s)
+-- a system writes, or reads, type t
+abbrev pub has_user : Use → Scenario → ℕ → Bool
+has_user how s t = list_any (uses how s t) (all_turns s)
 
 -- a post of the frame is to type t
 abbrev pub has_post : ℕ → Frame ℤ → Bool
@@ -32,13 +33,9 @@ has_post t frame = list_any (λ p. p.0 == t) frame.posts
 abbrev pub is_posted : Scenario → ℕ → Bool
 is_posted s t = list_any (has_post t) s.frames
 
--- a system writes type t
-abbrev pub has_writer : Scenario → ℕ → Bool
-has_writer s t = list_any (λ i. (needs_in s i).writes (OfType t)) (all_turns s)
-
 -- a system writes type t, or the host posts to it
 abbrev pub is_written : Scenario → ℕ → Bool
-is_written s t = has_writer s t || is_posted s t
+is_written s t = has_user Write s t || is_posted s t
 
 -- a system reads or writes resource r
 abbrev pub is_used : Scenario → ℕ → Bool
@@ -48,15 +45,12 @@ is_used s r = list_any (λ i. needs_any (needs_in s i) (OfResource r)) (all_turn
 abbrev pub remark : Text → Text → Text
 remark name is = codes "remark: " ++ name ++ is
 
--- of a type that is read and never written
-abbrev pub unwritten_remark : Scenario → ℕ → Text
-unwritten_remark s t = if is_read s t && not (is_written s t)
-    then remark (type_name s t) (codes " is read and never written\n") else []
-
--- of a type that is written and never read
-abbrev pub unread_remark : Scenario → ℕ → Text
-unread_remark s t = if is_written s t && not (is_read s t)
+-- of a type that is written and never read, or read and never written
+abbrev pub half_remark : Use → Scenario → ℕ → Text
+half_remark Write s t = if is_written s t && not (has_user Read s t)
     then remark (type_name s t) (codes " is written and never read\n") else []
+half_remark Read s t = if has_user Read s t && not (is_written s t)
+    then remark (type_name s t) (codes " is read and never written\n") else []
 
 -- of a resource that nothing uses
 abbrev pub unused_remark : Scenario → ℕ → Text
@@ -79,7 +73,7 @@ absent_remark s x = if nat_lt (length s.frames) x.place.join
 -- the first system that writes type t and that system i has to run before
 abbrev pub late_for : Scenario → ℕ → ℕ → Option ℕ
 late_for s i t =
-    find (λ w. (needs_in s w).writes (OfType t) && precedes s everybody i w) (all_turns s)
+    find (λ w. uses Write s t w && precedes s everybody i w) (all_turns s)
 
 -- rule k puts system i before system w
 abbrev pub puts_before : List Rule → ℕ → ℕ → ℕ → Bool
@@ -111,7 +105,7 @@ late_line s i t w = remark (system_name s i) (reads_text s t (since_text s i w))
 -- the same, if there is a system that it is late for
 abbrev pub late_remark : Scenario → ℕ → ℕ → Text
 late_remark s i t =
-    if (needs_in s i).reads (OfType t) then option_map_or (late_line s i t) (late_for s i t) []
+    if uses Read s t i then option_map_or (late_line s i t) (late_for s i t) []
     else []
 
 -- what a system that skips a turn may miss
@@ -127,9 +121,16 @@ skipped_remark s x t =
 
 -- ---- all
 
+-- of a type
+abbrev pub type_remark : TypeRemark → Scenario → ℕ → Text
+type_remark (Half how) s t = half_remark how s t
+type_remark (Late i) s t = late_remark s i t
+type_remark (Skipped i) s t =
+    option_map_or (λ x. skipped_remark s x t) (slice_get s.systems i) []
+
 -- of each type
-unfoldable pub types_remarks : (ℕ → Text) → Scenario → Text
-types_remarks of s = flat_map of (range_with_len 0 (length s.types))
+unfoldable pub types_remarks : TypeRemark → Scenario → Text
+types_remarks of s = flat_map (type_remark of s) (range_with_len 0 (length s.types))
 
 -- of each resource
 unfoldable pub resources_remarks : Scenario → Text
@@ -141,14 +142,15 @@ absent_remarks s = flat_map (absent_remark s) s.systems
 
 -- of the systems that read late, in the order of turns
 unfoldable pub late_remarks : Scenario → Text
-late_remarks s = flat_map (λ i. types_remarks (late_remark s i) s) (all_turns s)
+late_remarks s = flat_map (λ i. types_remarks (Late i) s) (all_turns s)
 
 -- of the systems that may skip a turn
 unfoldable pub skipped_remarks : Scenario → Text
-skipped_remarks s = flat_map (λ x. types_remarks (skipped_remark s x) s) s.systems
+skipped_remarks s =
+    flat_map (λ i. types_remarks (Skipped i) s) (range_with_len 0 (length s.systems))
 
 -- all remarks, a line each
 abbrev pub remarks_text : Scenario → Text
 remarks_text s =
-    types_remarks (unwritten_remark s) s ++ types_remarks (unread_remark s) s
+    types_remarks (Half Read) s ++ types_remarks (Half Write) s
     ++ resources_remarks s ++ absent_remarks s ++ late_remarks s ++ skipped_remarks s

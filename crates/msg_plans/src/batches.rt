@@ -1,62 +1,14 @@
 // Batches, and the longest chain through them.
-ghost use Rattle.std.specs.Prelude.{◌≡◌, ◌<◌, ◌++◌, IfOk, OnOk, codes, decimal, find, length};
-ghost use Rattle.msg_plans.specs.Prelude.{batch_line, batches_in, batches_text, chain, chain_text, link, members_text, names_text, precedes, quoted, rank_line, ranks_text};
+ghost use Rattle.std.specs.Prelude.{◌≡◌, ◌+◌, ◌<◌, ◌^◌, ◌++◌, IfOk, OnOk, codes, decimal, find, length};
+ghost use Rattle.msg_plans.specs.Prelude.{batch_end, batch_head, batch_text, batches_in, batches_text, chain, chain_text, link, member_text, members_text, precedes, quoted};
 ghost use Rattle.msg_plans.specs.inner.Tables.{IsTableOf};
 
-use crate::planned::Planned;
+use crate::planned::{Form, Planned};
 use msg_files::NoMemory;
 use msg_files::numerals::add_count;
 use msg_scenario_data::Scenario;
 use msg_scenario_data::names::add_system;
 use std::alloc::Global;
-
-/// The names of systems, each with a space in front.
-#[tactic(auto, unfolding(crate::specs::PlanText::names_text))]
-fn add_names(text: &mut Vec<u8>, scenario: &Scenario, systems: &[u32]) -> Result<(), NoMemory>
-    ensures appends { OnOk result
-        (text.new.items ≡ text.old.items ++ names_text scenario.now systems.now) }
-{
-    for system in systems {
-        text.extend_from_slice(b" ")?;
-        add_system(text, scenario, *system)?;
-    }
-    Ok(())
-}
-
-fn add_batch(
-    text: &mut Vec<u8>,
-    scenario: &Scenario,
-    planned: &Planned,
-    b: usize,
-) -> Result<(), NoMemory>
-    requires table { IsTableOf scenario.now planned.now }
-    requires batch { b < length planned.now.plan.batches }
-    ensures appends { OnOk result
-        (text.new.items ≡ text.old.items ++ batch_line scenario.now planned.now.frame b) }
-{
-    let batch = planned.batch(b);
-    add_count(text, b"batch ", b as u64 + 1)?;
-    text.extend_from_slice(b":")?;
-    add_names(text, scenario, batch)?;
-    text.extend_from_slice(b"\n")
-}
-
-/// A line for each batch.
-#[tactic(auto, using(crate::proofs::Steps::text_more), unfolding(crate::specs::PlanText::batches_text))]
-pub(crate) fn add_batches(
-    text: &mut Vec<u8>,
-    scenario: &Scenario,
-    planned: &Planned,
-) -> Result<(), NoMemory>
-    requires table { IsTableOf scenario.now planned.now }
-    ensures appends { OnOk result
-        (text.new.items ≡ text.old.items ++ batches_text scenario.now planned.now.frame) }
-{
-    for b in 0..planned.plan.batches().len() {
-        add_batch(text, scenario, planned, b)?;
-    }
-    Ok(())
-}
 
 /// The name of a system as Graphviz reads it.
 pub(crate) fn add_quoted(
@@ -71,48 +23,98 @@ pub(crate) fn add_quoted(
     text.extend_from_slice(b"\"")
 }
 
-/// Systems by their quoted names.
-fn add_members(text: &mut Vec<u8>, scenario: &Scenario, systems: &[u32]) -> Result<(), NoMemory>
+/// A system of a batch, with a space in front.
+fn add_member(
+    text: &mut Vec<u8>,
+    scenario: &Scenario,
+    form: Form,
+    system: u32,
+) -> Result<(), NoMemory>
     ensures appends { OnOk result
-        (text.new.items ≡ text.old.items ++ members_text scenario.now systems.now) }
+        (text.new.items ≡ text.old.items ++ member_text form scenario.now system) }
+{
+    text.extend_from_slice(b" ")?;
+    match form {
+        Form::Lines => add_system(text, scenario, system),
+        Form::Dot => {
+            add_quoted(text, scenario, system)?;
+            text.extend_from_slice(b";")
+        }
+    }
+}
+
+/// Systems of a batch.
+#[tactic(auto, unfolding(crate::specs::PlanText::members_text))]
+fn add_members(
+    text: &mut Vec<u8>,
+    scenario: &Scenario,
+    form: Form,
+    systems: &[u32],
+) -> Result<(), NoMemory>
+    ensures appends { OnOk result
+        (text.new.items ≡ text.old.items ++ members_text form scenario.now systems.now) }
 {
     for system in systems {
-        text.extend_from_slice(b" ")?;
-        add_quoted(text, scenario, *system)?;
-        text.extend_from_slice(b";")?;
+        add_member(text, scenario, form, *system)?;
     }
     Ok(())
 }
 
-fn add_rank(
+/// How a batch begins.
+fn add_batch_head(text: &mut Vec<u8>, form: Form, b: usize) -> Result<(), NoMemory>
+    requires small { b + 1 < 2 ^ 64 }
+    ensures appends { OnOk result (text.new.items ≡ text.old.items ++ batch_head form b) }
+{
+    match form {
+        Form::Lines => {
+            add_count(text, b"batch ", b as u64 + 1)?;
+            text.extend_from_slice(b":")
+        }
+        Form::Dot => text.extend_from_slice(b"  { rank=same;"),
+    }
+}
+
+fn batch_end(form: Form) -> &'static [u8]
+    ensures end { result.now ≡ batch_end form }
+{
+    match form {
+        Form::Lines => b"\n",
+        Form::Dot => b" }\n",
+    }
+}
+
+fn add_batch(
     text: &mut Vec<u8>,
     scenario: &Scenario,
     planned: &Planned,
+    form: Form,
     b: usize,
 ) -> Result<(), NoMemory>
     requires table { IsTableOf scenario.now planned.now }
     requires batch { b < length planned.now.plan.batches }
     ensures appends { OnOk result
-        (text.new.items ≡ text.old.items ++ rank_line scenario.now planned.now.frame b) }
+        (text.new.items ≡ text.old.items ++ batch_text form scenario.now planned.now.frame b) }
 {
-    text.extend_from_slice(b"  { rank=same;")?;
-    add_members(text, scenario, planned.batch(b))?;
-    text.extend_from_slice(b" }\n")
+    let batch = planned.batch(b);
+    add_batch_head(text, form, b)?;
+    add_members(text, scenario, form, batch)?;
+    text.extend_from_slice(batch_end(form))
 }
 
-/// A rank for each batch.
-#[tactic(auto, using(crate::proofs::Steps::text_more), unfolding(crate::specs::PlanText::ranks_text))]
-pub(crate) fn add_ranks(
+/// Each batch.
+#[tactic(auto, using(crate::proofs::Steps::text_more), unfolding(crate::specs::PlanText::batches_text))]
+pub(crate) fn add_batches(
     text: &mut Vec<u8>,
     scenario: &Scenario,
     planned: &Planned,
+    form: Form,
 ) -> Result<(), NoMemory>
     requires table { IsTableOf scenario.now planned.now }
     ensures appends { OnOk result
-        (text.new.items ≡ text.old.items ++ ranks_text scenario.now planned.now.frame) }
+        (text.new.items ≡ text.old.items ++ batches_text form scenario.now planned.now.frame) }
 {
     for b in 0..planned.plan.batches().len() {
-        add_rank(text, scenario, planned, b)?;
+        add_batch(text, scenario, planned, form, b)?;
     }
     Ok(())
 }
@@ -168,11 +170,11 @@ fn add_counted(
     systems: &[u32],
 ) -> Result<(), NoMemory>
     ensures appends { OnOk result (text.new.items ≡ text.old.items
-        ++ (head.now ++ names_text scenario.now systems.now
+        ++ (head.now ++ members_text Form.Lines scenario.now systems.now
         ++ codes " (" ++ decimal (length systems.now) ++ codes ")\n")) }
 {
     text.extend_from_slice(head)?;
-    add_names(text, scenario, systems)?;
+    add_members(text, scenario, Form::Lines, systems)?;
     add_count(text, b" (", systems.len() as u64)?;
     text.extend_from_slice(b")\n")
 }

@@ -5,14 +5,20 @@
 
 mod batches;
 mod cause;
+mod clash;
+mod cycle;
 mod edges;
 pub mod laws;
 mod planned;
 mod put;
 mod remarks;
+mod unfit;
 mod users;
 
 pub use cause::Cause;
-pub use planned::{Form, User};
+pub use clash::{Clash, clash_of};
+pub use cycle::round;
+pub use planned::{Form, Use, User};
 pub use put::put_plan;
 pub use remarks::add_remarks;
+pub use unfit::add_unfit;

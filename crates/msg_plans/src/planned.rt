@@ -4,7 +4,7 @@ ghost use Rattle.std.specs.List.{concat, list_any};
 ghost use Rattle.msg_system.specs.Prelude.{IsAccessOf};
 ghost use Rattle.msg_order.specs.Prelude.{IsPlanOf, batch_at};
 ghost use Rattle.msg_scenario_data.specs.Prelude.{IsRunnable};
-ghost use Rattle.msg_plans.specs.Prelude.{is_next, needs_in, precedes, turns_in};
+ghost use Rattle.msg_plans.specs.Prelude.{is_next, needs_in, precedes, turns_in, uses};
 ghost use Rattle.msg_plans.specs.inner.Tables.{AreAccesses, IsTableOf, joined_by, spec_needs};
 
 use msg_files::NoMemory;
@@ -12,7 +12,7 @@ use msg_order::laws::fewer_systems_make_no_cycle;
 use msg_order::{Plan, PlanRefusal};
 use msg_scenario_data::{Scenario, SystemSpec};
 use msg_system::job_access;
-use msg_world::Access;
+use msg_world::{Access, TypeNo};
 use std::alloc::Global;
 
 /// How a plan is told.
@@ -22,6 +22,13 @@ pub enum Form {
     Lines,
     /// As a graph that Graphviz draws.
     Dot,
+}
+
+/// How a system uses a type.
+#[derive(Clone, Copy, Debug, PartialEq, Eq)]
+pub enum Use {
+    Write,
+    Read,
 }
 
 /// A system that writes or reads a type; whether it reads the messages of a frame in the next one.
@@ -130,6 +137,18 @@ impl Planned {
         match self.accesses.get(system as usize) {
             Some(access) => *access,
             None => Access::default(),
+        }
+    }
+
+    /// Whether a system writes, or reads, a type.
+    pub(crate) fn uses(&self, scenario: &Scenario, how: Use, t: TypeNo, system: u32) -> bool
+        requires table { IsTableOf scenario.now self.now }
+        ensures uses { result ≡ uses how scenario.now t system }
+    {
+        let access = self.access(scenario, system);
+        match how {
+            Use::Write => access.writes_type(t),
+            Use::Read => access.reads_type(t),
         }
     }
 

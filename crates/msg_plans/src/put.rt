@@ -6,7 +6,7 @@ ghost use Rattle.msg_scenario_data.specs.Prelude.{IsRunnable};
 ghost use Rattle.msg_plans.specs.Prelude.{dot_head, dot_text, lines_text, plan_text};
 ghost use Rattle.msg_plans.specs.inner.Tables.{IsTableOf};
 
-use crate::batches::{add_batches, add_chain, add_ranks};
+use crate::batches::{add_batches, add_chain};
 use crate::edges::add_edges;
 use crate::planned::{Form, Planned, plan_frame};
 use crate::users::add_types;
@@ -24,7 +24,7 @@ fn add_lines(text: &mut Vec<u8>, scenario: &Scenario, planned: &Planned) -> Resu
 {
     add_count(text, b"frame ", u64::from(planned.frame))?;
     text.extend_from_slice(b"\n")?;
-    add_batches(text, scenario, planned)?;
+    add_batches(text, scenario, planned, Form::Lines)?;
     add_edges(text, scenario, planned, Form::Lines)?;
     add_types(text, scenario, planned)?;
     add_chain(text, scenario, planned)
@@ -47,7 +47,7 @@ fn add_dot(text: &mut Vec<u8>, scenario: &Scenario, planned: &Planned) -> Result
         (text.new.items ≡ text.old.items ++ dot_text scenario.now planned.now.frame) }
 {
     add_dot_head(text, planned.frame)?;
-    add_ranks(text, scenario, planned)?;
+    add_batches(text, scenario, planned, Form::Dot)?;
     add_edges(text, scenario, planned, Form::Dot)?;
     text.extend_from_slice(b"}\n")
 }

@@ -1,10 +1,10 @@
 // What is remarked of a scenario that can be run.
 ghost use Rattle.std.specs.Prelude.{◌≡◌, ◌≤◌, ◌++◌, OnOk, codes, decimal, length};
 ghost use Rattle.msg_scenario_data.specs.Prelude.{IsRunnable, resource_name, system_name, type_name};
-ghost use Rattle.msg_plans.specs.Remarks.{absent_remark, absent_remarks, everybody, has_post, has_writer, is_posted, is_read, is_used, is_written, joins_text, late_for, late_line, late_remark, late_remarks, misses_text, remark, remarks_text, resources_remarks, rule_before, rule_text, since_text, skipped_remark, skipped_remarks, types_remarks, unread_remark, unused_remark, unwritten_remark};
+ghost use Rattle.msg_plans.specs.Remarks.{absent_remark, absent_remarks, everybody, half_remark, has_post, has_user, is_posted, is_used, is_written, joins_text, late_for, late_line, late_remark, late_remarks, misses_text, remark, remarks_text, resources_remarks, rule_before, rule_text, since_text, skipped_remark, skipped_remarks, type_remark, types_remarks, unused_remark};
 ghost use Rattle.msg_plans.specs.inner.Tables.{IsTableOf};
 
-use crate::planned::{Planned, plan_frame};
+use crate::planned::{Planned, Use, plan_frame};
 use msg_files::NoMemory;
 use msg_files::numerals::add_count;
 use msg_frames::Frame;
@@ -12,13 +12,24 @@ use msg_scenario_data::names::{add_name, add_resource, add_system, add_type};
 use msg_scenario_data::{LAST_JOIN, Scenario, SystemSpec};
 use msg_world::{ResNo, TypeNo};
 
-fn is_read(scenario: &Scenario, planned: &Planned, t: TypeNo) -> bool
+/// What there is to remark of a type.
+#[derive(Clone, Copy)]
+enum TypeRemark {
+    /// That it is used in one way alone.
+    Half(Use),
+    /// That this system reads it a frame late.
+    Late(u32),
+    /// That this system may miss messages of it.
+    Skipped(u32),
+}
+
+fn has_user(scenario: &Scenario, planned: &Planned, how: Use, t: TypeNo) -> bool
     requires table { IsTableOf scenario.now planned.now }
     requires all { planned.now.frame ≡ everybody }
-    ensures read { result ≡ is_read scenario.now t }
+    ensures user { result ≡ has_user how scenario.now t }
 {
     let mut turns = planned.turns.as_slice().iter();
-    turns.any(|system| planned.access(scenario, *system).reads_type(t))
+    turns.any(|system| planned.uses(scenario, how, t, *system))
 }
 
 fn has_post(frame: &Frame, t: TypeNo) -> bool
@@ -34,21 +45,12 @@ fn is_posted(scenario: &Scenario, t: TypeNo) -> bool
     frames.any(|frame| has_post(frame, t))
 }
 
-fn has_writer(scenario: &Scenario, planned: &Planned, t: TypeNo) -> bool
-    requires table { IsTableOf scenario.now planned.now }
-    requires all { planned.now.frame ≡ everybody }
-    ensures writer { result ≡ has_writer scenario.now t }
-{
-    let mut turns = planned.turns.as_slice().iter();
-    turns.any(|system| planned.access(scenario, *system).writes_type(t))
-}
-
 fn is_written(scenario: &Scenario, planned: &Planned, t: TypeNo) -> bool
     requires table { IsTableOf scenario.now planned.now }
     requires all { planned.now.frame ≡ everybody }
     ensures written { result ≡ is_written scenario.now t }
 {
-    has_writer(scenario, planned, t) || is_posted(scenario, t)
+    has_user(scenario, planned, Use::Write, t) || is_posted(scenario, t)
 }
 
 fn is_used(scenario: &Scenario, planned: &Planned, r: ResNo) -> bool
@@ -92,76 +94,30 @@ fn add_resource_remark(
     text.extend_from_slice(is)
 }
 
-fn add_unwritten_one(
+/// Remarks that a type is written and never read, or read and never written.
+fn add_half(
     text: &mut Vec<u8>,
     scenario: &Scenario,
     planned: &Planned,
+    how: Use,
     t: TypeNo,
 ) -> Result<(), NoMemory>
     requires table { IsTableOf scenario.now planned.now }
     requires all { planned.now.frame ≡ everybody }
     ensures appends { OnOk result
-        (text.new.items ≡ text.old.items ++ unwritten_remark scenario.now t) }
+        (text.new.items ≡ text.old.items ++ half_remark how scenario.now t) }
 {
-    if is_read(scenario, planned, t) && !is_written(scenario, planned, t) {
-        add_type_remark(text, scenario, t, b" is read and never written\n")
-    } else {
-        Ok(())
+    let written = is_written(scenario, planned, t);
+    let read = has_user(scenario, planned, Use::Read, t);
+    match how {
+        Use::Write if written && !read => {
+            add_type_remark(text, scenario, t, b" is written and never read\n")
+        }
+        Use::Read if read && !written => {
+            add_type_remark(text, scenario, t, b" is read and never written\n")
+        }
+        _ => Ok(()),
     }
-}
-
-/// Remarks on the types that are read and never written.
-#[tactic(auto, using(crate::proofs::Steps::text_more), unfolding(crate::specs::Remarks::types_remarks))]
-fn add_unwritten(text: &mut Vec<u8>, scenario: &Scenario, planned: &Planned) -> Result<(), NoMemory>
-    requires table { IsTableOf scenario.now planned.now }
-    requires all { planned.now.frame ≡ everybody }
-    requires few { length scenario.now.types ≤ 64 }
-    ensures appends { OnOk result (text.new.items
-        ≡ text.old.items ++ types_remarks (unwritten_remark scenario.now) scenario.now) }
-{
-    for t in 0..scenario.types.as_slice().len() {
-        let Some(t) = TypeNo::new(t as u32) else {
-            unreachable!()
-        };
-        add_unwritten_one(text, scenario, planned, t)?;
-    }
-    Ok(())
-}
-
-fn add_unread_one(
-    text: &mut Vec<u8>,
-    scenario: &Scenario,
-    planned: &Planned,
-    t: TypeNo,
-) -> Result<(), NoMemory>
-    requires table { IsTableOf scenario.now planned.now }
-    requires all { planned.now.frame ≡ everybody }
-    ensures appends { OnOk result
-        (text.new.items ≡ text.old.items ++ unread_remark scenario.now t) }
-{
-    if is_written(scenario, planned, t) && !is_read(scenario, planned, t) {
-        add_type_remark(text, scenario, t, b" is written and never read\n")
-    } else {
-        Ok(())
-    }
-}
-
-/// Remarks on the types that are written and never read.
-#[tactic(auto, using(crate::proofs::Steps::text_more), unfolding(crate::specs::Remarks::types_remarks))]
-fn add_unread(text: &mut Vec<u8>, scenario: &Scenario, planned: &Planned) -> Result<(), NoMemory>
-    requires table { IsTableOf scenario.now planned.now }
-    requires all { planned.now.frame ≡ everybody }
-    requires few { length scenario.now.types ≤ 64 }
-    ensures appends { OnOk result (text.new.items
-        ≡ text.old.items ++ types_remarks (unread_remark scenario.now) scenario.now) }
-{
-    for t in 0..scenario.types.as_slice().len() {
-        let Some(t) = TypeNo::new(t as u32) else {
-            unreachable!()
-        };
-        add_unread_one(text, scenario, planned, t)?;
-    }
-    Ok(())
 }
 
 fn add_unused_one(
@@ -269,7 +225,7 @@ fn late_for(scenario: &Scenario, planned: &Planned, system: u32, t: TypeNo) -> O
     ensures first { result ≡ late_for scenario.now system t }
 {
     for writer in planned.turns.as_slice() {
-        if planned.access(scenario, *writer).writes_type(t)
+        if planned.uses(scenario, Use::Write, t, *writer)
             && planned.precedes(scenario, system, *writer)
         {
             return Some(*writer);
@@ -368,50 +324,13 @@ fn add_late_one(
     ensures appends { OnOk result
         (text.new.items ≡ text.old.items ++ late_remark scenario.now system t) }
 {
-    if !planned.access(scenario, system).reads_type(t) {
+    if !planned.uses(scenario, Use::Read, t, system) {
         return Ok(());
     }
     match late_for(scenario, planned, system, t) {
         Some(writer) => add_late_line(text, scenario, system, t, writer),
         None => Ok(()),
     }
-}
-
-/// Remarks on the types that a system reads late.
-#[tactic(auto, using(crate::proofs::Steps::text_more), unfolding(crate::specs::Remarks::types_remarks))]
-fn add_late_of(
-    text: &mut Vec<u8>,
-    scenario: &Scenario,
-    planned: &Planned,
-    system: u32,
-) -> Result<(), NoMemory>
-    requires table { IsTableOf scenario.now planned.now }
-    requires all { planned.now.frame ≡ everybody }
-    requires few { length scenario.now.types ≤ 64 }
-    ensures appends { OnOk result (text.new.items
-        ≡ text.old.items ++ types_remarks (late_remark scenario.now system) scenario.now) }
-{
-    for t in 0..scenario.types.as_slice().len() {
-        let Some(t) = TypeNo::new(t as u32) else {
-            unreachable!()
-        };
-        add_late_one(text, scenario, planned, system, t)?;
-    }
-    Ok(())
-}
-
-/// Remarks on the systems that read late.
-#[tactic(auto, unfolding(crate::specs::Remarks::late_remarks))]
-fn add_late(text: &mut Vec<u8>, scenario: &Scenario, planned: &Planned) -> Result<(), NoMemory>
-    requires table { IsTableOf scenario.now planned.now }
-    requires all { planned.now.frame ≡ everybody }
-    requires few { length scenario.now.types ≤ 64 }
-    ensures appends { OnOk result (text.new.items ≡ text.old.items ++ late_remarks scenario.now) }
-{
-    for system in planned.turns.as_slice() {
-        add_late_of(text, scenario, planned, *system)?;
-    }
-    Ok(())
 }
 
 /// What a system that skips a turn may miss.
@@ -442,35 +361,78 @@ fn add_skipped_one(
     add_misses(text, scenario, t)
 }
 
-/// Remarks on the types of which a system may miss messages.
-#[tactic(auto, using(crate::proofs::Steps::text_more), unfolding(crate::specs::Remarks::types_remarks))]
-fn add_skipped_of(
+/// Adds what there is to remark of a type.
+fn add_of_type(
     text: &mut Vec<u8>,
     scenario: &Scenario,
-    system: &SystemSpec,
+    planned: &Planned,
+    of: TypeRemark,
+    t: TypeNo,
 ) -> Result<(), NoMemory>
+    requires table { IsTableOf scenario.now planned.now }
+    requires all { planned.now.frame ≡ everybody }
+    ensures appends { OnOk result
+        (text.new.items ≡ text.old.items ++ type_remark of scenario.now t) }
+{
+    match of {
+        TypeRemark::Half(how) => add_half(text, scenario, planned, how, t),
+        TypeRemark::Late(system) => add_late_one(text, scenario, planned, system, t),
+        TypeRemark::Skipped(system) => match scenario.systems.as_slice().get(system as usize) {
+            Some(system) => add_skipped_one(text, scenario, system, t),
+            None => Ok(()),
+        },
+    }
+}
+
+/// Adds what there is to remark of each type.
+#[tactic(auto, using(crate::proofs::Steps::text_more), unfolding(crate::specs::Remarks::types_remarks))]
+fn add_of_types(
+    text: &mut Vec<u8>,
+    scenario: &Scenario,
+    planned: &Planned,
+    of: TypeRemark,
+) -> Result<(), NoMemory>
+    requires table { IsTableOf scenario.now planned.now }
+    requires all { planned.now.frame ≡ everybody }
     requires few { length scenario.now.types ≤ 64 }
-    ensures appends { OnOk result (text.new.items
-        ≡ text.old.items ++ types_remarks (skipped_remark scenario.now system.now) scenario.now) }
+    ensures appends { OnOk result
+        (text.new.items ≡ text.old.items ++ types_remarks of scenario.now) }
 {
     for t in 0..scenario.types.as_slice().len() {
         let Some(t) = TypeNo::new(t as u32) else {
             unreachable!()
         };
-        add_skipped_one(text, scenario, system, t)?;
+        add_of_type(text, scenario, planned, of, t)?;
+    }
+    Ok(())
+}
+
+/// Remarks on the systems that read late.
+#[tactic(auto, unfolding(crate::specs::Remarks::late_remarks))]
+fn add_late(text: &mut Vec<u8>, scenario: &Scenario, planned: &Planned) -> Result<(), NoMemory>
+    requires table { IsTableOf scenario.now planned.now }
+    requires all { planned.now.frame ≡ everybody }
+    requires few { length scenario.now.types ≤ 64 }
+    ensures appends { OnOk result (text.new.items ≡ text.old.items ++ late_remarks scenario.now) }
+{
+    for system in planned.turns.as_slice() {
+        add_of_types(text, scenario, planned, TypeRemark::Late(*system))?;
     }
     Ok(())
 }
 
 /// Remarks on the systems that may skip a turn.
-#[tactic(auto, unfolding(crate::specs::Remarks::skipped_remarks))]
-fn add_skipped(text: &mut Vec<u8>, scenario: &Scenario) -> Result<(), NoMemory>
+#[tactic(auto, using(crate::proofs::Steps::text_more), unfolding(crate::specs::Remarks::skipped_remarks))]
+fn add_skipped(text: &mut Vec<u8>, scenario: &Scenario, planned: &Planned) -> Result<(), NoMemory>
+    requires table { IsTableOf scenario.now planned.now }
+    requires all { planned.now.frame ≡ everybody }
     requires few { length scenario.now.types ≤ 64 }
+    requires systems { length scenario.now.systems ≤ 256 }
     ensures appends { OnOk result
         (text.new.items ≡ text.old.items ++ skipped_remarks scenario.now) }
 {
-    for system in scenario.systems.as_slice() {
-        add_skipped_of(text, scenario, system)?;
+    for i in 0..scenario.systems.as_slice().len() {
+        add_of_types(text, scenario, planned, TypeRemark::Skipped(i as u32))?;
     }
     Ok(())
 }
@@ -484,10 +446,10 @@ pub fn add_remarks(text: &mut Vec<u8>, scenario: &Scenario) -> Result<(), NoMemo
     ensures appends { OnOk result (text.new.items ≡ text.old.items ++ remarks_text scenario.now) }
 {
     let planned = plan_frame(*text.allocator(), scenario, LAST_JOIN)?;
-    add_unwritten(text, scenario, &planned)?;
-    add_unread(text, scenario, &planned)?;
+    add_of_types(text, scenario, &planned, TypeRemark::Half(Use::Read))?;
+    add_of_types(text, scenario, &planned, TypeRemark::Half(Use::Write))?;
     add_unused(text, scenario, &planned)?;
     add_absent(text, scenario)?;
     add_late(text, scenario, &planned)?;
-    add_skipped(text, scenario)
+    add_skipped(text, scenario, &planned)
 }

@@ -1,9 +1,9 @@
 // Who writes and who reads a type.
 ghost use Rattle.std.specs.Prelude.{◌≡◌, ◌≤◌, ◌++◌, IfOk, OnOk, codes, flat_map, length};
-ghost use Rattle.msg_plans.specs.Prelude.{is_late, readers, type_line, types_text, user_text, users_text, writers};
+ghost use Rattle.msg_plans.specs.Prelude.{is_late, type_line, types_text, user, user_text, users, users_text};
 ghost use Rattle.msg_plans.specs.inner.Tables.{IsTableOf};
 
-use crate::planned::{Planned, User};
+use crate::planned::{Planned, Use, User};
 use msg_files::NoMemory;
 use msg_scenario_data::Scenario;
 use msg_scenario_data::names::{add_system, add_type};
@@ -16,51 +16,41 @@ fn is_late(scenario: &Scenario, planned: &Planned, t: TypeNo, system: u32) -> bo
     ensures late { result ≡ is_late scenario.now planned.now.frame t system }
 {
     planned.turns.as_slice().iter().any(|writer| {
-        planned.access(scenario, *writer).writes_type(t)
+        planned.uses(scenario, Use::Write, t, *writer)
             && planned.precedes(scenario, system, *writer)
     })
 }
 
-fn writers(
-    alloc: Global,
-    scenario: &Scenario,
-    planned: &Planned,
-    t: TypeNo,
-) -> Result<Vec<User>, NoMemory>
+/// A system that uses a type.
+fn user(scenario: &Scenario, planned: &Planned, how: Use, t: TypeNo, system: u32) -> User
     requires table { IsTableOf scenario.now planned.now }
-    ensures writers { IfOk result (λ v. v.items ≡ writers scenario.now planned.now.frame t) }
+    ensures user { result ≡ user how scenario.now planned.now.frame t system }
 {
-    let mut writers = Vec::new(alloc);
-    for system in planned.turns.as_slice() {
-        if planned.access(scenario, *system).writes_type(t) {
-            writers.push(User {
-                system: *system,
-                is_late: false,
-            })?;
-        }
-    }
-    Ok(writers)
+    let is_late = match how {
+        Use::Write => false,
+        Use::Read => is_late(scenario, planned, t, system),
+    };
+    User { system, is_late }
 }
 
-fn readers(
+/// The systems that write, or read, a type.
+fn users(
     alloc: Global,
     scenario: &Scenario,
     planned: &Planned,
+    how: Use,
     t: TypeNo,
 ) -> Result<Vec<User>, NoMemory>
     requires table { IsTableOf scenario.now planned.now }
-    ensures readers { IfOk result (λ v. v.items ≡ readers scenario.now planned.now.frame t) }
+    ensures users { IfOk result (λ v. v.items ≡ users how scenario.now planned.now.frame t) }
 {
-    let mut readers = Vec::new(alloc);
+    let mut users = Vec::new(alloc);
     for system in planned.turns.as_slice() {
-        if planned.access(scenario, *system).reads_type(t) {
-            readers.push(User {
-                system: *system,
-                is_late: is_late(scenario, planned, t, *system),
-            })?;
+        if planned.uses(scenario, how, t, *system) {
+            users.push(user(scenario, planned, how, t, *system))?;
         }
     }
-    Ok(readers)
+    Ok(users)
 }
 
 fn add_user(text: &mut Vec<u8>, scenario: &Scenario, user: User) -> Result<(), NoMemory>
@@ -109,8 +99,8 @@ fn add_type_line(
         (text.new.items ≡ text.old.items ++ type_line scenario.now planned.now.frame t) }
 {
     let alloc = *text.allocator();
-    let writers = writers(alloc, scenario, planned, t)?;
-    let readers = readers(alloc, scenario, planned, t)?;
+    let writers = users(alloc, scenario, planned, Use::Write, t)?;
+    let readers = users(alloc, scenario, planned, Use::Read, t)?;
     text.extend_from_slice(b"type ")?;
     add_type(text, scenario, t)?;
     text.extend_from_slice(b": written by ")?;

@@ -1,7 +1,7 @@
 // A scenario from the bytes of a JSON text.
-ghost use Rattle.std.specs.Prelude.{◌≡◌, ◌≢◌, ◌⊎◌, None, Err, IfOk, IfErr, IsUtf8};
-ghost use Rattle.serde_json.specs.{Data.Data, Read.read, View.view};
-ghost use Rattle.msg_files.specs.Prelude.{IsFaultOf, IsJsonOf, IsRefusedFor};
+ghost use Rattle.std.specs.Prelude.{◌≡◌, ◌≢◌, ◌⊎◌, Err, IfOk, IfErr};
+ghost use Rattle.serde_json.specs.{Data.Data, View.view};
+ghost use Rattle.msg_files.specs.Prelude.{IsFaultOf, IsJsonOf, IsNotJson, IsRefusedFor};
 ghost use Rattle.msg_files.specs.declared.reason.Reason.TheVariants.{NoMemory as NoRoom};
 ghost use Rattle.msg_reading.specs.Prelude.{HasFault, IsReadAs};
 ghost use Rattle.msg_scenario_data.specs.Prelude.{IsRunnable};
@@ -25,6 +25,8 @@ mod place;
 mod rule;
 mod system;
 
+pub use file::read_sections;
+
 /// The scenario that the bytes are a JSON text of.
 ///
 /// # Errors
@@ -35,7 +37,7 @@ pub fn read_scenario(alloc: Global, bytes: &[u8]) -> Result<Scenario, Refusal>
     ensures ok { IfOk result (λ scenario.
         (d : Data) × IsJsonOf bytes.now d × IsReadAs d scenario) }
     ensures runnable { IfOk result IsRunnable }
-    ensures not_json { result ≡ Err Refusal.NotJson → IsUtf8 bytes.now → read bytes.now ≡ None }
+    ensures not_json { result ≡ Err Refusal.NotJson → IsNotJson bytes.now }
     ensures refused { IfErr result (λ refusal.
         refusal ≢ Refusal.NotJson → refusal ≢ Refusal.NoMemory
         → (d : Data) × IsJsonOf bytes.now d × IsRefusedFor (HasFault d) refusal) }
@@ -67,7 +69,7 @@ fn read_value(alloc: Global, value: &Value) -> Result<Scenario, Fault>
     ensures runnable { IfOk result IsRunnable }
     ensures refused { IfErr result (λ e. (e.reason ≡ NoRoom) ⊎ HasFault (view value.now) e) }
 {
-    let scenario = file::read_sections(alloc, value)?;
+    let scenario = read_sections(alloc, value)?;
     clash::check_clashes(scenario.systems.as_slice())?;
     let systems = scenario.systems.as_slice().len();
     cycle::check_cycles(systems, scenario.rules.as_slice())?;

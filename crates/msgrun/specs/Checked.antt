@@ -1,15 +1,15 @@
 -- What a file is told as that was checked, and not run.
-use Rattle.std.specs.Prelude.{◌≡◌, ◌⊎◌, ℕ, Bool, true, false, List, ◌++◌, length, Ok, Err, codes, decimal, is_some}
+use Rattle.std.specs.Prelude.{◌≡◌, ◌⊎◌, ℕ, Bool, true, false, List, [], ◌++◌, length, Ok, Err, codes, decimal, is_some}
 use Rattle.serde_json.specs.{Data.Data, Find.get}
-use Rattle.msg_files.specs.Prelude.{IsJsonOf, IsUnread, Text, file_of, key_text, reason_refusal, told}
+use Rattle.msg_files.specs.Prelude.{IsJsonOf, IsNotJson, Text, file_of, key_text, reason_refusal, told}
 use Rattle.msg_files.specs.Cursors.{CallsFile}
 use Rattle.msg_files.specs.declared.fault.Fault.{Fault}
-use Rattle.msg_files.specs.declared.file_fault.FileFault.TheVariants as file_fault
 use Rattle.msg_files.specs.declared.location.Key.TheVariants as key
 use Rattle.msg_files.specs.declared.refusal.Refusal.TheVariants as refusal
-use Rattle.msg_reading.specs.Prelude.{HasFault, IsReadAs}
+use Rattle.msg_files.specs.declared.reason.Reason.{Reason}
+use Rattle.msg_reading.specs.Prelude.{HasFault, IsReadAs, scenario_of}
 use Rattle.msg_scenario_data.specs.declared.scenario.Scenario.{Scenario}
-use Rattle.msg_plans.specs.Prelude.{remarks_text}
+use Rattle.msg_plans.specs.Prelude.{remarks_text, unfit_text}
 use Rattle.msg_command.specs.Prelude.{refusal_line}
 use Rattle.msg_command.specs.{declared.fault.MainFault.MainFault, declared.fault.MainFault.TheVariants.Built, declared.fault.MainFault.TheVariants.Told}
 
@@ -58,14 +58,23 @@ abbrev pub not_json_text : ℕ → ℕ → Text
 not_json_text line column =
     codes "at line " ++ decimal line ++ codes ", column " ++ decimal column ++ codes "\n"
 
+-- what there is to tell of the scenario that a value is, if it is refused as a whole
+abbrev pub unfit_told : Reason → Data → Text
+unfit_told why d = elim (scenario_of d) [ Ok s ↦ unfit_text s why | Err e ↦ [] ]
+
+-- the lines of a fault of a value
+abbrev pub fault_told : Fault → Data → Text
+fault_told e d =
+    refusal_line (reason_refusal e.reason) ++ told e d ++ unfit_told e.reason d
+
 -- Lines tell why bytes are refused: they are no JSON text, or they are the text of a value, and
 -- this is its fault.
 abbrev pub TellsFault : List ℕ → Text → Type 0
 TellsFault bytes text =
-    ((line : ℕ) × (column : ℕ) × IsUnread bytes (file_fault.NotJson line column)
+    ((line : ℕ) × (column : ℕ) × IsNotJson bytes
     × (text ≡ refusal_line refusal.NotJson ++ not_json_text line column))
     ⊎ ((d : Data) × (e : Fault) × IsJsonOf bytes d × IsFaultOfEither d e
-    × (text ≡ refusal_line (reason_refusal e.reason) ++ told e d))
+    × (text ≡ fault_told e d))
 
 -- What ends the program where a file was checked and doesn't pass: these lines, or want of memory.
 abbrev pub EndsCheck : List ℕ → MainFault → Type 0

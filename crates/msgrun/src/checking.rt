@@ -15,8 +15,8 @@ use msg_command::{MainFault, refusal_line};
 use msg_files::json::parse;
 use msg_files::numerals::{add_count, add_number};
 use msg_files::{Calls, Fault, FileFault, Key, NoMemory, Reason, Refusal, add_told, check_calls};
-use msg_plans::add_remarks;
-use msg_reading::check_scenario;
+use msg_plans::{add_remarks, add_unfit};
+use msg_reading::{check_scenario, read_sections};
 use msg_scenario_data::Scenario;
 use serde_json::Value;
 use std::alloc::Global;
@@ -65,7 +65,20 @@ fn tell(alloc: Global, fault: &Fault, value: &Value) -> Result<MainFault, NoMemo
     let mut text = Vec::new(alloc);
     text.extend_from_slice(refusal_line(fault.reason.refusal()))?;
     add_told(alloc, &mut text, fault, value)?;
+    add_more(alloc, &mut text, fault.reason, value)?;
     Ok(MainFault::Told(text))
+}
+
+/// Adds what there is to tell of a scenario that is refused as a whole.
+fn add_more(alloc: Global, text: &mut Vec<u8>, why: Reason, value: &Value) -> Result<(), NoMemory>
+    ensures appends { OnOk result
+        (text.new.items ≡ text.old.items ++ Spec.unfit_told why (view value.now)) }
+{
+    match read_sections(alloc, value) {
+        Ok(scenario) => add_unfit(text, &scenario, why),
+        Err(fault) if matches!(fault.reason, Reason::NoMemory) => Err(NoMemory),
+        Err(_) => Ok(()),
+    }
 }
 
 /// The lines that tell where bytes stop to be JSON.

@@ -1,7 +1,7 @@
 // A calls file, read from the bytes of a JSON text.
-ghost use Rattle.std.specs.Prelude.{◌≡◌, ◌≢◌, None, Ok, Err, IfOk, IfErr, IsUtf8};
-ghost use Rattle.serde_json.specs.{Data.Data, Read.read};
-ghost use Rattle.msg_files.specs.Prelude.{IsFaultOf, IsJsonOf, IsRefusedFor, file_of};
+ghost use Rattle.std.specs.Prelude.{◌≡◌, ◌≢◌, Ok, Err, IfOk, IfErr};
+ghost use Rattle.serde_json.specs.Data.{Data};
+ghost use Rattle.msg_files.specs.Prelude.{IsFaultOf, IsJsonOf, IsNotJson, IsRefusedFor, file_of};
 
 use crate::calls::Calls;
 use crate::file_fault::FileFault;
@@ -16,7 +16,7 @@ mod part;
 /// The calls file that the bytes are a JSON text of, or the refusal for the first fault.
 pub fn read_calls(alloc: Global, bytes: &[u8]) -> Result<Calls, Refusal>
     ensures ok { IfOk result (λ file. (d : Data) × IsJsonOf bytes.now d × (file_of d ≡ Ok file)) }
-    ensures not_json { result ≡ Err Refusal.NotJson → IsUtf8 bytes.now → read bytes.now ≡ None }
+    ensures not_json { result ≡ Err Refusal.NotJson → IsNotJson bytes.now }
     ensures refused { IfErr result (λ refusal.
         refusal ≢ Refusal.NotJson → refusal ≢ Refusal.NoMemory
         → (d : Data) × IsJsonOf bytes.now d × IsRefusedFor (λ e. file_of d ≡ Err e) refusal) }

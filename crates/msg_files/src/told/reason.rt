@@ -24,7 +24,6 @@ fn add_detail(text: &mut Vec<u8>, reason: Reason) -> Result<(), NoMemory>
         Reason::AtMost(most) => add_number(text, most as u64),
         Reason::Below(end) => add_number(text, u64::from(end.saturating_sub(1))),
         Reason::StandsAt(n) => add_number(text, n as u64),
-        Reason::Cycle(system) => add_number(text, u64::from(system)),
         _ => Ok(()),
     }
 }
@@ -56,7 +55,7 @@ fn sentence(reason: Reason) -> &'static [u8]
         Reason::NotOfKind => b"a relay has one forward as its ops, and a tally one sum",
         Reason::Start => b"wanted zero or current",
         Reason::Clash(_) => b"the ops of this system read and write one type",
-        Reason::Cycle(_) => b"the rules lead round, from the system of this number: ",
+        Reason::Cycle(_) => b"the rules lead round",
         Reason::NoMemory => b"want of memory",
     }
 }

@@ -26,7 +26,8 @@ struct Sections<'a> {
     frames: &'a Value,
 }
 
-/// Reads the sections of a file one after another: together they are the scenario.
+/// Reads the sections of a file one after another: together they are the scenario. Whether it can
+/// be run isn't asked.
 pub fn read_sections(alloc: Global, file: &Value) -> Result<Scenario, Fault>
     ensures reads { Reads (Spec.scenario_of (view file.now)) result }
 {

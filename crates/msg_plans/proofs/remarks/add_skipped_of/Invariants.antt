@@ -1,8 +1,0 @@
-use Rattle.std.proofs.Common.{◌≡◌, ◌++◌, flat_map}
-use Rattle.std.specs.List.{range_with_len}
-use Rattle.msg_plans.specs.Remarks.{skipped_remark}
-use Rattle.msg_plans.proofs.remarks.add_skipped_of.Given as goal
-
-abbrev pub invariant-loop-t : goal.invariant-loop-t
-invariant-loop-t l =
-    l.text.items ≡ l.initial.text.items ++ flat_map (skipped_remark l.scenario l.system) (range_with_len 0 l.t)
