@@ -1,5 +1,4 @@
-use Rattle.std.proofs.Common.{◌≡◌, [], ◌∷◌}
-use Rattle.msg_frames.specs.Prelude.{log_entries, run}
+use Rattle.std.proofs.Common.{[], ◌∷◌}
 use Rattle.msg_engine_tests.proofs.clients.run_in_time.Goals as goal
 
 pub returns : goal.returns

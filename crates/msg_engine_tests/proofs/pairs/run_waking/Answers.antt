@@ -1,4 +1,4 @@
-use Rattle.std.proofs.Common.{◌≡◌, ℕ, ℤ, [], ◌∷◌, All, List, None, arith, ap, refl, subst, ◌∙◌}
+use Rattle.std.proofs.Common.{◌≡◌, ℤ, [], ◌∷◌, All, List, None, arith, ap, refl, subst, ◌∙◌}
 use Rattle.msg_world.specs.Prelude.{i64_values}
 use Rattle.msg_system.specs.{declared.condition.Probe.TheVariants.OnMessage, declared.op.Op.TheVariants.Read, declared.program.Program.Program, declared.start.Start.TheVariants.Zero}
 use Rattle.msg_frames.specs.declared.frame.Frame.{Frame}
