@@ -42,7 +42,7 @@ impl<W: Work, A: Allocator> Model for Board<W, A> {
 impl<W: Work, A: Allocator + Copy> Board<W, A> {
     ghost use Rattle.msg_board.specs.Board.{jobs_of, passes_of, IsNewPass};
 
-    /// A board with these jobs, and its passes. Where there is no memory, the jobs are dropped.
+    /// A board with these jobs, and its passes. If there is no memory, the jobs are dropped.
     pub fn new(
         alloc: A,
         jobs: Vec<W::Job, A>,
@@ -97,7 +97,7 @@ impl<W: Work, A: Allocator + Copy> Board<W, A> {
 impl<W: Work, A: Allocator> Board<W, A> {
     ghost use Rattle.msg_board.specs.{Board.jobs_of, Board.passes_of, Board.IsOf, Board.IsIdle, Board.HasEnded, Board.IsLawfulOutcome, inner.Closing.IsGathered};
 
-    /// Draws a job that nobody has drawn, with its number; None where there is none left to try.
+    /// Draws a job that nobody has drawn, with its number; None if there is none left to try.
     /// It takes one atomic step for each number that it tries. Nothing in it can wait without a
     /// bound for what another pass does.
     pub fn draw(&self, pass: &mut Pass<W::Job, W::Done>) -> Option<(usize, W::Job)>
@@ -135,7 +135,7 @@ impl<W: Work, A: Allocator> Board<W, A> {
         pass.held = None;
     }
 
-    /// The results, in the order of the jobs. The passes may come in any order. Where there is no
+    /// The results, in the order of the jobs. The passes may come in any order. If there is no
     /// memory, the results are dropped.
     pub fn close(
         self,
@@ -150,7 +150,7 @@ impl<W: Work, A: Allocator> Board<W, A> {
         // To close a board of no jobs takes no memory.
         ensures refused { OnErr result (0 < length (jobs_of self)) }
 
-        // Where there is no memory for the list of results, these hold too.
+        // If there is no memory for the list of results, these hold too.
         ensures drawn_once { HoldsEachOnce (length (jobs_of self)) (drawn_by passes.items) }
         ensures handed_in_once { HoldsEachOnce (length (jobs_of self)) (handed_in_by passes.items) }
     {

@@ -18,7 +18,7 @@ pub enum Slot<J, D> {
 pub struct View<J> {
     /// The jobs of the board.
     pub jobs: LinkedList<J>,
-    /// How many passes the view stands for; 0 where it is spent.
+    /// How many passes the view stands for; 0 if it is spent.
     pub weight: u64,
     /// The first word that it has not tried.
     pub next: u64,

@@ -58,7 +58,7 @@ pub(crate) fn put_in<W: Work, A: Allocator>(
     drop(shared.exchange(seat, k, Slot::Done(done)));
 }
 
-// The results of a closed board. Where there are none it takes no memory.
+// The results of a closed board. If there are none it takes no memory.
 pub(crate) fn results_of<J: Drop, D: Drop, A: Allocator>(
     alloc: A,
     closed: Closed<Slot<J, D>, A>,

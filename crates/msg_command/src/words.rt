@@ -9,7 +9,7 @@ pub use parse::parse_words;
 /// What the words of the command line ask for.
 #[derive(Debug, Drop)]
 pub enum Action {
-    /// Answer the calls file of this name, or where there is none that of standard input.
+    /// Answer the calls file of this name, or if there is none that of standard input.
     Buffer(Option<String>),
     /// Run the scenario file of this name on 1 to 64 workers.
     Run { file: String, workers: u32 },

@@ -117,12 +117,12 @@ impl<V: Value, S: Numbered + SystemOf<Value = V>> EngineBuilder<S, V> {
         }
     }
 
-    /// Adds a system that takes its turns from the frame `join` on, where all its conditions hold,
+    /// Adds a system that takes its turns from the frame `join` on, if all its conditions hold,
     /// and gives its number. With 1 it joins as the engine is made.
     ///
     /// # Errors
     ///
-    /// `Full` where there are 256 systems; else `BadJoin` where `join` isn't from 1 to 10,000; else
+    /// `Full` if there are 256 systems; else `BadJoin` if `join` isn't from 1 to 10,000; else
     /// want of memory. Then nothing is added.
     pub fn add_system(
         &mut self,

@@ -218,7 +218,7 @@ impl<V: Value, S: SystemOf<Value = V>> EngineOf<S, V> {
         Ok(log)
     }
 
-    /// Its world; None where it is spoiled.
+    /// Its world; None if it is spoiled.
     pub fn world(&self) -> Option<&World<V>>
         ensures world { option_copied result ≡ world_of self.now }
         ensures spoiled { IsNone result ↔ IsSpoiled self.now }

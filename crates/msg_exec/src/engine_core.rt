@@ -42,7 +42,7 @@ fn joined_by(alloc: Global, joins: &[u32], frame: u32) -> Result<Vec<bool>, NoMe
     Ok(joined)
 }
 
-/// The plan of the systems that have joined by this frame, where the rules make no cycle.
+/// The plan of the systems that have joined by this frame, if the rules make no cycle.
 pub(crate) fn plan_by(
     alloc: Global,
     accesses: &[Access],
@@ -137,7 +137,7 @@ pub(crate) fn open<V: Value, S: SystemOf<Value = V>>(
     Ok((core, replies))
 }
 
-/// Runs one frame, where so many were run before it.
+/// Runs one frame, if so many were run before it.
 pub(crate) fn run_one<
     R: Threads + Sync,
     V: Value + Send + Sync,

@@ -17,7 +17,7 @@ pub struct GuardedSystem<S, V = i64> {
     pub guards: Vec<Guard<V>>,
 }
 
-/// Takes the turn of a system on parts that were lent to it: asks its conditions, and runs it where
+/// Takes the turn of a system on parts that were lent to it: asks its conditions, and runs it if
 /// they hold. Gives back what was lent, and what came of it; replies go into the empty list.
 pub(crate) fn take_turn<V: Value, S: SystemOf<Value = V>>(
     alloc: Global,

@@ -30,7 +30,7 @@ fn post<V: Value>(world: &mut World<V>, t: TypeNo, value: V) -> Result<Reply<V>,
     }
 }
 
-/// Writes the posts in order, and says what they were answered, where there is room for the
+/// Writes the posts in order, and says what they were answered, if there is room for the
 /// answers.
 pub(crate) fn post_all<V: Value>(
     world: &mut World<V>,

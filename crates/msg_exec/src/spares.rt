@@ -1,4 +1,4 @@
-// What one frame leaves to the next. No reply depends on it.
+// Memory kept from one frame for the next. No reply depends on it.
 ghost use Rattle.std.specs.Prelude.{◌≡◌, [], IfOk};
 
 use crate::job::JobContents;
@@ -11,11 +11,11 @@ use std::marker::Model;
 use std::mem::replace;
 
 /// At most so many of a kind are kept: one for each system that an engine may have.
-const MOST: usize = 256;
+const MAX_SPARES: usize = 256;
 
 /// What serves frames to come: empty lists with their memory, for their logs; boxes of what goes
 /// with systems to their turns; and for each place of a batch in a frame, whether workers pay
-/// there. That stays where the plan changes. Contracts see nothing of it.
+/// there. That stays if the plan changes. Contracts see nothing of it.
 #[derive(Drop)]
 pub(crate) struct Spares<V = i64> {
     turns: Vec<Turn<V>>,
@@ -108,15 +108,15 @@ impl<V: Value> Spares<V> {
         Ok(&mut self.habits[place])
     }
 
-    /// Keeps what went with a system, where there is room for it.
+    /// Keeps what went with a system, if there is room for it.
     pub(crate) fn keep_contents(&mut self, contents: Box<JobContents<V>>) {
-        if self.contents.len() < MOST {
+        if self.contents.len() < MAX_SPARES {
             let _kept = self.contents.push(contents);
         }
     }
 
     /// Keeps a log's list of turns, in place of the one that was kept, and the lists of their
-    /// replies, where there is room for them.
+    /// replies, if there is room for them.
     pub(crate) fn keep(&mut self, log: Log<V>) {
         let mut turns = log.turns.into_vec();
         while let Some(turn) = turns.pop() {
@@ -130,7 +130,7 @@ impl<V: Value> Spares<V> {
     fn keep_replies(&mut self, replies: Vec<Reply<V>>) {
         let mut replies = replies;
         replies.clear();
-        if self.replies.len() < MOST {
+        if self.replies.len() < MAX_SPARES {
             let _kept = self.replies.push(replies);
         }
     }

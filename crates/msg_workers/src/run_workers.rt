@@ -12,9 +12,9 @@ use std::alloc::Global;
 use std::sync::atomic::{AtomicBool, Ordering};
 use std::thread::{Threads, join_mut, yield_now};
 
-/// How often, at most, a worker that was started, and may start another, looks whether the jobs have
-/// run out, before it draws. So many looks take some 50 microseconds, about twice the start of a
-/// thread.
+/// How often, at most, a worker that was started, and may start another, looks whether the jobs
+/// have run out, before it draws. So many looks take some 50 microseconds, about twice the start of
+/// a thread.
 const SPIN_LIMIT: u32 = 80_000;
 
 /// Returns once the jobs have run out, and at the latest after so many looks. After the first look
@@ -86,8 +86,8 @@ fn work_from<R: Threads + Sync, W: Runs + Send, G: Gate>(
     }
 }
 
-/// Starts a thread in which the next worker draws, while this worker runs the job that it drew first
-/// and draws on here. If more than one is to begin at once, the next worker starts no other, and
+/// Starts a thread in which the next worker draws, while this worker runs the job that it drew
+/// first and draws on here. If more than one is to begin at once, the next worker starts no other, and
 /// this worker starts the rest before it runs its job; else the next worker may start the one after
 /// it, and first looks for a while whether the jobs run out: short ones are drawn here by then, and
 /// it starts none. Gives how many jobs it ran.

@@ -16,7 +16,7 @@ pub fn parse_words(alloc: Global, words: &[String]) -> Result<Action, WordFault>
         → (fault ≡ WordFault.NoMemory)
         ⊎ ((fault ≡ WordFault.Bad) × AsksForNone (texts_of words.now))) }
 
-    // Where `clap` refuses the words, the fault is the one that it finds in them.
+    // If `clap` refuses the words, the fault is the one that it finds in them.
     ensures found { IfErr result (IsToldOf (fault_of msgrun_app (texts_of words.now))) }
 {
     let matches = matches(alloc, words)?;
