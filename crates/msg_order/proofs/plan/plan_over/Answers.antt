@@ -1,15 +1,7 @@
-<<<<<<< HEAD
 use Rattle.std.proofs.Common.{ℕ, List, Bool, length, map, refl, ap, ◌∙◌, arith}
 use Rattle.std.specs.List.{concat}
-use Rattle.msg_order.specs.Prelude.{AreBatches, Graph, IsAmong, SystemSet, settled}
-use Rattle.msg_order.proofs.{Functions.batches_are, PathTest.from_Path, PathTest.to_Path, SettledOrders.settled_among, SettledOrders.settled_is, SettledOrders.settled_no_cycle, SettledOrders.some_test, TurnOrders.in_lawful_order, TurnOrders.in_turn_order, TurnOrders.none_conflict, PlanViews.seen_edges, PlanViews.systems-view, PlanViews.sets_kept}
-=======
-use Rattle.std.proofs.Common.{◌≡◌, ℕ, List, Bool, length, map, refl, ap, ◌∙◌, arith}
-use Rattle.std.specs.{List.concat, Vec.with_items}
-use Rattle.std.proofs.lemmas.List.{with_items_is}
 use Rattle.msg_order.specs.Prelude.{AreBatches, Graph, IsAmong, IsSettledOrder, SystemSet, settled}
 use Rattle.msg_order.proofs.{Functions.batches_are, PathTest.from_Path, PathTest.to_Path, SettledOrders.settled_among, SettledOrders.settled_no_cycle, SettledOrders.some_test, TurnOrders.in_lawful_order, TurnOrders.in_turn_order, TurnOrders.none_conflict, PlanViews.seen_edges, PlanViews.systems-view, PlanViews.sets_kept}
->>>>>>> 930bfae03cdd63e8575820796cc90999a4fea8d7
 use Rattle.msg_order.proofs.plan.plan_over.Goals as goal
 
 pub invariant_of-result : goal.invariant_of-result
@@ -31,14 +23,8 @@ returns-clause-plan _g c =
     let test = some_test accesses joined in
     let order : Graph = settled test.0 rules joined in
     let paths = c.in_default.ensures.1 test.0 test.1 in
-<<<<<<< HEAD
-    let is_settled = settled_is accesses rules joined test.0 c.requires.one_each test.1 in
-    let is = c.in_ok-before.ensures.items in
-=======
     let is_settled : IsSettledOrder accesses rules joined order = record { conflict = test.0; tells = test.1; is = refl } in
-    let is : (with_items c.args.before c.settle.new.before).items ≡ c.settle.new.before =
-    with_items_is c.args.before c.settle.new.before (omega arith) in
->>>>>>> 930bfae03cdd63e8575820796cc90999a4fea8d7
+    let is = c.in_ok-before.ensures.items in
     let among : IsAmong joined order = settled_among rules joined test.0 in
     let free = settled_no_cycle rules joined test.0 c.in_default.ensures.0 in
     let made = c.in_ok-batches.ensures.batches order joined (rw (c.deref.ensures.value ∙ is) paths) c.set_of-joined.ensures
