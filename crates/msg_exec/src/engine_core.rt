@@ -137,7 +137,7 @@ pub(crate) fn open<V: Value, S: SystemOf<Value = V>>(
     Ok((core, replies))
 }
 
-/// Runs one frame, if so many were run before it.
+/// Runs one frame after so many others.
 pub(crate) fn run_one<
     R: Threads + Sync,
     V: Value + Send + Sync,
