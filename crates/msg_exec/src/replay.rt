@@ -36,7 +36,7 @@ pub(crate) fn accepts_next<V: Value, S: SystemOf<Value = V>>(
     }
 }
 
-/// Runs one frame in an order that is lawful for it, if so many were run before it.
+/// Runs one frame after so many others, in an order that is lawful for it.
 pub(crate) fn replay_one<V: Value, S: SystemOf<Value = V>>(
     alloc: Global,
     core: Core<S, V>,
