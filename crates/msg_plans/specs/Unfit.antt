@@ -1,8 +1,7 @@
 -- What is told of a scenario that can't be run: the ops that clash, and the rules round a cycle.
 use Rattle.std.specs.Prelude.{ℕ, zero, suc, ℤ, ◌==◌, ◌&&◌, ◌++◌, Bool, false, List, [], ◌∷◌, Option, Some, None, filter, flat_map, length, map, option_and_then, option_map, position, slice_get, codes, decimal, if◌then◌else◌}
 use Rattle.std.specs.{List.list_any, Option.option_map_or}
-use Rattle.msg_world.specs.Prelude.{OfType}
-use Rattle.msg_system.specs.Prelude.{op_needs, type_read, type_read_by}
+use Rattle.msg_system.specs.Prelude.{type_read, type_read_by, type_written}
 use Rattle.msg_system.specs.declared.op.Op.{Op}
 use Rattle.msg_order.specs.declared.rule.Rule.{Rule}
 use Rattle.msg_files.specs.Prelude.{Text}
@@ -14,9 +13,13 @@ use Rattle.msg_plans.specs.declared.clash.Clash.{Clash}
 
 -- ---- a clash
 
+-- the op writes type t
+abbrev pub is_writer : Op ℤ → ℕ → Bool
+is_writer op t = option_map_or (λ u. u == t) (type_written op) false
+
 -- an op of the list writes type t
 abbrev pub has_writer : List (Op ℤ) → ℕ → Bool
-has_writer ops t = list_any (λ op. (op_needs op).writes (OfType t)) ops
+has_writer ops t = list_any (λ op. is_writer op t) ops
 
 -- an op of the list writes the type that this one reads
 abbrev pub reads_written : List (Op ℤ) → Op ℤ → Bool
@@ -28,7 +31,7 @@ first_reader ops = position (reads_written ops) ops
 
 -- the first op that writes type t
 abbrev pub first_writer : List (Op ℤ) → ℕ → Option ℕ
-first_writer ops t = position (λ op. (op_needs op).writes (OfType t)) ops
+first_writer ops t = position (λ op. is_writer op t) ops
 
 -- these two, and the type
 abbrev pub clash_at : List (Op ℤ) → ℕ → ℕ → Option Clash

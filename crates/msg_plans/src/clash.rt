@@ -1,7 +1,5 @@
 // Which ops of a system clash.
 ghost use Rattle.std.specs.Prelude.{◌≡◌, ◌++◌, OnOk};
-ghost use Rattle.msg_world.specs.Prelude.{OfType};
-ghost use Rattle.msg_system.specs.Prelude.{op_needs};
 ghost use Rattle.msg_plans.specs.Unfit as Spec;
 
 use msg_files::NoMemory;
@@ -44,7 +42,7 @@ fn first_reader(ops: &[Op]) -> Option<usize>
 fn first_writer(ops: &[Op], t: TypeNo) -> Option<usize>
     ensures first { result ≡ Spec.first_writer ops.now t }
 {
-    ops.iter().position(|op| writes(op, t))
+    ops.iter().position(|op| is_writer(op, t))
 }
 
 /// Whether one of these ops writes the type that `op` reads.
@@ -60,15 +58,15 @@ fn reads_written(ops: &[Op], op: &Op) -> bool
 fn has_writer(ops: &[Op], t: TypeNo) -> bool
     ensures writer { result ≡ Spec.has_writer ops.now t }
 {
-    ops.iter().any(|op| writes(op, t))
+    ops.iter().any(|op| is_writer(op, t))
 }
 
-fn writes(op: &Op, t: TypeNo) -> bool
-    ensures writes { result ≡ (op_needs op.now).writes (OfType t) }
+fn is_writer(op: &Op, t: TypeNo) -> bool
+    ensures writer { result ≡ Spec.is_writer op.now t }
 {
-    match op {
-        Op::Write(u, _) | Op::Batch(u, _) | Op::Forward(_, u) | Op::Drain(u) => t == *u,
-        _ => false,
+    match op.write_type() {
+        Some(u) => u == t,
+        None => false,
     }
 }
 

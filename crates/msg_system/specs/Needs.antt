@@ -40,6 +40,10 @@ module _ {V : Type 0} where
   abbrev pub type_read : Op V → Option ℕ
   type_read op = option_and_then type_in_part (op_parts op).read
 
+  -- the type that an op writes
+  abbrev pub type_written : Op V → Option ℕ
+  type_written op = option_and_then type_in_part (op_parts op).written
+
   -- the type that op k of a program reads; none where there is no such op
   abbrev pub type_read_by : List (Op V) → ℕ → Option ℕ
   type_read_by ops k = option_and_then type_read (slice_get ops k)

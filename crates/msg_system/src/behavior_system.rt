@@ -1,12 +1,13 @@
 // Systems that decide by a behavior.
 ghost use Rattle.std.specs.Prelude.{◌≡◌, ◌≤◌, IfOk, OnOk, drop, length};
 ghost use Rattle.msg_world.specs.Prelude.{SameLoan};
-ghost use Rattle.msg_system.specs.{Behaviors.behaves, Needs.needs_of, OpRuns.cursor_places, inner.TurnRuns.AreAnswered, inner.TurnRuns.TurnRan, inner.TurnRuns.next_kept, Promises.Covers};
+ghost use Rattle.msg_system.specs.{Behaviors.behaves, Needs.needs_of, OpRuns.cursor_places, inner.TurnRuns.AreAnswered, inner.TurnRuns.IsAsItWas, inner.TurnRuns.TurnRan, inner.TurnRuns.next_kept, Promises.Covers};
 
 use crate::behavior::Behavior;
 use crate::{Access, Cursors, Items, NoMemory, Numbered, Op, Reply, Start, SystemOf};
 use msg_world::{Counts, Lent, Taken, TypeNo};
 use std::alloc::Global;
+use std::mem::replace;
 
 /// The replies from number `from` on.
 fn since<V>(replies: &[Reply<V>], from: usize) -> &[Reply<V>]
@@ -30,41 +31,6 @@ fn next_within<B: Behavior>(
         Some(op) if op.keeps_to(access) => Ok(Some(op)),
         _ => Ok(None),
     }
-}
-
-/// Takes one turn: does the ops that the behavior gives, one after the other. It returns those that
-/// it did.
-fn run_turn<B: Behavior>(
-    alloc: Global,
-    behavior: &B,
-    access: &Access,
-    writer: u32,
-    cursors: &mut Cursors,
-    lent: &mut Lent<B::Value>,
-    out: &mut Vec<Reply<B::Value>>,
-) -> Result<Vec<Op<B::Value>>, NoMemory>
-    requires covers { Covers (needs_of access.now) lent.old }
-    ensures ran { OnOk result (TurnRan B.Value.values
-        (next_kept (needs_of access.now) B.next_op (B.memory behavior.now)) writer
-        (cursor_places cursors.old) (cursor_places cursors.new) lent.old lent.new
-        out.old.items out.new.items) }
-    ensures answered { IfOk result (λ v. AreAnswered
-        (next_kept (needs_of access.now) B.next_op (B.memory behavior.now)) v.items
-        out.old.items out.new.items) }
-    ensures same { OnOk result (SameLoan lent.old lent.new) }
-{
-    let before = out.len();
-    let mut ops = Vec::new(alloc);
-    for _done in 0..64u32 {
-        match next_within(alloc, behavior, access, since(out.as_slice(), before))? {
-            None => return Ok(ops),
-            Some(op) => {
-                out.push(op.run(alloc, writer, cursors, lent)?)?;
-                ops.push(op)?;
-            }
-        }
-    }
-    Ok(ops)
 }
 
 /// A system that does what its behavior decides.
@@ -100,6 +66,44 @@ impl<B: Behavior + Send> BehaviorSystem<B> {
             cursors: Cursors::new(),
             last: Items::from_vec(Vec::new(alloc)),
         }
+    }
+}
+
+impl<B: Behavior> BehaviorSystem<B> {
+    /// Does the ops that the behavior gives, one after the other. It returns those that it did, in
+    /// the memory of those of its last turn.
+    fn run_ops(
+        &mut self,
+        alloc: Global,
+        lent: &mut Lent<B::Value>,
+        out: &mut Vec<Reply<B::Value>>,
+    ) -> Result<Vec<Op<B::Value>>, NoMemory>
+        requires covers { Covers (needs_of self.old.access) lent.old }
+        ensures ran { OnOk result (TurnRan B.Value.values
+            (next_kept (needs_of self.old.access) B.next_op (B.memory self.old.behavior))
+            self.old.writer (cursor_places self.old.cursors) (cursor_places self.new.cursors)
+            lent.old lent.new out.old.items out.new.items) }
+        ensures answered { IfOk result (λ ops. AreAnswered
+            (next_kept (needs_of self.old.access) B.next_op (B.memory self.old.behavior))
+            ops.items out.old.items out.new.items) }
+        ensures same { OnOk result (SameLoan lent.old lent.new) }
+        ensures stays { OnOk result (IsAsItWas self.old self.new) }
+    {
+        let before = out.len();
+        let mut ops = replace(&mut self.last, Items::from_vec(Vec::new(alloc))).into_vec();
+        ops.clear();
+        let (behavior, access, writer) = (&self.behavior, &self.access, self.writer);
+        let cursors = &mut self.cursors;
+        for _done in 0..64u32 {
+            match next_within(alloc, behavior, access, since(out.as_slice(), before))? {
+                None => return Ok(ops),
+                Some(op) => {
+                    out.push(op.run(alloc, writer, cursors, lent)?)?;
+                    ops.push(op)?;
+                }
+            }
+        }
+        Ok(ops)
     }
 }
 
@@ -149,15 +153,7 @@ impl<B: Behavior + Send> SystemOf for BehaviorSystem<B> {
         ensures shape { IfOk result (λ taken. SameShape (taken_of lent.entry) taken) }
     {
         let before = out.len();
-        let ops = run_turn(
-            alloc,
-            &self.behavior,
-            &self.access,
-            self.writer,
-            &mut self.cursors,
-            &mut lent,
-            out,
-        )?;
+        let ops = self.run_ops(alloc, &mut lent, out)?;
         self.last = Items::from_vec(ops);
         self.behavior
             .remember(alloc, since(out.as_slice(), before))?;

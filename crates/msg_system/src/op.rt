@@ -40,7 +40,7 @@ pub enum Op<V = i64> {
 
 impl<V: Value> Op<V> {
     ghost use Rattle.msg_world.specs.Prelude.{SameLoan};
-    ghost use Rattle.msg_system.specs.{Needs.keeps_to, Needs.needs_of, Needs.op_needs, Needs.type_read, OpRuns.MayBeRefused, OpRuns.OpRan, OpRuns.cursor_places, Promises.Covers};
+    ghost use Rattle.msg_system.specs.{Needs.keeps_to, Needs.needs_of, Needs.op_needs, Needs.type_read, Needs.type_written, OpRuns.MayBeRefused, OpRuns.OpRan, OpRuns.cursor_places, Promises.Covers};
 
     /// The type that it reads.
     pub fn read_type(&self) -> Option<TypeNo>
@@ -53,6 +53,19 @@ impl<V: Value> Op<V> {
             Op::Clear(t) => Some(*t),
             Op::Forward(t, _) => Some(*t),
             Op::Sum(t, _) => Some(*t),
+            _ => None,
+        }
+    }
+
+    /// The type that it writes, or drops the messages of.
+    pub fn write_type(&self) -> Option<TypeNo>
+        ensures type_written { result ≡ type_written self.now }
+    {
+        match self {
+            Op::Write(t, _) => Some(*t),
+            Op::Batch(t, _) => Some(*t),
+            Op::Forward(_, u) => Some(*u),
+            Op::Drain(t) => Some(*t),
             _ => None,
         }
     }

@@ -96,6 +96,10 @@ impl<V: Value> SystemOf for Scripted<V> {
             (⟦<Scripted<V> as SystemOf>⟧.meaning self.new)
             lent.entry taken out.old.items out.new.items) }
         ensures shape { IfOk result (λ taken. SameShape (taken_of lent.entry) taken) }
+
+        // Without an op it takes no memory.
+        ensures refused { OnErr result
+            (0 < length (⟦<Scripted<V> as SystemOf>⟧.meaning self.old).last) }
     {
         let ops = self.program.ops.as_slice();
         out.reserve_exact(ops.len())?;

@@ -38,6 +38,11 @@ writes a (OfType t) = has_bit a.write_types t
 writes a (OfResource r) = has_bit a.write_res r
 writes a Registry = a.registry
 
+-- the access writes a type or a resource
+abbrev pub WritesTypeOrResource : Access → Type 0
+WritesTypeOrResource a = ((t : ℕ) × IsTrue (writes a (OfType t)))
+    ⊎ ((r : ℕ) × IsTrue (writes a (OfResource r)))
+
 -- whether the access reads or writes the part
 abbrev pub uses : Access → Part → Bool
 uses a p = reads a p || writes a p

@@ -1,5 +1,5 @@
 -- Hands on the definitions cited elsewhere. The declared types serve this crate's proofs alone.
-pub use Rattle.msg_world.specs.Access.{Conflict, FitsWorldOf, HasPart, IsClash, OfResource, OfType, Overlap, Part, Registry, has_bit, no_access, reads, same_part, uses, writes}
+pub use Rattle.msg_world.specs.Access.{Conflict, FitsWorldOf, HasPart, IsClash, OfResource, OfType, Overlap, Part, Registry, WritesTypeOrResource, has_bit, no_access, reads, same_part, uses, writes}
 pub use Rattle.msg_world.specs.WritingThrough.{with_value}
 pub use Rattle.msg_world.specs.Loan.{IsComplete, IsLoanOf, LoanStands, SameLoan, access_of_loan, shown, taken_of, with_messages, with_resource, writable}
 pub use Rattle.msg_world.specs.LoanLaws.{HomeAgain, HomeMerges, HomeWhereEither, LentIsLoan, LoanEnds, LoanStays, MayComeHome, OthersStayHome, OwnedStands, OwnsWhatItWrites, StaysApart, StaysComplete, ValuesStand, WritesStand}

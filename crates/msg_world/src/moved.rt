@@ -1,5 +1,5 @@
 // Parts that were moved out of slots.
-ghost use Rattle.std.specs.Prelude.{◌≡◌, ◌+◌, ◌≤◌, ◌<◌, ◌==◌, ℕ, None, IfOk, IfSome, IfNone, Some, [], count_ones, slice_set, length, vec_capacity, vec_len, if◌then◌else◌};
+ghost use Rattle.std.specs.Prelude.{◌≡◌, ◌≢◌, ◌+◌, ◌≤◌, ◌<◌, ◌==◌, ℕ, None, IfOk, OnErr, IfSome, IfNone, Some, [], count_ones, slice_set, length, vec_capacity, vec_len, if◌then◌else◌};
 ghost use Rattle.std.specs.{Borrow.sem, Option.option_copied, Option.option_copied_mut, Option.option_or};
 ghost use Rattle.msg_world.specs.{Prelude.has_bit, inner.Moved.AreSlotsBelow, inner.Moved.IsFirstOf, inner.Moved.NoneOf, inner.Moved.placed, inner.Slots.at};
 
@@ -56,6 +56,7 @@ pub(crate) fn room_in<T: Drop>(
 ) -> Result<Vec<Moved<T>>, AllocError>
     ensures empty { IfOk result (λ room. room.items ≡ []) }
     ensures room { IfOk result (λ room. count_ones mask ≤ vec_capacity room) }
+    ensures refused { OnErr result (mask ≢ 0) }
 {
     if mask == 0 {
         return Ok(Vec::new(alloc));

@@ -1,7 +1,7 @@
 ghost use Rattle.std.specs.Prelude.{◌≡◌, ℕ, ◌+◌, ◌<◌, ◌≤◌, ◌↔◌, [], ◌∷◌, length, slice_index, slice_get, is_some, Some, None, IfOk, IfErr, OnOk, OnErr, IsTrue, IsSome, IsSomeAnd, map, if◌then◌else◌};
 ghost use Rattle.std.specs.Option.{option_copied};
 ghost use Rattle.msg_buffer.specs.Prelude.{History, IsSpent, StandsFor, count, empty, message_refused, update, write};
-ghost use Rattle.msg_world.specs.Prelude.{IsApart, IsHome, IsWhole, LendsOut, OfResource, OfType, PartsStand, SameShape, TakesBack, WorldState, after_update, by, held_world, new_world, slot, with_history};
+ghost use Rattle.msg_world.specs.Prelude.{IsApart, IsHome, IsWhole, LendsOut, OfResource, OfType, PartsStand, SameShape, TakesBack, WorldState, WritesTypeOrResource, after_update, by, held_world, new_world, slot, with_history};
 ghost use Rattle.msg_world.specs.inner.Slots.{AllUpdated, BufferStands, at};
 
 use crate::access::Access;
@@ -301,6 +301,7 @@ impl<V: Value> World<V> {
         requires home { IsHome access.now self.old }
         ensures lent { IfOk result (λ taken. LendsOut access.now self.old self.new taken) }
         ensures err { OnErr result (self.new ≡ self.old) }
+        ensures refused { OnErr result (WritesTypeOrResource access.now) }
     {
         let alloc = *self.types.allocator();
         let types = moved::room_in(alloc, &mut self.spare_types, access.write_types)?;

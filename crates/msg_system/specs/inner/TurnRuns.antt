@@ -1,7 +1,7 @@
 -- What the private functions of programs and turns say. No public contract cites these.
 use Rattle.std.specs.Prelude.{◌≡◌, ℕ, ◌++◌, List, Option, length}
 use Rattle.msg_world.specs.{Prelude.LoanStands, Prelude.WorldState, declared.lent.Lent.Lent, Prelude.Values}
-use Rattle.msg_system.specs.{declared.op.Op.Op, declared.reply.Reply.Reply, Needs.Needs, Programs.AfterProgram, Programs.after_program, Systems.after_at_most, Systems.if_kept, Systems.ops_answered}
+use Rattle.msg_system.specs.{declared.behavior_system.BehaviorSystem.BehaviorSystem, declared.op.Op.Op, declared.reply.Reply.Reply, Needs.Needs, Programs.AfterProgram, Programs.after_program, Systems.after_at_most, Systems.if_kept, Systems.ops_answered}
 
 -- the places, the loan and the replies are those after a program
 pub record IsAfterProgram {V : Type 0} {values : Values V} (after : AfterProgram values)
@@ -46,3 +46,10 @@ module _ {V : Type 0} where
   AreAnswered next ops before answers =
       (more : List (Reply V)) × (answers ≡ before ++ more) × (ops ≡ ops_answered next more)
       × (length ops ≡ length more)
+
+-- the behavior, the access, the start and the number that it writes as are as they were
+pub record IsAsItWas {B V : Type 0} (old new : BehaviorSystem B V) : Type 0 where
+  pub behavior : new.behavior ≡ old.behavior
+  pub access : new.access ≡ old.access
+  pub start : new.start ≡ old.start
+  pub writer : new.writer ≡ old.writer

@@ -1,4 +1,4 @@
-use Rattle.std.proofs.{Common.arith, Common.length, Common.map, lemmas.Bool.cases_lt, lemmas.Bool.Decides.nat_tests, lemmas.List.length-map}
+use Rattle.std.proofs.{Common.arith, Common.map, lemmas.Bool.cases_lt, lemmas.Bool.Decides.nat_tests, lemmas.List.length-map}
 use Rattle.msg_buffer.specs.Prelude.{StandsFor, write}
 use Rattle.msg_system.proofs.Lendings.{made_by, written_messages_stand}
 use Rattle.msg_system.proofs.lending.write_each.Goals as goal

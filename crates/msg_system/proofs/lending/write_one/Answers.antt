@@ -1,4 +1,4 @@
-use Rattle.std.proofs.{Common.arith, lemmas.Grind.common_steps, lemmas.Bool.cases_lt, lemmas.Bool.Decides.nat_tests}
+use Rattle.std.proofs.{Common.arith, lemmas.Bool.cases_lt, lemmas.Bool.Decides.nat_tests}
 use Rattle.std.proofs.Common.{[], ◌∷◌}
 use Rattle.msg_buffer.specs.Prelude.{StandsFor, write}
 use Rattle.msg_system.proofs.Lendings.{written_messages_stand}

@@ -1,4 +1,4 @@
-use Rattle.std.proofs.{Common.◌≡◌, Common.None, Common.arith, lemmas.Grind.common_steps}
+use Rattle.std.proofs.{Common.◌≡◌, Common.None, Common.arith}
 use Rattle.msg_system.specs.Prelude.{sum_onto, took}
 use Rattle.msg_system.proofs.steps.sum.Goals as goal
 

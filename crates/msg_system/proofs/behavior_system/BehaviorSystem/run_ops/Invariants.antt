@@ -1,7 +1,7 @@
 use Rattle.std.proofs.Common.{◌≡◌, length}
 use Rattle.msg_world.specs.Prelude.{LoanStands, SameLoan, WorldState}
 use Rattle.msg_system.specs.{Prelude.after_at_most, Prelude.needs_of, Prelude.cursor_places, inner.TurnRuns.AreAnswered, inner.TurnRuns.IsAfterProgram, inner.TurnRuns.next_kept}
-use Rattle.msg_system.proofs.behavior_system.run_turn.Given as goal
+use Rattle.msg_system.proofs.behavior_system.BehaviorSystem.run_ops.Given as goal
 
 abbrev pub invariant-loop-done : goal.invariant-loop-done
 invariant-loop-done g l =

@@ -1,6 +1,16 @@
-use Rattle.std.proofs.Common.{◌≡◌, arith, sym, ◌∙◌}
+use Rattle.std.proofs.Common.{◌≡◌, [], arith, refl, rules, sym, ◌∙◌}
 use Rattle.msg_system.proofs.{Deciding.answered_more, Deciding.appended, Deciding.covers_kept, Deciding.turn_more, Deciding.turn_over, Runs.same_loan_trans, Turns.next_kept_to}
-use Rattle.msg_system.proofs.behavior_system.run_turn.Goals as goal
+use Rattle.msg_system.proofs.behavior_system.BehaviorSystem.run_ops.Goals as goal
+
+pub loop-done-init : goal.loop-done-init
+loop-done-init g c =
+    let none = c.clear.ensures.items in
+    record {
+      so_far = λ s stands. record { same_places = refl; stands = stands; same_replies = search rules };
+      long = search rules;
+      answered = ([], search rules, rw none refl, rw none refl);
+      same = search rules;
+    }
 
 pub run-requires : goal.run-requires
 run-requires g c =
