@@ -7,7 +7,6 @@ pub use Rattle.msg_world.specs.Parts.{Has, IsApart, IsHome, IsWhole, LendsOut, P
 pub use Rattle.msg_world.specs.World.{Values, WorldState, after_signal, after_update, by, content, held_world, i64_values, merge, new_world, signalled_marks, waits, with_history, with_value_of}
 pub use Rattle.msg_world.specs.declared.access.Access.{Access}
 pub use Rattle.msg_world.specs.declared.lent.Lent.{Lent}
-pub use Rattle.msg_world.specs.declared.limits.TheConstants.{MAX_RESOURCES, MAX_SYSTEMS, MAX_TYPES}
 pub use Rattle.msg_world.specs.declared.marks.Marks.{Marks}
 pub use Rattle.msg_world.specs.declared.moved.Moved.{Moved}
 pub use Rattle.msg_world.specs.declared.record.Record.{Record}
