@@ -4,6 +4,7 @@ ghost use Rattle.msg_world.specs.Prelude.{SameLoan};
 ghost use Rattle.msg_system.specs.{Behaviors.behaves, Needs.needs_of, OpRuns.cursor_places, inner.TurnRuns.AreAnswered, inner.TurnRuns.TurnRan, inner.TurnRuns.next_kept, Promises.Covers};
 
 use crate::behavior::Behavior;
+use crate::limits::MAX_OPS;
 use crate::{Access, Cursors, Items, NoMemory, Numbered, Op, Reply, Start, SystemOf};
 use msg_world::{Counts, Lent, Taken, TypeNo};
 use std::alloc::Global;
@@ -55,7 +56,7 @@ fn run_turn<B: Behavior>(
 {
     let before = out.len();
     let mut ops = Vec::new(alloc);
-    for _done in 0..64u32 {
+    for _done in 0..MAX_OPS {
         match next_within(alloc, behavior, access, since(out.as_slice(), before))? {
             None => return Ok(ops),
             Some(op) => {
