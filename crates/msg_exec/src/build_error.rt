@@ -13,7 +13,7 @@ pub enum BuildError {
     #[error("there are {} systems, and an engine has no more", MAX_SYSTEMS)]
     Full,
     /// The frame that a system was to join with.
-    #[error("a system can't join with frame {0}, but with one from 1 to {}", LAST_JOIN)]
+    #[error("a system can't join with frame {}, but with one from 1 to {}", .0, LAST_JOIN)]
     BadJoin(u32),
     /// The lowest system that, or a condition of which, reads or writes what the world hasn't got.
     #[error("system {0} or a condition of it reads or writes what the world hasn't got")]
