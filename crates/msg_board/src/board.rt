@@ -4,6 +4,7 @@ ghost use Rattle.msg_board.specs.Prelude.{Drew, DrewNone, HandedIn, HoldsEachOnc
 
 use crate::NoMemory;
 use crate::law::{Deal, Divide, Draw, HandIn, Law, Slot, Unite, View};
+use crate::limits::{MAX_JOBS, MAX_PASSES};
 use crate::pass::Pass;
 use crate::slots::{put_in, results_of, slots_of, take_out};
 use crate::work::Work;
@@ -48,8 +49,8 @@ impl<W: Work, A: Allocator + Copy> Board<W, A> {
         jobs: Vec<W::Job, A>,
         passes: u32,
     ) -> Result<(Board<W, A>, Vec<Pass<W::Job, W::Done>, A>), NoMemory>
-        requires jobs { length jobs.items ≤ 256 }
-        requires passes { (0 < passes) × (passes ≤ 64) }
+        requires jobs { length jobs.items ≤ MAX_JOBS }
+        requires passes { (0 < passes) × (passes ≤ MAX_PASSES) }
         ensures jobs { IfOk result (λ made. jobs_of made.0 ≡ jobs.items) }
         ensures passes { IfOk result (λ made. passes_of made.0 ≡ passes) }
         ensures as_many { IfOk result (λ made. length made.1.items ≡ passes) }

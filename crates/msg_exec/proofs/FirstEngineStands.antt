@@ -3,6 +3,7 @@ use Rattle.std.proofs.Common.{◌≡◌, ℕ, ◌<◌, ◌≤◌, Bool, true, fa
 use Rattle.std.proofs.lemmas.{Bool.cases_lt, Bool.false≢true, List.get_or-map, List.get_or-replicate, List.get_or_past, List.get_or-take, List.length-map, Option.get_or_from_slice_get, Option.slice_get-get_or, List.map-id, Simd.map-map}
 use Rattle.std.specs.Global.{Box, Vec}
 use Rattle.msg_world.specs.Prelude.{Has, HasPart, IsWhole, OfResource, OfType, Part, Parts, PartsStand, Registry, WorldState, Values}
+use Rattle.msg_world.specs.declared.limits.TheConstants.{MAX_RESOURCES, MAX_SYSTEMS, MAX_TYPES}
 use Rattle.msg_order.specs.declared.rule.Rule.{Rule}
 use Rattle.msg_order.specs.Prelude.{FewerSystemsMakeNoCycle, IsAcyclic, NameSystemsBelow, access_of, edges_of, rules_among}
 use Rattle.msg_system.specs.Prelude.{Meaning, new_asked}
@@ -91,13 +92,13 @@ module _ {S V : Type 0} (meaning : S → Meaning V) where
           )
 
     -- a world has no other parts
-    part_of : (p : Part) → (length world.types ≤ 64) × (length world.resources ≤ 64) → Has world p → HasPart 64 64 p
+    part_of : (p : Part) → (length world.types ≤ MAX_TYPES) × (length world.resources ≤ MAX_RESOURCES) → Has world p → HasPart MAX_TYPES MAX_RESOURCES p
     part_of (OfType t) few has = omega (arith, few, has)
     part_of (OfResource r) few has = omega (arith, few, has)
     part_of Registry few has = has
 
     pub are_new : {values : Values V} (rules : List Rule) (w : WorldState values) → PartsStand world w
-        → (length world.types ≤ 64) × (length world.resources ≤ 64)
+        → (length world.types ≤ MAX_TYPES) × (length world.resources ≤ MAX_RESOURCES)
         → ((joined : List Bool) → length joined ≡ length systems → IsAcyclic (rules_among joined rules))
         → AreNew (map meaning systems) places rules (length world.types) w
     are_new rules w stands few none = record {
@@ -113,7 +114,7 @@ module _ {S V : Type 0} (meaning : S → Meaning V) where
     }
 
     -- the schedule of a new engine
-    pub schedule_first : {values : Values V} (c : Core S V) (rules : List Rule) (w : WorldState values) → length systems ≤ 256
+    pub schedule_first : {values : Values V} (c : Core S V) (rules : List Rule) (w : WorldState values) → length systems ≤ MAX_SYSTEMS
         → NameSystemsBelow (length systems) rules → c.rules.items ≡ rules → AreJoins c.joins.items (first rules w) → Schedule c (first rules w)
     schedule_first c rules w few named same joins =
         let n : length (map meaning systems) ≡ length systems = length-map systems meaning in

@@ -3,7 +3,7 @@ use Rattle.std.proofs.Common.{sym, ap, ◌∙◌, get_or, ◌≡◌, ◌≢◌, 
 use Rattle.std.specs.Global.{Vec}
 use Rattle.std.proofs.lemmas.{Option.slice_get_read, Bool.cases_Bool, Bool.eq-eqb, Bool.ne_eqb}
 use Rattle.msg_world.specs.Prelude.{SameShape, WorldState, Values}
-use Rattle.msg_system.specs.{declared.op.Op.Op, declared.reply.Reply.Reply}
+use Rattle.msg_system.specs.{declared.limits.TheConstants.MAX_OPS, declared.op.Op.Op, declared.reply.Reply.Reply}
 use Rattle.msg_system.specs.Prelude.{Job as JobState, Meaning, after_at_most, after_job, next_op, turn}
 use Rattle.msg_frames.specs.{declared.log.Outcome.Outcome, declared.totals.Totals.Totals}
 use Rattle.msg_frames.specs.Prelude.{Member, ReadEntry, State, member_after, entries_at, outcome_of, with_entries, with_member}
@@ -30,7 +30,7 @@ module _ {V : Type 0} {values : Values V} where
   pub few_replies : (j : JobState V) (w : WorldState values) → HasFewReplies (outcome_of (after_job j w).replies)
   unfolding turn
   few_replies j w =
-      let few = at_most_replies 64 (next_op j.system) j.system.writer j.system.places w in
+      let few = at_most_replies MAX_OPS (next_op j.system) j.system.writer j.system.places w in
       grind (arith, cases_Bool, few)
 
 -- ---- the lender

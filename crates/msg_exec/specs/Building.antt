@@ -1,10 +1,10 @@
 -- What a new engine is made of, and when there is none.
 use Rattle.std.specs.Prelude.{◌≡◌, ℕ, ◌+◌, ◌<◌, ◌≤◌, List, [], ◌∷◌, length, Some, slice_get, IsTrue}
-use Rattle.msg_world.specs.Prelude.{Has, Part, Parts}
+use Rattle.msg_world.specs.{Prelude.Has, Prelude.Part, Prelude.Parts, declared.limits.TheConstants.MAX_SYSTEMS}
 use Rattle.msg_order.specs.declared.rule.Rule.{Rule}
 use Rattle.msg_order.specs.Prelude.{IsAcyclic, IsLowestOnCycle, NameSystemsBelow, edges_of}
 use Rattle.msg_system.specs.Prelude.{HasClash, Meaning, needs_any, with_conditions}
-use Rattle.msg_frames.specs.declared.place.Place.{Place}
+use Rattle.msg_frames.specs.declared.{limits.TheConstants.LAST_JOIN, place.Place.Place}
 use Rattle.msg_frames.specs.Prelude.{IsNew}
 use Rattle.msg_exec.specs.{declared.build_error.BuildError.BuildError, declared.build_error.BuildError.TheVariants.Full, declared.build_error.BuildError.TheVariants.BadJoin, declared.build_error.BuildError.TheVariants.Misfit, declared.build_error.BuildError.TheVariants.UnknownSystem, declared.build_error.BuildError.TheVariants.Refused, declared.build_refusal.BuildRefusal.BuildRefusal, declared.build_refusal.BuildRefusal.TheVariants.Clash, declared.build_refusal.BuildRefusal.TheVariants.Cycle, declared.build_refusal.BuildRefusal.TheVariants.NoMemory}
 
@@ -15,7 +15,7 @@ module _ {X : Type 0} where
 
 -- the frames that a system may join with
 abbrev pub IsJoin : ℕ → Type 0
-IsJoin join = (1 ≤ join) × (join ≤ 10000)
+IsJoin join = (1 ≤ join) × (join ≤ LAST_JOIN)
 
 module _ {V : Type 0} where
   -- the world has what a system and its conditions read and write
@@ -69,9 +69,9 @@ module _ {V : Type 0} where
 -- why a system isn't added to so many, to join with this frame: there are too many; else it can't
 -- join with that frame; and only where it might be added there is no memory
 abbrev pub RefusesToAdd : ℕ → ℕ → BuildError → Type 0
-RefusesToAdd systems join Full = 256 ≤ systems
-RefusesToAdd systems join (BadJoin frame) = (systems < 256) × (frame ≡ join) × ¬ IsJoin join
-RefusesToAdd systems join (Refused NoMemory) = (systems < 256) × IsJoin join
+RefusesToAdd systems join Full = MAX_SYSTEMS ≤ systems
+RefusesToAdd systems join (BadJoin frame) = (systems < MAX_SYSTEMS) × (frame ≡ join) × ¬ IsJoin join
+RefusesToAdd systems join (Refused NoMemory) = (systems < MAX_SYSTEMS) × IsJoin join
 RefusesToAdd systems join _ = ⊥
 
 -- the first rule that names a system from n on

@@ -3,8 +3,8 @@ use Rattle.std.specs.Prelude.{◌≡◌, ℕ, suc, ◌-◌, ◌^◌, ◌≤◌, 
 use Rattle.msg_order.specs.Prelude.{IsPlanOf, NameSystemsBelow}
 use Rattle.msg_system.specs.Prelude.{Meaning}
 use Rattle.msg_exec.specs.{declared.engine_core.Core.Core, Lender.AreJoins, Lender.LenderStands}
-use Rattle.msg_frames.specs.Prelude.{IsSoundState, State, join_flags}
-use Rattle.msg_world.specs.Prelude.{Values}
+use Rattle.msg_frames.specs.{Prelude.IsSoundState, Prelude.State, Prelude.join_flags, declared.limits.TheConstants.LAST_JOIN}
+use Rattle.msg_world.specs.{Prelude.Values, declared.limits.TheConstants.MAX_SYSTEMS}
 
 module _ {V : Type 0} {values : Values V} where
   -- how many frames were run, as an engine counts them: it stays at the greatest number of its type
@@ -22,8 +22,8 @@ module _ {S V : Type 0} {values : Values V} where
   pub record Schedule (c : Core S V) (s : State values) : Type 0 where
     pub joins : AreJoins c.joins.items s
     pub rules : c.rules.items ≡ s.rules
-    pub few : s.systems ≤ 256
-    pub early : (i : ℕ) → i < s.systems → (s.members i).join ≤ 10000
+    pub few : s.systems ≤ MAX_SYSTEMS
+    pub early : (i : ℕ) → i < s.systems → (s.members i).join ≤ LAST_JOIN
     pub named : NameSystemsBelow s.systems s.rules
 
 module _ {S V : Type 0} {values : Values V} (meaning : S → Meaning V) where

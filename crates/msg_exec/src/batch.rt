@@ -15,8 +15,8 @@ use crate::spares::Spares;
 use crate::{Gate, NoMemory, Turn};
 use msg_frames::laws::batches_run_side_by_side;
 use msg_system::SystemOf;
-use msg_world::Value;
 use msg_world::laws::written_parts_come_home;
+use msg_world::{MAX_SYSTEMS, Value};
 use std::alloc::Global;
 use std::thread::Threads;
 
@@ -50,7 +50,7 @@ fn run_many<R: Threads + Sync, V: Value + Send + Sync, S: SystemOf<Value = V> + 
 ) -> Result<(), NoMemory>
     requires stands { (s : State V.values) × (LenderStands S.meaning lender.old s
         × All (λ i. i < s.systems) batch.now) }
-    requires few { length lender.old.accesses.items ≤ 256 }
+    requires few { length lender.old.accesses.items ≤ MAX_SYSTEMS }
     requires once { AllPairs (λ i j. i ≢ j) batch.now }
     requires apart { NoneConflict lender.old.accesses.items batch.now }
     ensures state { OnOk result ((s : State V.values) → LenderStands S.meaning lender.old s
@@ -138,7 +138,7 @@ fn run_batch<R: Threads + Sync, V: Value + Send + Sync, S: SystemOf<Value = V> +
 ) -> Result<(), NoMemory>
     requires stands { (s : State V.values) × (LenderStands S.meaning lender.old s
         × All (λ i. i < s.systems) batch.now) }
-    requires few { length lender.old.accesses.items ≤ 256 }
+    requires few { length lender.old.accesses.items ≤ MAX_SYSTEMS }
     requires once { AllPairs (λ i j. i ≢ j) batch.now }
     requires apart { NoneConflict lender.old.accesses.items batch.now }
     ensures state { OnOk result ((s : State V.values) → LenderStands S.meaning lender.old s
@@ -176,7 +176,7 @@ pub(crate) fn run_batches<
 ) -> Result<Vec<Turn<V>>, NoMemory>
     requires stands { (s : State V.values) × (LenderStands S.meaning lender.old s
         × All (λ batch. All (λ i. i < s.systems) batch.items) batches.now) }
-    requires few { length lender.old.accesses.items ≤ 256 }
+    requires few { length lender.old.accesses.items ≤ MAX_SYSTEMS }
     requires once { AllPairs (λ i j. i ≢ j) (concat (map (λ batch. batch.items) batches.now)) }
     requires apart { All (NoneConflict lender.old.accesses.items)
         (map (λ batch. batch.items) batches.now) }

@@ -1,17 +1,19 @@
 ghost use Rattle.std.specs.Prelude.{◌≡◌};
 
 use crate::{BuildRefusal, NoMemory};
+use msg_frames::LAST_JOIN;
 use msg_order::Rule;
+use msg_world::MAX_SYSTEMS;
 use thiserror::Error;
 
 /// Why a builder refused what it was given, or made no engine of it.
 #[derive(Debug, Drop, Error)]
 pub enum BuildError {
     /// There are as many systems as an engine may have.
-    #[error("there are 256 systems, and an engine has no more")]
+    #[error("there are {} systems, and an engine has no more", MAX_SYSTEMS)]
     Full,
     /// The frame that a system was to join with.
-    #[error("a system can't join with frame {0}, but with one from 1 to 10000")]
+    #[error("a system can't join with frame {}, but with one from 1 to {}", .0, LAST_JOIN)]
     BadJoin(u32),
     /// The lowest system that, or a condition of which, reads or writes what the world hasn't got.
     #[error("system {0} or a condition of it reads or writes what the world hasn't got")]

@@ -8,9 +8,10 @@ ghost use Rattle.msg_frames.specs.Prelude.{first_state};
 ghost use Rattle.msg_exec.specs.Prelude.{AllFit, EachIs, FitsWorld, IsEngine, IsFirstUnknown, IsLowestMisfit, HasRunSince, IsSpoiled, Misfit, NoneIsClash, RefusesToAdd, RefusesToBuild, UnknownSystem, numbered_from};
 
 use crate::{BuildError, EngineOf, Items, NoMemory, Place};
+use msg_frames::LAST_JOIN;
 use msg_order::Rule;
 use msg_system::{Condition, Numbered, SystemOf, job_access};
-use msg_world::{Value, World};
+use msg_world::{MAX_SYSTEMS, Value, World};
 use std::alloc::Global;
 use std::marker::Model;
 
@@ -34,6 +35,7 @@ pub struct EngineBuilder<S, V = i64> {
 
 impl<S, V> Model for EngineBuilder<S, V> {
     ghost use Rattle.std.specs.Prelude.{◌≡◌, ◌≤◌, All, length};
+    ghost use Rattle.msg_world.specs.declared.limits.TheConstants.{MAX_SYSTEMS};
     ghost use Rattle.msg_exec.specs.Building.{Added, IsJoin};
 
     ghost Value = { Added S V };
@@ -44,7 +46,7 @@ impl<S, V> Model for EngineBuilder<S, V> {
       rules = b.rules.items;
     } };
 
-    ghost invariant = { λ b. (length b.systems.items ≤ 256)
+    ghost invariant = { λ b. (length b.systems.items ≤ MAX_SYSTEMS)
         × (length b.places.items ≡ length b.systems.items)
         × All (λ place. IsJoin place.join) b.places.items };
 }
@@ -64,7 +66,7 @@ fn check_systems<V: Value, S: SystemOf<Value = V>>(
     places: &[Place<V>],
 ) -> Result<(), BuildError>
     requires whole { IsWhole world.now }
-    requires few { length systems.now ≤ 256 }
+    requires few { length systems.now ≤ MAX_SYSTEMS }
     requires one_place_each { length places.now ≡ length systems.now }
     ensures fit { OnOk result (AllFit S.meaning world.now systems.now places.now) }
     ensures misfit { IfErr result (λ e. (s : ℕ) × (e ≡ Misfit s)
@@ -80,7 +82,7 @@ fn check_systems<V: Value, S: SystemOf<Value = V>>(
 
 /// Refuses the first rule that names a system which isn't there.
 fn check_names<S>(rules: &[Rule], systems: &[S]) -> Result<(), BuildError>
-    requires few { length systems.now ≤ 256 }
+    requires few { length systems.now ≤ MAX_SYSTEMS }
     ensures named { OnOk result (NameSystemsBelow (length systems.now) rules.now) }
     ensures unknown { IfErr result (λ e. (rule : RuleView) × (e ≡ UnknownSystem rule)
         × IsFirstUnknown (length systems.now) rules.now rule) }
@@ -95,7 +97,7 @@ fn check_names<S>(rules: &[Rule], systems: &[S]) -> Result<(), BuildError>
 
 /// Gives each system its number.
 fn number_all<V: Value, S: Numbered + SystemOf<Value = V>>(systems: &mut [S])
-    requires few { length systems.old ≤ 256 }
+    requires few { length systems.old ≤ MAX_SYSTEMS }
     ensures as_many { length systems.new ≡ length systems.old }
     ensures numbered { map S.meaning systems.new ≡ numbered_from 0 (map S.meaning systems.old) }
 {
@@ -122,8 +124,8 @@ impl<V: Value, S: Numbered + SystemOf<Value = V>> EngineBuilder<S, V> {
     ///
     /// # Errors
     ///
-    /// `Full` if there are 256 systems; else `BadJoin` if `join` isn't from 1 to 10,000; else
-    /// want of memory. Then nothing is added.
+    /// `Full` if there are `MAX_SYSTEMS` systems; else `BadJoin` if `join` isn't from 1 to
+    /// `LAST_JOIN`; else want of memory. Then nothing is added.
     pub fn add_system(
         &mut self,
         system: S,
@@ -138,10 +140,10 @@ impl<V: Value, S: Numbered + SystemOf<Value = V>> EngineBuilder<S, V> {
         ensures refusal { IfErr result (RefusesToAdd (length self.old.systems) join) }
         ensures unchanged { IfErr result (λ _. self.new ≡ self.old) }
     {
-        if self.systems.len() >= 256 {
+        if self.systems.len() >= MAX_SYSTEMS {
             return Err(BuildError::Full);
         }
-        if join == 0 || join > 10_000 {
+        if join == 0 || join > LAST_JOIN {
             return Err(BuildError::BadJoin(join));
         }
         let number = self.systems.len() as u32;

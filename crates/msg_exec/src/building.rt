@@ -11,7 +11,7 @@ use crate::{BuildRefusal, NoMemory, Place, Totals};
 use msg_order::laws::fewer_systems_make_no_cycle;
 use msg_order::{Plan, Rule, lowest_on_cycle};
 use msg_system::{Condition, Guard, SystemOf, job_access};
-use msg_world::{Access, Value};
+use msg_world::{Access, MAX_SYSTEMS, Value};
 use std::alloc::Global;
 
 /// What is reckoned of the systems of a new engine and its rules.
@@ -31,7 +31,7 @@ fn is_clash<V: Value, S: SystemOf<Value = V>>(system: &S) -> bool
 
 /// Refuses the lowest system that is a clash.
 fn check_clashes<V: Value, S: SystemOf<Value = V>>(systems: &[S]) -> Result<(), BuildRefusal>
-    requires few { length systems.now ≤ 256 }
+    requires few { length systems.now ≤ MAX_SYSTEMS }
     ensures none { OnOk result (NoneIsClash S.meaning systems.now) }
     ensures clash { IfErr result (λ e. (s : ℕ) × (e ≡ Clash s)
         × IsLowestClash S.meaning systems.now s) }
@@ -49,7 +49,7 @@ pub(crate) fn check_build<V: Value, S: SystemOf<Value = V>>(
     systems: &[S],
     rules: &[Rule],
 ) -> Result<(), BuildRefusal>
-    requires few { length systems.now ≤ 256 }
+    requires few { length systems.now ≤ MAX_SYSTEMS }
     requires in_range { NameSystemsBelow (length systems.now) rules.now }
     ensures no_clash { OnOk result (NoneIsClash S.meaning systems.now) }
     ensures no_cycle { OnOk result (IsAcyclic (edges_of rules.now)) }
@@ -154,7 +154,7 @@ pub(crate) fn prepare<V: Value, S: SystemOf<Value = V>>(
     places: &[Place<V>],
     rules: &[Rule],
 ) -> Result<Prepared, NoMemory>
-    requires few { length systems.now ≤ 256 }
+    requires few { length systems.now ≤ MAX_SYSTEMS }
     requires one_place_each { length places.now ≡ length systems.now }
     requires in_range { NameSystemsBelow (length systems.now) rules.now }
     requires no_cycle { IsAcyclic (edges_of rules.now) }

@@ -10,7 +10,7 @@ use msg_frames::reader_laws::{first_states_are_sound, replays_tell_the_same, run
 use msg_order::Rule;
 use msg_order::laws::fewer_systems_make_no_cycle;
 use msg_system::{System, SystemOf};
-use msg_world::{Value, World};
+use msg_world::{MAX_SYSTEMS, Value, World};
 use std::alloc::Global;
 use std::thread::Threads;
 
@@ -66,7 +66,7 @@ impl<V: Value, S: SystemOf<Value = V>> EngineOf<S, V> {
         rules: Vec<Rule>,
     ) -> Result<EngineOf<S, V>, BuildRefusal>
         requires whole { IsWhole world }
-        requires few { length systems.items ≤ 256 }
+        requires few { length systems.items ≤ MAX_SYSTEMS }
         requires one_place_each { length places.items ≡ length systems.items }
         requires in_range { NameSystemsBelow (length systems.items) rules.items }
         requires each { EachIs (MayBeAdded S.meaning world places.items) systems.items }

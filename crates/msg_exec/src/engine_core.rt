@@ -16,7 +16,7 @@ use crate::{Frame, Gate, Items, Log, NoMemory};
 use msg_frames::reader_laws::states_stay_sound;
 use msg_order::{Plan, PlanRefusal, Rule};
 use msg_system::{Reply, SystemOf};
-use msg_world::{Access, Value};
+use msg_world::{Access, MAX_SYSTEMS, Value};
 use std::alloc::Global;
 use std::thread::Threads;
 
@@ -50,7 +50,7 @@ pub(crate) fn plan_by(
     joins: &[u32],
     frame: u32,
 ) -> Result<Plan, NoMemory>
-    requires few { length accesses.now ≤ 256 }
+    requires few { length accesses.now ≤ MAX_SYSTEMS }
     requires one_each { length joins.now ≡ length accesses.now }
     requires in_range { NameSystemsBelow (length accesses.now) rules.now }
     requires no_cycle { (joined : List Bool) → length joined ≡ length accesses.now

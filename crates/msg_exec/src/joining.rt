@@ -9,7 +9,7 @@ use crate::Totals;
 use crate::job::GuardedSystem;
 use crate::lender::Lender;
 use msg_system::{Guard, Start, SystemOf};
-use msg_world::{Counts, TypeNo, Value};
+use msg_world::{Counts, MAX_TYPES, TypeNo, Value};
 
 /// Sets the cursors of conditions to where they start.
 fn start_guards<V: Value>(guards: &mut [Guard<V>], counts: &Counts, start: Start)
@@ -42,7 +42,7 @@ fn place_of(start: Start, counts: &Counts, t: TypeNo) -> u64
 
 /// Where a system that was given nothing starts in the type of this number.
 fn first_place<V: Value, S: SystemOf<Value = V>>(system: &S, counts: &Counts, t: usize) -> u64
-    requires type_number { t < 64 }
+    requires type_number { t < MAX_TYPES }
     ensures place { result ≡ first_place (S.meaning system.now) counts.now t }
 {
     let Some(t) = TypeNo::new(t as u32) else {
@@ -57,7 +57,7 @@ fn first_place<V: Value, S: SystemOf<Value = V>>(system: &S, counts: &Counts, t:
 
 /// Opens the accounts of a system where its cursors start.
 fn open<V: Value, S: SystemOf<Value = V>>(system: &S, counts: &Counts, totals: &mut [Totals])
-    requires few { length totals.old ≤ 64 }
+    requires few { length totals.old ≤ MAX_TYPES }
     ensures as_many { length totals.new ≡ length totals.old }
     ensures opened { (t : ℕ) → t < length totals.old → totals_at totals.new t
         ≡ totals_from (first_place (S.meaning system.now) counts.now t) }
@@ -78,7 +78,7 @@ fn begin<V: Value, S: SystemOf<Value = V>>(
     counts: &Counts,
     totals: &mut [Totals],
 )
-    requires few { length totals.old ≤ 64 }
+    requires few { length totals.old ≤ MAX_TYPES }
     ensures as_many { length totals.new ≡ length totals.old }
     ensures begun { IfSome slot.old (λ a. IsSomeAnd slot.new
         (λ b. job_state S.meaning b.value ≡ job_begun counts.now (job_state S.meaning a.value))) }

@@ -9,7 +9,7 @@ use crate::{Gate, NoMemory, Runs, Workers};
 use msg_board::Work;
 use msg_system::SystemOf;
 use msg_workers::{Habit, run_jobs};
-use msg_world::{Taken, Value, World};
+use msg_world::{MAX_SYSTEMS, Taken, Value, World};
 use std::alloc::Global;
 use std::marker::PhantomData;
 use std::mem::replace;
@@ -104,7 +104,7 @@ pub(crate) fn run_side_by_side<
     jobs: Vec<Job<S, V>>,
     habit: &mut Habit,
 ) -> Result<Vec<Result<Job<S, V>, NoMemory>>, NoMemory>
-    requires few { length jobs.items ≤ 256 }
+    requires few { length jobs.items ≤ MAX_SYSTEMS }
     requires may { EachMay (MayRun S.meaning world.now) jobs.items }
     ensures run { IfOk result
         (λ results. AreResults V.values S.meaning world.now jobs.items results.items) }

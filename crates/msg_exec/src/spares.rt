@@ -5,13 +5,13 @@ use crate::job::JobContents;
 use crate::{Log, NoMemory, Outcome, Turn};
 use msg_system::Reply;
 use msg_workers::Habit;
-use msg_world::{Access, Taken, Value};
+use msg_world::{Access, MAX_SYSTEMS, Taken, Value};
 use std::alloc::Global;
 use std::marker::Model;
 use std::mem::replace;
 
 /// At most so many of a kind are kept: one for each system that an engine may have.
-const MAX_SPARES: usize = 256;
+const MAX_SPARES: usize = MAX_SYSTEMS;
 
 /// What serves frames to come: empty lists with their memory, for their logs; boxes of what goes
 /// with systems to their turns; and for each place of a batch in a frame, whether workers pay

@@ -2,7 +2,7 @@
 use Rattle.std.proofs.Common.{◌≡◌, ℕ, zero, suc, List, [], ◌∷◌, ◌++◌, append_assoc, length, Option, None, Some, refl, arith}
 use Rattle.std.proofs.lemmas.{Bool.cases_Bool, List.append-nil, List.length-append, Grind.flat_map-append}
 use Rattle.msg_world.specs.Prelude.{WorldState, Values}
-use Rattle.msg_system.specs.{declared.op.Op.Op, declared.reply.Reply.Reply}
+use Rattle.msg_system.specs.{declared.limits.TheConstants.MAX_OPS, declared.op.Op.Op, declared.reply.Reply.Reply}
 use Rattle.msg_system.specs.Prelude.{AfterOp, AfterProgram, Step, Job, Meaning, after_at_most, after_job, after_op, next_op, one_more, ops_answered, turn}
 use Rattle.msg_system.proofs.Turns.{ops_answered-snoc}
 use Rattle.msg_frames.specs.Prelude.{Outcome, ReadEntry, entries_at, entries_for, entries_told, entry_for, outcome_of, replies_of}
@@ -45,4 +45,4 @@ module _ {V : Type 0} {values : Values V} where
   pub job_logged : (t : ℕ) (j : Job V) (w : WorldState values)
       → outcome_entries t j.system (outcome_of (after_job j w).replies) ≡ entries_at t (after_job j w).steps
   unfolding turn
-  job_logged t j w = grind (arith, append-nil, cases_Bool, answered t j.system w 64)
+  job_logged t j w = grind (arith, append-nil, cases_Bool, answered t j.system w MAX_OPS)

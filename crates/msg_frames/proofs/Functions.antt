@@ -3,7 +3,7 @@ use Rattle.std.proofs.Common.{◌≡◌, ℕ, ◌<◌, Bool, ◌&&◌, ◌||◌,
 use Rattle.std.specs.List.{list_any, range_with_len}
 use Rattle.std.proofs.Math.Bool.{or_comm}
 use Rattle.std.proofs.lemmas.{Bool.cases_Bool, Bool.cases_order, List.Elements.Contains-append_left, List.Elements.Contains-append_right, List.FromFn.length-map-range_with_len}
-use Rattle.msg_world.specs.{Prelude.Conflict, Prelude.HasPart, Prelude.OfResource, Prelude.OfType, Prelude.Part, Prelude.Registry, Prelude.uses, Prelude.writes, declared.access.Access.Access, Prelude.Values}
+use Rattle.msg_world.specs.{Prelude.Conflict, Prelude.HasPart, Prelude.OfResource, Prelude.OfType, Prelude.Part, Prelude.Registry, Prelude.uses, Prelude.writes, declared.access.Access.Access, declared.limits.TheConstants.MAX_RESOURCES, declared.limits.TheConstants.MAX_TYPES, Prelude.Values}
 use Rattle.msg_order.specs.Prelude.{Graph, IsAcyclic, IsAmong, IsSettledOrder, IsTurnOrder, Path, TellsConflicts, has_joined, turns}
 use Rattle.msg_order.proofs.{Elements.Contains-head, Elements.Contains-list_any, Elements.Contains-map, Elements.Contains-range, Elements.list_any-Contains, Functions.batches_are, Functions.settled_among, Functions.settled_no_cycle, Functions.settled_only, Functions.settled_orders, Functions.turns_are, TurnOrders.in_lawful_order}
 use Rattle.msg_system.specs.Prelude.{IsAccessOf, Needs, needs_any}
@@ -13,27 +13,27 @@ use Rattle.msg_frames.proofs.{SystemsStay.frame_keeps, SystemsStay.joined_below}
 
 -- ---- conflicts
 
-is_part : (p : Part) → HasPart 64 64 p → Contains parts p
+is_part : (p : Part) → HasPart MAX_TYPES MAX_RESOURCES p → Contains parts p
 unfolding parts
 is_part (OfType t) lt =
-    let types : List Part = map OfType (range_with_len 0 64) in
-    let resources : List Part = map OfResource (range_with_len 0 64) in
+    let types : List Part = map OfType (range_with_len 0 MAX_TYPES) in
+    let resources : List Part = map OfResource (range_with_len 0 MAX_RESOURCES) in
     Contains-append_left (types ++ resources) (Registry ∷ []) (OfType t)
     (Contains-append_left types resources (OfType t)
-    (Contains-map OfType (range_with_len 0 64) t (Contains-range 0 64 t (omega arith) lt)))
+    (Contains-map OfType (range_with_len 0 MAX_TYPES) t (Contains-range 0 MAX_TYPES t (omega arith) lt)))
 is_part (OfResource r) lt =
-    let types : List Part = map OfType (range_with_len 0 64) in
-    let resources : List Part = map OfResource (range_with_len 0 64) in
+    let types : List Part = map OfType (range_with_len 0 MAX_TYPES) in
+    let resources : List Part = map OfResource (range_with_len 0 MAX_RESOURCES) in
     Contains-append_left (types ++ resources) (Registry ∷ []) (OfResource r)
     (Contains-append_right types resources (OfResource r)
-    (Contains-map OfResource (range_with_len 0 64) r (Contains-range 0 64 r (omega arith) lt)))
+    (Contains-map OfResource (range_with_len 0 MAX_RESOURCES) r (Contains-range 0 MAX_RESOURCES r (omega arith) lt)))
 is_part Registry has =
-    Contains-append_right (map OfType (range_with_len 0 64) ++ map OfResource (range_with_len 0 64)) (Registry ∷ [])
+    Contains-append_right (map OfType (range_with_len 0 MAX_TYPES) ++ map OfResource (range_with_len 0 MAX_RESOURCES)) (Registry ∷ [])
     Registry (Contains-head Registry [])
 
 -- each need is one of the parts
 abbrev IsWithin : Needs → Type 0
-IsWithin n = (p : Part) → IsTrue (needs_any n p) → HasPart 64 64 p
+IsWithin n = (p : Part) → IsTrue (needs_any n p) → HasPart MAX_TYPES MAX_RESOURCES p
 
 -- a part at which the needs are in conflict
 abbrev conflict_at : Needs → Needs → Part → Bool
@@ -43,7 +43,7 @@ conflict_at_is : (m n : Needs) (a b : Access) (p : Part) → IsAccessOf m a → 
     → IsTrue (conflict_at m n p) ↔ (IsTrue (writes a p && uses b p) ⊎ IsTrue (writes b p && uses a p))
 conflict_at_is m n a b p ma nb = grind (arith, cases_Bool, ma.reads p, ma.writes p, nb.reads p, nb.writes p)
 
-conflict_within : (m n : Needs) (p : Part) → IsWithin m → IsTrue (conflict_at m n p) → HasPart 64 64 p
+conflict_within : (m n : Needs) (p : Part) → IsWithin m → IsTrue (conflict_at m n p) → HasPart MAX_TYPES MAX_RESOURCES p
 conflict_within m n p within t = within p (grind (arith, cases_Bool))
 
 conflict_is : (m n : Needs) (a b : Access) → IsAccessOf m a → IsAccessOf n b → IsWithin m

@@ -4,7 +4,7 @@ use Rattle.std.proofs.lemmas.{Bool.cases_Bool, Bool.Decides.eqb_tells}
 use Rattle.msg_buffer.specs.Prelude.{ClearsFit, GoesOn, History, IsSound, OnlyGrows, ReadsFit, clear, count, write}
 use Rattle.msg_buffer.proofs.{Growth.only_grows, Tiles.clears_fit, Tiles.reads_fit}
 use Rattle.msg_world.specs.{Prelude.WorldState, Prelude.after_update, Prelude.by, Prelude.with_history, declared.record.Record.Record, Prelude.Values}
-use Rattle.msg_system.specs.{declared.op.Op.Op, declared.op.Op.TheVariants.Write, declared.op.Op.TheVariants.Batch, declared.op.Op.TheVariants.Forward, declared.op.Op.TheVariants.Drain}
+use Rattle.msg_system.specs.{declared.limits.TheConstants.MAX_OPS, declared.op.Op.Op, declared.op.Op.TheVariants.Write, declared.op.Op.TheVariants.Batch, declared.op.Op.TheVariants.Forward, declared.op.Op.TheVariants.Drain}
 use Rattle.msg_system.specs.Prelude.{AfterProgram, Job, Meaning, after_at_most, after_job, after_op, again_by, next_op, one_more, took, turn}
 use Rattle.msg_frames.specs.Prelude.{Frame, ListsOnlyGrow, State, after_posts, after_turn_of, after_turns_of, before_turns, frame, frame_in}
 use Rattle.msg_frames.specs.Frames.{turn_order}
@@ -69,7 +69,7 @@ module _ {V : Type 0} {values : Values V} (R : History (Record V) → History (R
 
   pub job_changes : (j : Job V) (w : WorldState values) → InEach R w (after_job j w).state
   unfolding turn
-  job_changes j w t = grind (arith, cases_Bool, kept.same (w.histories t), ops_change 64 j.system w t)
+  job_changes j w t = grind (arith, cases_Bool, kept.same (w.histories t), ops_change MAX_OPS j.system w t)
 
   pub turns_change : (order : List ℕ) (s : State values) → InEach R s.world (after_turns_of order s).state.world
   turns_change [] s t = kept.same _

@@ -4,7 +4,7 @@ use Rattle.std.specs.List.{list_any}
 use Rattle.std.proofs.lemmas.{Bool.cases_Bool, Bool.false≢true, List.Elements.All-cons, List.Elements.All-nil, List.FromFn.get_or-map-range_with_len}
 use Rattle.msg_buffer.specs.Prelude.{OnlyGrows}
 use Rattle.msg_world.specs.{Prelude.WorldState, declared.record.Record.Record}
-use Rattle.msg_system.specs.{Prelude.IsInOrder, Prelude.Job, Prelude.after_job, Prelude.after_start, Prelude.of_program, Prelude.program_needs, Prelude.started_places, declared.program.Program.Program}
+use Rattle.msg_system.specs.{Prelude.IsInOrder, Prelude.Job, Prelude.after_job, Prelude.after_start, Prelude.of_program, Prelude.program_needs, Prelude.started_places, declared.limits.TheConstants.MAX_OPS, declared.program.Program.Program}
 use Rattle.msg_frames.specs.Prelude.{Frame, NoCycle, ReadsAllWhenWoken, Skipped, State, WhoseProgramReadsAll, WhoseProgramReadsAllWhenWoken, after_turn_of, after_turns_of, before_turns, counts, frame, has_begun, reads_all}
 use Rattle.msg_frames.specs.Frames.{turn_order}
 use Rattle.msg_frames.proofs.Functions.{order_is}
@@ -13,7 +13,7 @@ use Rattle.msg_frames.proofs.{BeforeTurns.Prepares, BeforeTurns.comes, BeforeTur
 use Rattle.msg_world.specs.Prelude.{Values}
 use Rattle.msg_frames.proofs.BeforeTurns as before
 
-module _ {V : Type 0} {values : Values V} (in_order : IsInOrder values) (program : Program V) (writer : ℕ) (few : length program.ops ≤ 64) where
+module _ {V : Type 0} {values : Values V} (in_order : IsInOrder values) (program : Program V) (writer : ℕ) (few : length program.ops ≤ MAX_OPS) where
   -- the system is that program
   abbrev IsProgram : Job V → Type 0
   IsProgram j = (places : ℕ → ℕ) × (j.system ≡ of_program program writer places)

@@ -3,7 +3,7 @@ use Rattle.std.proofs.Common.{◌≡◌, ◌+◌, ℕ, zero, suc, ◌≤◌, Lis
 use Rattle.std.proofs.lemmas.{Bool.cases_Bool, List.append-nil, List.length-map, List.map-append, List.map-id, List.Elements.All-append, List.Elements.All-cons, List.Elements.All-nil, List.Elements.All-weaker, Bool.Decides.eqb_tells, Simd.map-map, Grind.flat_map-append}
 use Rattle.msg_buffer.specs.Prelude.{Fits, GoesOn, History, IsSound, Stretch, Tile, count, given, message_of, next_place, pass_over, read}
 use Rattle.msg_world.specs.{Prelude.WorldState, declared.record.Record.Record, Prelude.Values}
-use Rattle.msg_system.specs.{declared.op.Op.Op, declared.op.Op.TheVariants.Read, declared.op.Op.TheVariants.Clear, declared.op.Op.TheVariants.Forward, declared.op.Op.TheVariants.Sum, declared.reply.Reply.Reply}
+use Rattle.msg_system.specs.{declared.limits.TheConstants.MAX_OPS, declared.op.Op.Op, declared.op.Op.TheVariants.Read, declared.op.Op.TheVariants.Clear, declared.op.Op.TheVariants.Forward, declared.op.Op.TheVariants.Sum, declared.reply.Reply.Reply}
 use Rattle.msg_system.specs.Prelude.{AfterOp, AfterProgram, Step, Job, Meaning, after_at_most, after_job, after_op, next_op, one_more, took, turn, with_place}
 use Rattle.msg_frames.specs.Prelude.{ReadEntry, GivesItsStretch, Moment, replies_of, entry_for, entry_of_read, entries_at, moments_at, outcome_of}
 use Rattle.msg_frames.proofs.HistoriesGrow.{BufferLaws, counts_more, Grows, goes_further, grown, op_changes, stays}
@@ -159,7 +159,7 @@ module _ {V : Type 0} {values : Values V} (laws : BufferLaws V) where
     turn_passes : (m : Meaning V) (w : WorldState values)
         → GoesPast t m.places w (moments_of t (turn m w).steps) (turn m w).places (turn m w).state
     unfolding turn
-    turn_passes m w = first_passes 64 m w
+    turn_passes m w = first_passes MAX_OPS m w
 
     pub job_passes : (j : Job V) (w : WorldState values) →
         let after = after_job j w in

@@ -4,7 +4,7 @@ use Rattle.std.specs.List.{list_any}
 use Rattle.std.proofs.lemmas.{Bool.cases_Bool, Bool.false≢true, Bool.or_cases, List.Folds.list_any-append, Bool.Decides.eqb_tells}
 use Rattle.msg_buffer.specs.Prelude.{IsSound, count}
 use Rattle.msg_world.specs.Prelude.{WorldState, Values}
-use Rattle.msg_system.specs.{Prelude.AfterProgram, Prelude.Job, Prelude.Meaning, Prelude.after_at_most, Prelude.after_job, Prelude.after_op, Prelude.next_op, Prelude.one_more, Prelude.ops_answered, Prelude.turn, declared.op.Op.Op}
+use Rattle.msg_system.specs.{Prelude.AfterProgram, Prelude.Job, Prelude.Meaning, Prelude.after_at_most, Prelude.after_job, Prelude.after_op, Prelude.next_op, Prelude.one_more, Prelude.ops_answered, Prelude.turn, declared.limits.TheConstants.MAX_OPS, declared.op.Op.Op}
 use Rattle.msg_system.proofs.Turns.{ops_answered-snoc}
 use Rattle.msg_frames.specs.Prelude.{Skipped, outcome_of, reads_all}
 use Rattle.msg_frames.proofs.{HistoriesGrow.BufferLaws, HistoriesGrow.counts_more, TellsEachOnce.tiles_rise, ReaderOverJob.first_passes, ReaderOverJob.next_moments, ReaderOverJob.next_passes}
@@ -42,7 +42,7 @@ module _ {V : Type 0} {values : Values V} (laws : BufferLaws V) (t : ℕ) where
       → IsTrue (list_any (reads_all t) (ops_answered (next_op m) (turn m w).replies))
       → count (w.histories t) ≤ (turn m w).places t
   unfolding turn
-  turn_takes m w sound within is = first_takes 64 m w sound within is
+  turn_takes m w sound within is = first_takes MAX_OPS m w sound within is
 
   -- so a job whose last turn read all goes past all that it found
   pub job_takes : (j : Job V) (w : WorldState values) → IsSound (w.histories t) → j.system.places t ≤ count (w.histories t)

@@ -4,7 +4,7 @@ use Rattle.std.specs.List.{enumerate_from}
 use Rattle.std.proofs.lemmas.{Bool.cases_Bool, Bool.Decides.eqb_tells, List.length-map, List.map-append, Grind.flat_map-append}
 use Rattle.msg_buffer.specs.Prelude.{Entry, History, count, has_room, stamped, write}
 use Rattle.msg_world.specs.{Prelude.WorldState, Prelude.after_update, Prelude.by, declared.record.Record.Record, declared.record.TheConstants.HOST, Prelude.Values}
-use Rattle.msg_system.specs.{declared.op.Op.Op, declared.op.Op.TheVariants.Write, declared.op.Op.TheVariants.Batch, declared.op.Op.TheVariants.Forward, declared.op.Op.TheVariants.Drain, declared.reply.Reply.Reply}
+use Rattle.msg_system.specs.{declared.limits.TheConstants.MAX_OPS, declared.op.Op.Op, declared.op.Op.TheVariants.Write, declared.op.Op.TheVariants.Batch, declared.op.Op.TheVariants.Forward, declared.op.Op.TheVariants.Drain, declared.reply.Reply.Reply}
 use Rattle.msg_system.specs.Prelude.{AfterOp, AfterProgram, Step, Job, Meaning, after_at_most, after_job, after_op, again_by, next_op, one_more, took, turn}
 use Rattle.msg_frames.specs.Prelude.{AreAnswered, Frame, IsSoundState, IsWrittenOnce, Turn, outcome_of, post_replies, replies_of, State, after_posts, after_turn_of, after_turns_of, all_written, before_turns, frame, post_steps, run, turns_steps, wrote}
 use Rattle.msg_frames.specs.Frames.{turn_order}
@@ -87,7 +87,7 @@ module _ {V : Type 0} {values : Values V} (t : ℕ) where
   turn_writes : (m : Meaning V) (w : WorldState values)
       → IsWrittenOnce t w (by_system m.writer (turn m w).steps) (turn m w).state
   unfolding turn
-  turn_writes m w = first_write 64 m w
+  turn_writes m w = first_write MAX_OPS m w
 
   job_writes : (i : ℕ) (j : Job V) (w : WorldState values) → j.system.writer ≡ i
       → IsWrittenOnce t w (by_system i (after_job j w).steps) (after_job j w).state
@@ -163,7 +163,7 @@ module _ {V : Type 0} {values : Values V} where
 
   turn_answered : (i : ℕ) (m : Meaning V) (w : WorldState values) → Answers i (turn m w).steps (turn m w).replies
   unfolding turn
-  turn_answered i m w = first_answered i 64 m w
+  turn_answered i m w = first_answered i MAX_OPS m w
 
 module _ {V : Type 0} where
   abbrev told_in : Turn V → List (ℕ × Reply V)

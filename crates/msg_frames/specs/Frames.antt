@@ -2,7 +2,7 @@
 use Rattle.std.specs.Prelude.{◌≡◌, ℕ, suc, ◌<◌, ◌==◌, List, [], ◌∷◌, ◌++◌, ◌&&◌, ◌||◌, IsTrue, length, map, Option, Some, None, if◌then◌else◌, max, nat_le, Bool}
 use Rattle.std.specs.List.{list_any, range_with_len}
 use Rattle.msg_buffer.specs.Prelude.{count, write}
-use Rattle.msg_world.specs.{Prelude.WorldState, Prelude.after_update, Prelude.by, Prelude.with_history, Prelude.HasPart, Prelude.Part, Prelude.OfType, Prelude.OfResource, Prelude.Registry, declared.access.Access.Access, declared.record.TheConstants.HOST, Prelude.Values}
+use Rattle.msg_world.specs.{Prelude.WorldState, Prelude.after_update, Prelude.by, Prelude.with_history, Prelude.HasPart, Prelude.Part, Prelude.OfType, Prelude.OfResource, Prelude.Registry, declared.access.Access.Access, declared.limits.TheConstants.MAX_RESOURCES, declared.limits.TheConstants.MAX_TYPES, declared.record.TheConstants.HOST, Prelude.Values}
 use Rattle.msg_order.specs.{Prelude.Graph, Prelude.access_of, Prelude.settled, Prelude.turns, declared.rule.Rule.Rule}
 use Rattle.msg_system.specs.{declared.reply.Reply.Reply, declared.op.Op.TheVariants.Write}
 use Rattle.msg_system.specs.Prelude.{AfterJob, Step, IsAccessOf, Job, Needs, after_job, asked_started, needs_any, numbers_for, after_start, with_conditions, write_reply}
@@ -180,9 +180,10 @@ pub record AreAccessesOf {V : Type 0} {values : Values V} (s : State values)
 
 -- ---- frames in the settled order
 
--- the parts that a world may have: at most 64 types, 64 resources, and the registry
+-- the parts that a world may have: its types, its resources, and the registry
 unfoldable pub parts : List Part
-parts = (map OfType (range_with_len 0 64) ++ map OfResource (range_with_len 0 64)) ++ Registry ∷ []
+parts = (map OfType (range_with_len 0 MAX_TYPES) ++ map OfResource (range_with_len 0 MAX_RESOURCES))
+    ++ Registry ∷ []
 
 -- one of two writes a part that the other reads or writes
 abbrev pub needs_conflict : Needs → Needs → Bool
@@ -224,7 +225,7 @@ module _ {V : Type 0} {values : Values V} where
   -- each system needs only parts that a world may have
   abbrev pub UsesParts : State values → Type 0
   UsesParts s = (i : ℕ) → i < s.systems → (p : Part)
-      → IsTrue (needs_any (member_needs (s.members i)) p) → HasPart 64 64 p
+      → IsTrue (needs_any (member_needs (s.members i)) p) → HasPart MAX_TYPES MAX_RESOURCES p
 
 module _ {V : Type 0} where
   -- the systems in the order in which the log has their turns

@@ -2,7 +2,7 @@
 use Rattle.std.specs.Prelude.{◌≡◌, ◌≢◌, ℕ, ◌<◌, ◌≤◌, ◌==◌, Bool, false, List, [], ◌∷◌, ◌++◌, Contains, All, None, IsTrue, length}
 use Rattle.std.specs.List.{list_any}
 use Rattle.msg_buffer.specs.Prelude.{IsPresent, count, update}
-use Rattle.msg_system.specs.{Prelude.of_program, declared.op.Op.Op, declared.op.Op.TheVariants.Read, declared.op.Op.TheVariants.Forward, declared.op.Op.TheVariants.Sum, declared.program.Program.Program}
+use Rattle.msg_system.specs.{Prelude.of_program, declared.limits.TheConstants.MAX_OPS, declared.op.Op.Op, declared.op.Op.TheVariants.Read, declared.op.Op.TheVariants.Forward, declared.op.Op.TheVariants.Sum, declared.program.Program.Program}
 use Rattle.msg_frames.specs.{declared.frame.Frame.Frame, declared.log.Outcome.TheVariants.Skipped, CompleteRun.entries_in_run, Frames.frame, Frames.run, Frames.turn_order, Frames.State, Frames.after_turns_of, Frames.before_turns, Frames.has_begun, Soundness.IsSoundState, Soundness.NoCycle, Moments.reader_place}
 use Rattle.msg_world.specs.Prelude.{Values}
 
@@ -81,14 +81,14 @@ WhoReadsEachFrameMissesNothing {V} values = (f : Frame V) (frames : List (Frame 
     → NothingDrained t s (run (f ∷ frames) s).state
     → MissesNothing i t frames (frame f s).state
 
--- A system that has joined, has no conditions, and whose program of at most 64 ops reads the type
--- without limit, reads all of it in a frame, and keeps its program.
+-- A system that has joined, has no conditions, and whose program of at most `MAX_OPS` ops reads the
+-- type without limit, reads all of it in a frame, and keeps its program.
 abbrev pub WhoseProgramReadsAll : {V : Type 0} → Values V → Type 0
 WhoseProgramReadsAll {V} values = (f : Frame V) (s : State values) (i t : ℕ)
     (program : Program V) (writer : ℕ) (places : ℕ → ℕ)
     → NoCycle s → i < s.systems → IsTrue (has_begun s i)
     → (s.members i).job ≡ record { system = of_program program writer places; conditions = [] }
-    → length program.ops ≤ 64 → IsTrue (list_any (reads_all t) program.ops)
+    → length program.ops ≤ MAX_OPS → IsTrue (list_any (reads_all t) program.ops)
     → ReadsAll i t f s
     × ((later : ℕ → ℕ) × (((frame f s).state.members i).job
     ≡ record { system = of_program program writer later; conditions = [] }))

@@ -3,7 +3,7 @@ use Rattle.std.specs.Prelude.{◌≡◌, ℕ, ◌<◌, ◌≤◌, List, [], ◌�
 use Rattle.std.specs.List.{list_any}
 use Rattle.msg_buffer.specs.Prelude.{IsPresent, count}
 use Rattle.msg_world.specs.Prelude.{Values}
-use Rattle.msg_system.specs.{Prelude.of_program, declared.condition.Probe.TheVariants.OnMessage, declared.program.Program.Program}
+use Rattle.msg_system.specs.{Prelude.of_program, declared.limits.TheConstants.MAX_OPS, declared.condition.Probe.TheVariants.OnMessage, declared.program.Program.Program}
 use Rattle.msg_frames.specs.{declared.frame.Frame.Frame, declared.log.Outcome.TheVariants.Skipped, Frames.State, Frames.after_turns_of, Frames.before_turns, Frames.frame, Frames.has_begun, Frames.run, Frames.turn_order, Moments.reader_place, Soundness.IsSoundState, UpToDate.IsUpToDate, UpToDate.MissesNothing, UpToDate.NothingDrained, UpToDate.reads_all}
 
 -- The one condition of system i is that a message of type t came. What stands from the reader's
@@ -62,11 +62,11 @@ NoWakeUpIsLost {V} values = (frames : List (Frame V)) (s : State values) (i t : 
     → MissesNothing i t frames s × IsWokenBy t i (run frames s).state
     × IsUpToDate (run frames s).state i t
 
--- A system whose program of at most 64 ops reads the type without limit reads all when it is woken,
--- and keeps its program.
+-- A system whose program of at most `MAX_OPS` ops reads the type without limit reads all when it is
+-- woken, and keeps its program.
 abbrev pub WhoseProgramReadsAllWhenWoken : {V : Type 0} → Values V → Type 0
 WhoseProgramReadsAllWhenWoken {V} values = (frames : List (Frame V)) (s : State values) (i t : ℕ)
     (program : Program V) (writer : ℕ) (places : ℕ → ℕ)
     → (s.members i).job.system ≡ of_program program writer places
-    → length program.ops ≤ 64 → IsTrue (list_any (reads_all t) program.ops)
+    → length program.ops ≤ MAX_OPS → IsTrue (list_any (reads_all t) program.ops)
     → ReadsAllWhenWoken i t frames s

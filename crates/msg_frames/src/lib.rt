@@ -4,6 +4,7 @@
 mod account;
 mod frame;
 pub mod laws;
+mod limits;
 mod log;
 mod place;
 pub mod reader_laws;
@@ -11,6 +12,7 @@ mod totals;
 
 pub use account::Account;
 pub use frame::Frame;
+pub use limits::LAST_JOIN;
 pub use log::{Log, Outcome, Turn};
 pub use msg_world::Items;
 pub use place::Place;

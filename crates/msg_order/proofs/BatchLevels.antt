@@ -2,6 +2,7 @@
 use Rattle.std.proofs.Common.{◌≡◌, ℕ, zero, suc, ◌+◌, ◌<◌, ◌≤◌, Bool, true, false, not, ◌&&◌, List, [], ◌∷◌, length, refl, sym, ap, ◌∙◌, inl, inr, arith, ◌↔◌, Contains, All, filter}
 use Rattle.std.specs.{List.range_with_len, List.Sorted.IsStrictlyIncreasing}
 use Rattle.std.proofs.lemmas.{Bool.cases_Bool, Bool.cases_eq, Bool.false_from_ne_true, List.Elements.All-cons, List.Filters.length-filter_both, List.FromFn.length-range_with_len, List.FromFn.get_or-range_with_len, List.Kept.IsStrictlyIncreasing-filter}
+use Rattle.msg_world.specs.declared.limits.TheConstants.{MAX_SYSTEMS}
 use Rattle.msg_order.specs.{Prelude.Graph, Prelude.IsAcyclic, Prelude.IsBatchNumber, Prelude.SystemSet, Prelude.batch_at, Prelude.batches_of, Prelude.follows, Graph.path, inner.Paths.set_at, inner.Paths.ArePaths, inner.SystemSet.has, inner.SystemSet.meets}
 use Rattle.msg_order.proofs.{SystemSets.meets-found, SystemSets.meets-true, Elements.not_in_none, Elements.filter-Contains, Elements.Contains-filter, Elements.Contains-list_any, Elements.Contains-range, Elements.list_any-Contains, Chains.Ends, Chains.ends_along, Chains.ends_at_most, Chains.ends_less, Chains.ends_number, Chains.number_ends, PathTest.edge_path, PathTest.no_path, PathTest.path_trans, PathTest.same_test, PathTest.to_Path}
 
@@ -110,7 +111,7 @@ module _ (g : Graph) (left : ℕ → Bool) (n : ℕ) where
     levels_done free empty (suc steps) = rw (none_pass left (range_with_len 0 n) (level_none free empty)) refl
 
     -- the sets of the code tell which of them have one before them
-    pub sets_stop : (before : List SystemSet) (set : SystemSet) → ArePaths g before → n ≤ 256
+    pub sets_stop : (before : List SystemSet) (set : SystemSet) → ArePaths g before → n ≤ MAX_SYSTEMS
         → ((i : ℕ) → left i ≡ has set i) → (i : ℕ) → stops i ≡ meets (set_at before i) set
     sets_stop before set paths few is i = same_test _ _
         (λ e. let f = stops_by i e in grind (arith, f.1, paths f.0 i, within f.0, is f.0, meets-found (set_at before i) set f.0))

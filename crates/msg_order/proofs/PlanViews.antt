@@ -4,7 +4,7 @@ use Rattle.std.specs.List.{range_with_len}
 use Rattle.std.proofs.lemmas.{Bool.cases_lt, Bool.false_from_ne_true, List.get_or_past, List.FromFn.fill_by_all, List.FromFn.get_or-map-range_with_len, List.FromFn.length-map-range_with_len}
 use Rattle.msg_order.specs.{Prelude.Graph, Prelude.IsAmong, Prelude.IsEdge, Prelude.IsLawfulOrder, Prelude.IsPlanOf, Prelude.PlanView, Prelude.Rule, Prelude.SystemSet, Prelude.has_joined, inner.Paths.comes_before, inner.Paths.ArePaths, inner.Paths.AreKept, inner.Paths.IsSetOf, inner.Paths.square, inner.Paths.view_of, inner.SystemSet.has}
 use Rattle.msg_order.proofs.{Elements.filter-Contains, Elements.Contains-filter, Elements.Contains-flat_map, Elements.Contains-map, Elements.Contains-range, Chains.edge_is_path, Chains.path_among, PathTest.to_Path, SetPaths.joined_in, TurnOrders.kept_along}
-use Rattle.msg_world.specs.declared.access.Access.{Access}
+use Rattle.msg_world.specs.{declared.limits.TheConstants.MAX_SYSTEMS, declared.access.Access.Access}
 
 Contains-square : (n i j : ℕ) → i < n → j < n → Contains (square n) (i, j)
 Contains-square n i j h l =
@@ -33,7 +33,7 @@ pub systems-view : (joined : List Bool) (set : SystemSet) (n : ℕ) → length j
 systems-view joined set n len is = sym (fill_by_all (has set) joined n false len (λ k lt. sym (is k)))
 
 -- the sets of a plan lead among the joined systems
-pub sets_kept : (g : Graph) (joined : List Bool) (before : List SystemSet) (set : SystemSet) → length before ≤ 256
+pub sets_kept : (g : Graph) (joined : List Bool) (before : List SystemSet) (set : SystemSet) → length before ≤ MAX_SYSTEMS
     → length joined ≡ length before → ArePaths g before → IsSetOf joined set → IsAmong joined g → AreKept before set
 sets_kept g joined before set few len paths is among = record {
   few = few;

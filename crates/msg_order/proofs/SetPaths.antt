@@ -3,7 +3,7 @@ use Rattle.std.proofs.Common.{◌≡◌, ℕ, zero, suc, ◌+◌, ◌-◌, ◌<�
 use Rattle.std.specs.List.{list_any, range_with_len}
 use Rattle.std.proofs.lemmas.{Bool.cases_Bool, List.append-nil, List.get_or-map, List.length-map, List.take-map, List.get_or-take, List.get_or_past, Simd.get_or-replicate, List.Elements.All-head, List.Elements.All-tail, List.Elements.filter_more, List.Elements.Contains-append_left, List.Elements.Contains-push, List.Elements.Contains-push_cases, Bool.Decides.eqb_tells, Bool.cases_eq, Bool.cases_lt, Bool.or_left, Bool.or_right, Bool.or_cases, Bool.and_parts, Bool.false≢true, Bool.false_from_ne_true, Bool.eqb-true, Bool.eq-eqb}
 use Rattle.msg_order.specs.Prelude.{Graph, IsAcyclic, IsLowestOnCycle, NameSystemsBelow, Rule, SystemSet, TellsConflicts, edges_of, has_joined, rules_among, settle}
-use Rattle.msg_world.specs.declared.access.Access.{Access}
+use Rattle.msg_world.specs.{declared.limits.TheConstants.MAX_SYSTEMS, declared.access.Access.Access}
 use Rattle.msg_order.specs.{inner.SystemSet.has, inner.SystemSet.meets, inner.SystemSet.no_set, Graph.path, inner.Paths.set_at, inner.Paths.comes_before, inner.Paths.AreInConflict, inner.Paths.ArePaths, inner.Paths.AreStarts, inner.Paths.conflict_among}
 use Rattle.msg_order.proofs.{SystemSets.has-no_set, SystemSets.meets-found, SystemSets.meets-true, Elements.Contains-tail, Elements.Contains-cases, Elements.Contains-list_any, Elements.Contains-range, Elements.list_any-Contains, Elements.range-Contains, PathTest.path_trans, PathTest.to_Path, PathTest.no_Path, PathTest.same_test, PathTest.same_paths, SettledPairs.grown_paths, SettledPairs.reaches, SettledPairs.settle_row, SettledPairs.settle_append, SettledPairs.pairs_until, SettledPairs.pairs_until-more}
 
@@ -58,7 +58,7 @@ starts_more before new from to starts more are adds is i j e =
 
 -- One edge.
 pub adds_edge : (g : Graph) (before new : List SystemSet) (from later : ℕ) (to : SystemSet) → ArePaths g before
-    → AddsEdges before from to new → later < 256 → ((k : ℕ) → has to k ≡ (k == later))
+    → AddsEdges before from to new → later < MAX_SYSTEMS → ((k : ℕ) → has to k ≡ (k == later))
     → ArePaths ((from, later) ∷ g) new
 adds_edge g before new from later to h s few only i j =
     grind (arith, eq-eqb, eqb-true, meets-found, meets-true, or_cases, or_left, or_right, same_test)
@@ -101,7 +101,7 @@ TellsLater conflict before i later = (j : ℕ) → IsTrue (has later j)
 
 -- the pairs of system i with the later ones
 pub row_settles : (conflict : ℕ → ℕ → Bool) (g : Graph) (n i : ℕ) (before new : List SystemSet) (later : SystemSet)
-    → n ≤ 256 → i < n → ((j : ℕ) → IsTrue (conflict i j) → j < n)
+    → n ≤ MAX_SYSTEMS → i < n → ((j : ℕ) → IsTrue (conflict i j) → j < n)
     → TellsLater conflict (set_at before i) i later → AddsEdges before i later new
     → ArePaths (settle conflict g (pairs_until n i)) before → ArePaths (settle conflict g (pairs_until n (i + 1))) new
 row_settles conflict g n i before new later few lt below tells adds way =

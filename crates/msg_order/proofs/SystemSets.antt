@@ -2,9 +2,9 @@
 use Rattle.std.proofs.Common.{◌≡◌, ℕ, ◌+◌, ◌*◌, ◌/◌, ◌^◌, ◌%◌, ◌<◌, ◌≤◌, Bool, true, false, not, ◌&&◌, ◌||◌, List, get_or, length, refl, arith, w64, get_or-set_same, get_or-set_other, slice_set, ◌==◌, bit_and, bit_or, ◌≢◌}
 use Rattle.std.specs.{Int.bit_not, Int.trailing_zeros, List.list_any, List.range_with_len}
 use Rattle.std.proofs.lemmas.{Bool.cases_eq, Bool.and_parts, Bool.and_from, Bool.eq-eqb, Bool.ne_eqb, Bool.false_from_ne_true, List.get_or_past}
-use Rattle.msg_world.specs.Prelude.{has_bit}
+use Rattle.msg_world.specs.{Prelude.has_bit, declared.limits.TheConstants.MAX_SYSTEMS}
 use Rattle.msg_world.proofs.Bits.{has_bit-zero, has_bit-set, has_bit-unset, has_bit-and, has_bit-or, next_is_below, next_is_set, none_before_next, none_from}
-use Rattle.msg_order.specs.{Prelude.SystemSet, inner.SystemSet.has, inner.SystemSet.meets, inner.SystemSet.no_set}
+use Rattle.msg_order.specs.{Prelude.SystemSet, declared.system_set.TheConstants.WORDS, inner.SystemSet.has, inner.SystemSet.meets, inner.SystemSet.no_set}
 use Rattle.msg_order.proofs.Elements.{list_any-Contains, Contains-list_any, Contains-range, range-Contains}
 
 -- a test holds of a number below n just where it holds of one in the range of n numbers from 0
@@ -22,7 +22,7 @@ pub none_below : (test : ℕ → Bool) (n : ℕ) → ((k : ℕ) → k < n → te
 none_below test n none = grind (arith, false_from_ne_true, below_some)
 
 -- one word was changed in one bit
-words-set : (words : List ℕ) (new j k : ℕ) (f : Bool → Bool → Bool) → length words ≡ 4 → k < 256
+words-set : (words : List ℕ) (new j k : ℕ) (f : Bool → Bool → Bool) → length words ≡ WORDS → k < MAX_SYSTEMS
     → ((b : Bool) → f false b ≡ b)
     → has_bit new (j % 64) ≡ f (j % 64 == k % 64) (has_bit (get_or words (k / 64) 0) (j % 64))
     → has_bit (get_or (slice_set words (k / 64) new) (j / 64) 0) (j % 64)
@@ -31,7 +31,7 @@ words-set words new j k f l h same is =
     grind (arith, cases_eq, eq-eqb, get_or-set_other, get_or-set_same, ne_eqb)
 
 -- `words[k / 64] |= 1 << (k % 64)`
-pub words-insert : (words : List ℕ) (j k : ℕ) → length words ≡ 4 → k < 256 →
+pub words-insert : (words : List ℕ) (j k : ℕ) → length words ≡ WORDS → k < MAX_SYSTEMS →
     has_bit (get_or (slice_set words (k / 64) (bit_or (get_or words (k / 64) 0) (1 * 2 ^ (k % 64) % 2 ^ 64)))
     (j / 64) 0) (j % 64)
     ≡ ((j == k) || has_bit (get_or words (j / 64) 0) (j % 64))
@@ -39,7 +39,7 @@ words-insert words j k l h = words-set words _ j k (λ a b. a || b) l h (λ b. r
     (has_bit-set (get_or words (k / 64) 0) (k % 64) (j % 64) (omega arith))
 
 -- `words[k / 64] &= !(1 << (k % 64))`
-pub words-remove : (words : List ℕ) (j k : ℕ) → length words ≡ 4 → k < 256 →
+pub words-remove : (words : List ℕ) (j k : ℕ) → length words ≡ WORDS → k < MAX_SYSTEMS →
     has_bit (get_or (slice_set words (k / 64)
     (bit_and (get_or words (k / 64) 0) (bit_not w64 (1 * 2 ^ (k % 64) % 2 ^ 64)))) (j / 64) 0) (j % 64)
     ≡ (not (j == k) && has_bit (get_or words (j / 64) 0) (j % 64))
@@ -52,16 +52,16 @@ pub has-no_set : (k : ℕ) → has no_set k ≡ false
 unfolding has
 has-no_set k = grind arith
 
-pub meets-found : (s t : SystemSet) (k : ℕ) → k < 256 → has s k ≡ true → has t k ≡ true → meets s t ≡ true
+pub meets-found : (s t : SystemSet) (k : ℕ) → k < MAX_SYSTEMS → has s k ≡ true → has t k ≡ true → meets s t ≡ true
 unfolding meets
-meets-found s t k h a b = some_below (λ i. has s i && has t i) 256 k h (and_from (has s k) (has t k) a b)
+meets-found s t k h a b = some_below (λ i. has s i && has t i) MAX_SYSTEMS k h (and_from (has s k) (has t k) a b)
 
-pub meets-true : (s t : SystemSet) → meets s t ≡ true → (k : ℕ) × ((k < 256) × ((has s k ≡ true) × (has t k ≡ true)))
+pub meets-true : (s t : SystemSet) → meets s t ≡ true → (k : ℕ) × ((k < MAX_SYSTEMS) × ((has s k ≡ true) × (has t k ≡ true)))
 unfolding meets
-meets-true s t h = let f = below_some (λ i. has s i && has t i) 256 h in (f.0, grind (arith, f.1, and_parts))
+meets-true s t h = let f = below_some (λ i. has s i && has t i) MAX_SYSTEMS h in (f.0, grind (arith, f.1, and_parts))
 
--- a set of four words has no number from 256 on
-pub has-above : (s : SystemSet) (k : ℕ) → length s.words ≡ 4 → 256 ≤ k → has s k ≡ false
+-- a set has no number from `MAX_SYSTEMS` on
+pub has-above : (s : SystemSet) (k : ℕ) → length s.words ≡ WORDS → MAX_SYSTEMS ≤ k → has s k ≡ false
 unfolding has
 has-above s k l h = grind (arith, get_or_past, has_bit-zero)
 

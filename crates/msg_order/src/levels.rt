@@ -4,6 +4,7 @@ ghost use Rattle.std.specs.List.{range_with_len};
 ghost use Rattle.msg_order.specs.{Prelude.Graph, Prelude.IsAcyclic, Prelude.batches, inner.Paths.ArePaths, inner.Paths.IsSetOf, inner.Paths.is_ready, inner.Paths.set_at, inner.SystemSet.has, inner.SystemSet.meets};
 
 use crate::system_set::SystemSet;
+use msg_world::MAX_SYSTEMS;
 use std::alloc::{AllocError, Allocator};
 
 /// The next batch, which has each system that is left and that no system left precedes; and the
@@ -14,7 +15,7 @@ fn take_level<A: Allocator + Copy>(
     before: &[SystemSet],
     left: &SystemSet,
 ) -> Result<(Vec<u32, A>, SystemSet), AllocError>
-    requires few { length before.now ≤ 256 }
+    requires few { length before.now ≤ MAX_SYSTEMS }
     requires within { (k : ℕ) → has left.now k ≡ true → k < length before.now }
     ensures ready { IfOk result (λ r.
         r.0.items ≡ filter (is_ready before.now left.now) (range_with_len 0 (length before.now))) }
@@ -43,7 +44,7 @@ pub fn batches_of<A: Allocator + Copy>(
     before: &[SystemSet],
     joined: &SystemSet,
 ) -> Result<Vec<Vec<u32, A>, A>, AllocError>
-    requires few { length before.now ≤ 256 }
+    requires few { length before.now ≤ MAX_SYSTEMS }
     requires within { (k : ℕ) → has joined.now k ≡ true → k < length before.now }
     ensures batches { IfOk result (λ made. (g : Graph) (systems : List Bool)
         → ArePaths g before.now → IsSetOf systems joined.now

@@ -4,13 +4,13 @@ ghost use Rattle.msg_order.specs.{Prelude.Graph, Prelude.IsAcyclic, Prelude.IsLo
 
 use crate::Rule;
 use crate::system_set::SystemSet;
-use msg_world::Access;
+use msg_world::{Access, MAX_SYSTEMS};
 
 /// The systems of a set, and those to which a path leads from one of these. `starts` has each system
 /// from which a path leads on.
 #[tactic(auto, using(crate::proofs::SetPaths::meets_past, crate::proofs::SetPaths::leads_nowhere))]
 fn reached_from(before: &[SystemSet], starts: &SystemSet, to: &SystemSet) -> SystemSet
-    requires few { length before.now ≤ 256 }
+    requires few { length before.now ≤ MAX_SYSTEMS }
     requires starts { AreStarts before.now starts.now }
     ensures { (j : ℕ) → has result j ≡ (has to.now j || meets (set_at before.now j) to.now) }
 {
@@ -27,7 +27,7 @@ fn reached_from(before: &[SystemSet], starts: &SystemSet, to: &SystemSet) -> Sys
 
 /// Puts systems before each system of a set.
 fn put_before(before: &mut [SystemSet], reached: &SystemSet, earlier: &SystemSet)
-    requires few { length before.old ≤ 256 }
+    requires few { length before.old ≤ MAX_SYSTEMS }
     requires within { (k : ℕ) → has reached.now k ≡ true → k < length before.old }
     ensures { (i j : ℕ)
         → comes_before before.new i j
@@ -44,7 +44,7 @@ fn put_before(before: &mut [SystemSet], reached: &SystemSet, earlier: &SystemSet
 /// Each system from which a path leads on.
 #[tactic(auto, using(crate::proofs::SetPaths::none_past))]
 fn starts_of(before: &[SystemSet]) -> SystemSet
-    requires few { length before.now ≤ 256 }
+    requires few { length before.now ≤ MAX_SYSTEMS }
     ensures { AreStarts before.now result }
 {
     let mut starts = SystemSet::empty();
@@ -58,7 +58,7 @@ fn starts_of(before: &[SystemSet]) -> SystemSet
 /// leads on, before and after.
 #[tactic(auto, using(crate::proofs::SetPaths::starts_more, crate::proofs::SetPaths::adds_none))]
 pub fn add_edges(before: &mut [SystemSet], starts: &mut SystemSet, from: usize, to: &SystemSet)
-    requires few { length before.old ≤ 256 }
+    requires few { length before.old ≤ MAX_SYSTEMS }
     requires is_system { from < length before.old }
     requires within { (k : ℕ) → has to.now k ≡ true → k < length before.old }
     requires starts { AreStarts before.old starts.old }
@@ -80,7 +80,7 @@ pub fn add_edges(before: &mut [SystemSet], starts: &mut SystemSet, from: usize, 
 }
 
 fn only(system: usize) -> SystemSet
-    requires { system < 256 }
+    requires { system < MAX_SYSTEMS }
     ensures { (k : ℕ) → has result k ≡ (k == system) }
 {
     let mut set = SystemSet::empty();
@@ -90,7 +90,7 @@ fn only(system: usize) -> SystemSet
 
 /// Adds the rules among the joined systems as edges, where there is no path already.
 fn add_rules(before: &mut [SystemSet], rules: &[Rule], joined: &[bool])
-    requires few { length before.old ≤ 256 }
+    requires few { length before.old ≤ MAX_SYSTEMS }
     requires one_each { length joined.now ≡ length before.old }
     requires in_range { NameSystemsBelow (length before.old) rules.now }
     requires none_yet { ArePaths [] before.old }
@@ -117,7 +117,7 @@ fn are_in_conflict(accesses: &[Access], joined: &[bool], i: usize, j: usize) -> 
 
 /// The later systems that system i conflicts with, but for those that stand before it.
 fn later_conflicts(accesses: &[Access], joined: &[bool], i: usize, before: &SystemSet) -> SystemSet
-    requires few { length accesses.now ≤ 256 }
+    requires few { length accesses.now ≤ MAX_SYSTEMS }
     requires one_each { length joined.now ≡ length accesses.now }
     requires is_system { i < length accesses.now }
     ensures { (j : ℕ)
@@ -139,7 +139,7 @@ fn later_conflicts(accesses: &[Access], joined: &[bool], i: usize, before: &Syst
 /// Takes the pairs of systems in conflict in their order. For each system i it adds all edges to
 /// later systems at once: an edge from i makes no new path to i.
 fn settle_pairs(before: &mut [SystemSet], accesses: &[Access], joined: &[bool])
-    requires few { length before.old ≤ 256 }
+    requires few { length before.old ≤ MAX_SYSTEMS }
     requires one_each { length joined.now ≡ length before.old }
     requires all { length accesses.now ≡ length before.old }
     ensures { (g : Graph) → ArePaths g before.old
@@ -155,7 +155,7 @@ fn settle_pairs(before: &mut [SystemSet], accesses: &[Access], joined: &[bool])
 /// The lowest system that stands before itself.
 #[tactic(auto, using(crate::proofs::SetPaths::none_past))]
 fn lowest_before_itself(before: &[SystemSet]) -> Option<u32>
-    requires few { length before.now ≤ 256 }
+    requires few { length before.now ≤ MAX_SYSTEMS }
     ensures { MatchOption result ((s : ℕ) → comes_before before.now s s ≡ false)
         (λ s. (comes_before before.now s s ≡ true)
         × ((r : ℕ) → r < s → comes_before before.now r r ≡ false)) }
@@ -172,7 +172,7 @@ fn lowest_before_itself(before: &[SystemSet]) -> Option<u32>
 /// them.
 #[tactic(auto, using(crate::proofs::SetPaths::lowest_by_sets))]
 pub fn follow_rules(before: &mut [SystemSet], rules: &[Rule], joined: &[bool]) -> Option<u32>
-    requires few { length before.old ≤ 256 }
+    requires few { length before.old ≤ MAX_SYSTEMS }
     requires one_each { length joined.now ≡ length before.old }
     requires in_range { NameSystemsBelow (length before.old) rules.now }
     requires none_yet { ArePaths [] before.old }
@@ -191,7 +191,7 @@ pub fn settle(
     rules: &[Rule],
     joined: &[bool],
 ) -> Option<u32>
-    requires few { length before.old ≤ 256 }
+    requires few { length before.old ≤ MAX_SYSTEMS }
     requires one_each { length joined.now ≡ length before.old }
     requires all { length accesses.now ≡ length before.old }
     requires in_range { NameSystemsBelow (length before.old) rules.now }

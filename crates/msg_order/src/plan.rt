@@ -5,7 +5,7 @@ use crate::levels::batches_of;
 use crate::paths::settle;
 use crate::system_set::SystemSet;
 use crate::{PlanRefusal, Rule};
-use msg_world::Access;
+use msg_world::{Access, MAX_SYSTEMS};
 use std::alloc::{AllocError, Allocator, Global};
 use std::marker::Model;
 
@@ -35,7 +35,7 @@ impl<A: Allocator> Model for Plan<A> {
 }
 
 fn set_of(joined: &[bool]) -> SystemSet
-    requires { length joined.now ≤ 256 }
+    requires { length joined.now ≤ MAX_SYSTEMS }
     ensures { IsSetOf joined.now result }
 {
     let mut set = SystemSet::empty();
@@ -67,7 +67,7 @@ fn plan_over<A: Allocator + Copy>(
     rules: &[Rule],
     joined: &[bool],
 ) -> Result<Plan<A>, PlanRefusal>
-    requires few { length accesses.now ≤ 256 }
+    requires few { length accesses.now ≤ MAX_SYSTEMS }
     requires one_each { length joined.now ≡ length accesses.now }
     requires in_range { NameSystemsBelow (length accesses.now) rules.now }
     requires as_many { length before.old ≡ length accesses.now }
@@ -109,7 +109,7 @@ impl<A: Allocator + Copy> Plan<A> {
         rules: &[Rule],
         joined: &[bool],
     ) -> Result<Self, PlanRefusal>
-        requires few { length accesses.now ≤ 256 }
+        requires few { length accesses.now ≤ MAX_SYSTEMS }
         requires one_each { length joined.now ≡ length accesses.now }
         requires in_range { NameSystemsBelow (length accesses.now) rules.now }
 
@@ -121,7 +121,7 @@ impl<A: Allocator + Copy> Plan<A> {
         ensures no_memory { result ≡ Err NoMemory
             → IsAcyclic (rules_among joined.now rules.now) × (0 < length accesses.now) }
     {
-        let mut before = [SystemSet::empty(); 256];
+        let mut before = [SystemSet::empty(); MAX_SYSTEMS];
         plan_over(
             alloc,
             &mut before[..accesses.len()],

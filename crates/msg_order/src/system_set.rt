@@ -2,10 +2,17 @@
 
 ghost use Rattle.std.specs.Prelude.{◌≡◌, ◌==◌, ◌||◌, ◌&&◌, not, ℕ, ◌<◌, ◌≤◌, ◌↔◌, true, false, IsTrue};
 
-/// A set of systems, by their numbers below 256.
+use msg_world::MAX_SYSTEMS;
+
+/// How many words have a bit for each system.
+const WORDS: usize = MAX_SYSTEMS / 64;
+
+const _: () = prove!(MAX_SYSTEMS % 64 == 0);
+
+/// A set of systems, by their numbers below `MAX_SYSTEMS`.
 #[derive(Clone, Copy, Debug)]
 pub struct SystemSet {
-    words: [u64; 4],
+    words: [u64; WORDS],
 }
 
 impl SystemSet {
@@ -15,12 +22,12 @@ impl SystemSet {
     pub fn empty() -> Self
         ensures { (k : ℕ) → has result k ≡ false }
     {
-        SystemSet { words: [0; 4] }
+        SystemSet { words: [0; WORDS] }
     }
 
     /// Whether system `k` is in it.
     pub fn contains(&self, k: usize) -> bool
-        requires { k < 256 }
+        requires { k < MAX_SYSTEMS }
         ensures { result ≡ has self.now k }
     {
         (self.words[k / 64] >> (k % 64)) & 1 == 1
@@ -28,7 +35,7 @@ impl SystemSet {
 
     /// Adds system `k`.
     pub fn insert(&mut self, k: usize)
-        requires { k < 256 }
+        requires { k < MAX_SYSTEMS }
         ensures { (j : ℕ) → has self.new j ≡ (j == k || has self.old j) }
     {
         self.words[k / 64] |= 1u64 << (k % 64);
@@ -36,36 +43,36 @@ impl SystemSet {
 
     /// Takes system `k` out.
     pub fn remove(&mut self, k: usize)
-        requires { k < 256 }
+        requires { k < MAX_SYSTEMS }
         ensures { (j : ℕ) → has self.new j ≡ (not (j == k) && has self.old j) }
     {
         self.words[k / 64] &= !(1u64 << (k % 64));
     }
 
-    /// The first system in it from this number on; 256 where there is none.
+    /// The first system in it from this number on; `MAX_SYSTEMS` where there is none.
     pub fn next(&self, from: usize) -> usize
-        requires { from ≤ 256 }
+        requires { from ≤ MAX_SYSTEMS }
         ensures from_there { from ≤ result }
-        ensures at_most { result ≤ 256 }
-        ensures is_in { result < 256 → has self.now result ≡ true }
+        ensures at_most { result ≤ MAX_SYSTEMS }
+        ensures is_in { result < MAX_SYSTEMS → has self.now result ≡ true }
         ensures none_before { (k : ℕ) → from ≤ k → k < result → has self.now k ≡ false }
     {
         let mut k = from;
-        'words: while k < 256 {
+        'words: while k < MAX_SYSTEMS {
             let rest = self.words[k / 64] >> (k % 64);
             if rest != 0 {
                 return k + rest.trailing_zeros() as usize;
             }
             k = (k / 64 + 1) * 64;
         }
-        256
+        MAX_SYSTEMS
     }
 
     /// Adds all systems of the other set.
     pub fn union_with(&mut self, other: &SystemSet)
         ensures { (j : ℕ) → has self.new j ≡ (has self.old j || has other.now j) }
     {
-        for i in 0..4 {
+        for i in 0..WORDS {
             self.words[i] |= other.words[i];
         }
     }
@@ -74,7 +81,7 @@ impl SystemSet {
     pub fn meets(&self, other: &SystemSet) -> bool
         ensures { result ≡ meets self.now other.now }
     {
-        for i in 0..4 {
+        for i in 0..WORDS {
             if self.words[i] & other.words[i] != 0 {
                 return true;
             }

@@ -7,7 +7,7 @@ use Rattle.msg_system.specs.Prelude.{HasClash, Meaning, job_needs, needs_any, ne
 use Rattle.msg_frames.specs.Prelude.{State, first_state}
 use Rattle.msg_frames.specs.{declared.frame.Frame.Frame, declared.place.Place.Place}
 use Rattle.msg_system.specs.{declared.op.Op.Op, declared.op.Op.TheVariants.Forward, declared.op.Op.TheVariants.Sum}
-use Rattle.msg_scenario_data.specs.{declared.kind.Kind.Kind, declared.kind.Kind.TheVariants.Script, declared.kind.Kind.TheVariants.Relay, declared.kind.Kind.TheVariants.Tally, declared.scenario.Scenario.Scenario, declared.scenario.SystemSpec.SystemSpec}
+use Rattle.msg_scenario_data.specs.{declared.kind.Kind.Kind, declared.kind.Kind.TheVariants.Script, declared.kind.Kind.TheVariants.Relay, declared.kind.Kind.TheVariants.Tally, declared.limits.TheConstants.LAST_JOIN, declared.limits.TheConstants.MAX_OPS, declared.limits.TheConstants.MAX_RESOURCES, declared.limits.TheConstants.MAX_SYSTEMS, declared.limits.TheConstants.MAX_TYPES, declared.scenario.Scenario.Scenario, declared.scenario.SystemSpec.SystemSpec}
 
 -- ---- the first state
 
@@ -42,12 +42,12 @@ fits_kind _ _ = false
 
 -- a system of the scenario can be made, and added to an engine over the scenario's world
 pub record IsRunnableSystem (s : Scenario) (x : SystemSpec) : Type 0 where
-  pub few_ops : length x.program.ops ≤ 64
+  pub few_ops : length x.program.ops ≤ MAX_OPS
   pub fit_kind : IsTrue (fits_kind x.kind x.program.ops)
   pub fits : (p : Part) → IsTrue (needs_any (job_needs x.program.ops x.place.conditions) p)
       → HasPart (length s.types) (length s.resources) p
   pub no_clash : ¬ HasClash (program_needs x.program.ops)
-  pub joins : (1 ≤ x.place.join) × (x.place.join ≤ 10000)
+  pub joins : (1 ≤ x.place.join) × (x.place.join ≤ LAST_JOIN)
 
 -- each post of a frame is to a type that there is
 abbrev pub PostsAreToTypes : Scenario → Frame ℤ → Type 0
@@ -55,9 +55,9 @@ PostsAreToTypes s frame = All (λ p. p.0 < length s.types) frame.posts
 
 -- An engine can be made of the scenario, and all its frames can be run.
 pub record IsRunnable (s : Scenario) : Type 0 where
-  pub few_types : length s.types ≤ 64
-  pub few_resources : length s.resources ≤ 64
-  pub few_systems : length s.systems ≤ 256
+  pub few_types : length s.types ≤ MAX_TYPES
+  pub few_resources : length s.resources ≤ MAX_RESOURCES
+  pub few_systems : length s.systems ≤ MAX_SYSTEMS
   pub systems : All (IsRunnableSystem s) s.systems
   pub rules_in_range : NameSystemsBelow (length s.systems) s.rules
   pub acyclic : IsAcyclic (edges_of s.rules)

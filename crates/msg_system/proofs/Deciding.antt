@@ -2,7 +2,7 @@
 use Rattle.std.proofs.Common.{refl, ◌≡◌, ℕ, zero, suc, ◌+◌, ◌≤◌, ◌++◌, List, [], ◌∷◌, length, Option, Some, None, sym, arith, inl, inr, append_assoc, drop}
 use Rattle.std.proofs.{Math.Seq.drop-append_seam, lemmas.Bool.cases_Bool, lemmas.Bool.cases_eq, lemmas.Bool.false≢true, lemmas.List.length_push}
 use Rattle.msg_world.specs.{Prelude.SameLoan, Prelude.WorldState, declared.lent.Lent.Lent, Prelude.Values}
-use Rattle.msg_system.specs.{Prelude.Covers, Prelude.Needs, Prelude.Op, Prelude.OpRan, Prelude.Reply, Prelude.after_at_most, Prelude.one_more, Prelude.op_needs, inner.TurnRuns.AreAnswered, inner.TurnRuns.IsAfterProgram}
+use Rattle.msg_system.specs.{Prelude.Covers, Prelude.Needs, Prelude.Op, Prelude.OpRan, Prelude.Reply, Prelude.after_at_most, Prelude.one_more, Prelude.op_needs, declared.limits.TheConstants.MAX_OPS, inner.TurnRuns.AreAnswered, inner.TurnRuns.IsAfterProgram}
 use Rattle.msg_system.proofs.{Lendings.writable_is_shown, Runs.op_more, Turns.IsKept, Turns.ops_answered-snoc}
 
 -- ---- a turn, op after op
@@ -26,8 +26,8 @@ module _ {V : Type 0} {values : Values V} (next : List (Reply V) → Option (Op 
     asked : drop n out ≡ (after_at_most k next w ps s).replies
     asked = rw (long, far.same_replies) (drop-append_seam before _)
 
-    pub turn_over : k ≤ 64 → None ≡ next (drop n out) → IsAfterProgram (after_at_most 64 next w ps s) qs l before out
-    turn_over le h = rw (stays 64 k le (rw (← asked) (sym h))) far
+    pub turn_over : k ≤ MAX_OPS → None ≡ next (drop n out) → IsAfterProgram (after_at_most MAX_OPS next w ps s) qs l before out
+    turn_over le h = rw (stays MAX_OPS k le (rw (← asked) (sym h))) far
 
     pub turn_more : (op : Op V) (rs : ℕ → ℕ) (m : Lent V) (r : Reply V) → Some op ≡ next (drop n out) → OpRan values op w qs rs l m r
         → IsAfterProgram (after_at_most (k + 1) next w ps s) rs m before (out ++ r ∷ [])

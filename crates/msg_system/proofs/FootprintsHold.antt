@@ -4,6 +4,7 @@ use Rattle.std.proofs.{Math.Bool.or-false, Math.Path.fun_ext, lemmas.Bool.cases_
 use Rattle.msg_buffer.specs.Prelude.{History, count, unread}
 use Rattle.msg_world.specs.Prelude.{OfResource, OfType, Part, Registry, WorldState, content, Values}
 use Rattle.msg_world.specs.declared.record.Record.{Record}
+use Rattle.msg_system.specs.declared.limits.TheConstants.{MAX_OPS}
 use Rattle.msg_system.specs.Prelude.{AfterProgram, Agree, Asked, ConditionFootprint, HasFootprint, IsWithin, Job, JobFootprint, Meaning, OnMessage, Op, OpFootprint, Probe, Program, ProgramFootprint, Reply, ResourceEquals, TurnFootprint, Zero, after_asking, after_at_most, after_op, all_hold, conditions_of, probe_answer, given_by_program, is_part, needs_any, next_op, of_program, one_more, op_needs, op_parts, place_after, probe_part, some_condition_reads, turn, with_conditions}
 use Rattle.msg_system.proofs.{Runs.same_part_refl, Turns.IsKept, Turns.next_kept_to, Turns.program_so_far}
 
@@ -90,7 +91,7 @@ module _ {V : Type 0} (values : Values V) (m : Meaning V) where
 
 pub turn_footprint : {V : Type 0} {values : Values V} → TurnFootprint values
 unfolding turn
-turn_footprint {values} m = first_ops values m 64
+turn_footprint {values} m = first_ops values m MAX_OPS
 
 pub program_footprint : {V : Type 0} {values : Values V} → ProgramFootprint values
 program_footprint {V} {values} ops w ps =

@@ -1,7 +1,7 @@
 -- Runs of ops and of programs, from one op to the next.
 use Rattle.std.proofs.Common.{◌≡◌, ℕ, ◌<◌, ◌++◌, true, List, [], ◌∷◌, length, Some, get_or, refl, ap, arith, append_assoc, IsSome, slice_set}
 use Rattle.std.proofs.lemmas.{Bool.cases_eq, Bool.eq-eqb, Bool.ne_eqb, List.get_or_default, List.get_or-set_same, List.get_or-set_other}
-use Rattle.msg_world.specs.{Prelude.Part, Prelude.SameLoan, Prelude.WorldState, Prelude.same_part, Prelude.shown, Prelude.writable, declared.lent.Lent.Lent, Prelude.Values}
+use Rattle.msg_world.specs.{Prelude.Part, Prelude.SameLoan, Prelude.WorldState, Prelude.same_part, Prelude.shown, Prelude.writable, declared.limits.TheConstants.MAX_TYPES, declared.lent.Lent.Lent, Prelude.Values}
 use Rattle.msg_system.specs.Prelude.{AfterOp, AfterProgram, Step, Covers, Cursors, Op, OpRan, Reply, after_op, after_program, one_more, op_needs, op_parts, cursor_places, with_place}
 use Rattle.msg_system.specs.inner.TurnRuns.{IsAfterProgram}
 
@@ -19,7 +19,7 @@ pub covers_written : {V : Type 0} (op : Op V) (l : Lent V) (p : Part) → Covers
 covers_written op l p covers is = covers.writes p (rw is (same_part_refl p))
 
 -- one of the cursors of all types, as the array has it
-module _ (cs : Cursors) (t k d : ℕ) (long : length cs.by_type ≡ 64) (is : k ≡ t) (lt : t < 64) where
+module _ (cs : Cursors) (t k d : ℕ) (long : length cs.by_type ≡ MAX_TYPES) (is : k ≡ t) (lt : t < MAX_TYPES) where
   pub place_at : cursor_places cs t ≡ get_or cs.by_type k d
   place_at = rw is (get_or_default cs.by_type t 0 d (omega (arith, long, lt)))
 

@@ -3,6 +3,7 @@ use Rattle.std.proofs.Common.{◌≡◌, ℕ, zero, suc, ◌≤◌, ◌++◌, Bo
 use Rattle.std.proofs.{Math.Path.fun_ext, lemmas.Bool.and_from, lemmas.Bool.and_parts, lemmas.Bool.eqb-true, lemmas.Bool.false≢true, lemmas.List.append-nil, lemmas.List.append_cancel_left, lemmas.List.length-take-le, lemmas.List.take_more, lemmas.List.take_all, lemmas.List.Folds.list_any_at, lemmas.Option.get_or_from_slice_get, lemmas.Option.none-some, lemmas.Option.same_Some, lemmas.Option.slice_get_cases, lemmas.Option.slice_get_past, lemmas.Option.slice_get_within}
 use Rattle.msg_world.specs.{Prelude.Part, Prelude.Parts, Prelude.SameLoan, Prelude.WorldState, Prelude.taken_of, declared.lent.Lent.Lent, Prelude.Values}
 use Rattle.msg_system.specs.Prelude.{IsInOrder, Meaning, Needs, OneOpIsATurn, Op, Program, Ran, Reply, after_at_most, after_op, after_program, if_kept, is_none_or, is_part, keeps_to, may_read, next_op, of_program, only, op_needs, op_parts, ops_answered, program_needs, after_replies, turn}
+use Rattle.msg_system.specs.declared.limits.TheConstants.{MAX_OPS}
 use Rattle.msg_system.specs.inner.TurnRuns.{AreAnswered, HasReplies, ProgramRan, TurnRan}
 use Rattle.msg_system.proofs.Runs.{after_program-snoc, same_part_refl}
 
@@ -74,7 +75,7 @@ pub in_order : {V : Type 0} {values : Values V} → IsInOrder values
 unfolding turn
 in_order {V} program w ps s few =
     let m : Meaning V = of_program program w ps in
-    let is : turn m s ≡ after_program program.ops w ps s = program_so_far program 64 w ps s few in
+    let is : turn m s ≡ after_program program.ops w ps s = program_so_far program MAX_OPS w ps s few in
     (is, rw (answered_all program w ps (turn m s).replies (rw is (one_reply_each program.ops w ps s))) refl)
 
 -- ---- an op that keeps to what is needed
@@ -113,14 +114,14 @@ ran_turn old new l m taken before after ran same is are means =
     }
 
 pub ran_program : {V : Type 0} {values : Values V} (program : Program V) (w : ℕ) (ps qs : ℕ → ℕ) (l m : Lent V) (taken : Parts V) (before after : List (Reply V))
-    → length program.ops ≤ 64
+    → length program.ops ≤ MAX_OPS
     → ProgramRan values program.ops w ps qs l m before after → HasReplies before after (length program.ops) → SameLoan l m
     → taken ≡ taken_of m
     → Ran values (of_program program w ps) (of_program program w qs) l taken before after
 ran_program program w ps qs l m taken before after few ran replies same is =
     let all = answered_all program w ps replies.0 replies.2 in
     ran_turn (of_program program w ps) (of_program program w qs) l m taken before after
-    (λ s stands. rw (program_so_far program 64 w ps s few) (ran s stands)) same is
+    (λ s stands. rw (program_so_far program MAX_OPS w ps s few) (ran s stands)) same is
     (replies.0, replies.1, sym all, sym replies.2) (rw all refl)
 
 pub one_op_is_a_turn : {V : Type 0} {values : Values V} → OneOpIsATurn values

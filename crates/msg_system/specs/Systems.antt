@@ -1,7 +1,7 @@
 -- What a system means, and what its turn is.
 use Rattle.std.specs.Prelude.{◌≡◌, ℕ, zero, suc, ◌≤◌, ◌++◌, Option, Some, None, option_and_then, option_to_list, unwrap_or, List, [], ◌∷◌, length, slice_get, if◌then◌else◌}
 use Rattle.msg_world.specs.Prelude.{OfType, WorldState, Values}
-use Rattle.msg_system.specs.{declared.op.Op.Op, declared.program.Program.Program, declared.reply.Reply.Reply, declared.start.Start.Start, declared.start.Start.TheVariants.Zero, declared.start.Start.TheVariants.Current, Needs.Needs, Needs.keeps_to, Needs.program_needs, Programs.AfterOp, Programs.AfterProgram, Programs.after_op, Programs.after_program}
+use Rattle.msg_system.specs.{declared.limits.TheConstants.MAX_OPS, declared.op.Op.Op, declared.program.Program.Program, declared.reply.Reply.Reply, declared.start.Start.Start, declared.start.Start.TheVariants.Zero, declared.start.Start.TheVariants.Current, Needs.Needs, Needs.keeps_to, Needs.program_needs, Programs.AfterOp, Programs.AfterProgram, Programs.after_op, Programs.after_program}
 
 -- What a system does next, by the replies of its turns from now on, and by those so far of this
 -- turn; None ends the turn.
@@ -52,9 +52,9 @@ module _ {V : Type 0} {values : Values V} where
       let far : AfterProgram values = after_at_most n next w ps s in
       one_more (next far.replies) w far
 
-  -- its turn on a world: at most 64 ops, from its places
+  -- its turn on a world: at most `MAX_OPS` ops, from its places
   unfoldable pub turn : Meaning V → WorldState values → AfterProgram values
-  turn m s = after_at_most 64 (next_op m) m.writer m.places s
+  turn m s = after_at_most MAX_OPS (next_op m) m.writer m.places s
 
 module _ {V : Type 0} where
   -- the ops that these are the replies to
@@ -122,7 +122,7 @@ module _ {V : Type 0} where
 -- The turn of a program is its ops in order, and after it the system is that program still.
 abbrev pub IsInOrder : {V : Type 0} → Values V → Type 0
 IsInOrder {V} values = (program : Program V) (writer : ℕ) (places : ℕ → ℕ) (s : WorldState values)
-    → length program.ops ≤ 64 →
+    → length program.ops ≤ MAX_OPS →
     let m : Meaning V = of_program program writer places in
     (turn m s ≡ after_program program.ops writer places s)
     × (after_turn m s ≡ of_program program writer (turn m s).places)

@@ -53,7 +53,7 @@ pub trait Behavior: Drop {
     ghost remembered: { Memory → List (Reply Self.Value) → Memory };
 
     /// The next op of this turn, by the replies so far; None where the turn is over. A turn ends
-    /// after 64 ops, and before an op outside the access of its system.
+    /// after `MAX_OPS` ops, and before an op outside the access of its system.
     fn next(
         &self,
         alloc: Global,

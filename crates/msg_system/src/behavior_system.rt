@@ -4,6 +4,7 @@ ghost use Rattle.msg_world.specs.Prelude.{SameLoan};
 ghost use Rattle.msg_system.specs.{Behaviors.behaves, Needs.needs_of, OpRuns.cursor_places, inner.TurnRuns.AreAnswered, inner.TurnRuns.IsAsItWas, inner.TurnRuns.TurnRan, inner.TurnRuns.next_kept, Promises.Covers};
 
 use crate::behavior::Behavior;
+use crate::limits::MAX_OPS;
 use crate::{Access, Cursors, Items, NoMemory, Numbered, Op, Reply, Start, SystemOf};
 use msg_world::{Counts, Lent, Taken, TypeNo};
 use std::alloc::Global;
@@ -94,7 +95,7 @@ impl<B: Behavior> BehaviorSystem<B> {
         ops.clear();
         let (behavior, access, writer) = (&self.behavior, &self.access, self.writer);
         let cursors = &mut self.cursors;
-        for _done in 0..64u32 {
+        for _done in 0..MAX_OPS {
             match next_within(alloc, behavior, access, since(out.as_slice(), before))? {
                 None => return Ok(ops),
                 Some(op) => {

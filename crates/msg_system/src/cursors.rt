@@ -4,7 +4,7 @@ ghost use Rattle.msg_system.specs.Prelude.{IsAccessOf, Needs, cursor_places, sta
 
 use crate::{Access, Start};
 use msg_buffer::MessageCursor;
-use msg_world::{Counts, TypeNo};
+use msg_world::{Counts, MAX_TYPES, TypeNo};
 
 /// Where a cursor of this type starts.
 pub(crate) fn start_cursor(start: Start, counts: &Counts, t: TypeNo) -> MessageCursor
@@ -19,7 +19,7 @@ pub(crate) fn start_cursor(start: Start, counts: &Counts, t: TypeNo) -> MessageC
 /// The cursors of a system, one in each type.
 #[derive(Drop)]
 pub struct Cursors {
-    pub(crate) by_type: [MessageCursor; 64],
+    pub(crate) by_type: [MessageCursor; MAX_TYPES],
 }
 
 impl Cursors {
@@ -28,7 +28,7 @@ impl Cursors {
         ensures zero { cursor_places result ≡ (λ t. 0) }
     {
         Cursors {
-            by_type: [MessageCursor::new(0); 64],
+            by_type: [MessageCursor::new(0); MAX_TYPES],
         }
     }
 
@@ -45,7 +45,7 @@ impl Cursors {
         ensures started { (n : Needs) → IsAccessOf n access
             → cursor_places self.new ≡ started_places n start counts.now (cursor_places self.old) }
     {
-        for number in 0..64u32 {
+        for number in 0..MAX_TYPES as u32 {
             if let Some(t) = TypeNo::new(number) {
                 if access.reads_type(t) {
                     self.by_type[number as usize] = start_cursor(start, counts, t);

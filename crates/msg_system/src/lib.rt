@@ -9,6 +9,7 @@ mod guard;
 mod job;
 mod laws;
 mod lending;
+mod limits;
 mod numbered;
 mod op;
 mod program;
@@ -32,6 +33,7 @@ pub use laws::{
     what_is_given_back_stands,
 };
 pub use lending::added_up;
+pub use limits::MAX_OPS;
 pub use msg_buffer::NoMemory;
 pub use msg_world::{Access, Items};
 pub use numbered::Numbered;

@@ -1,7 +1,7 @@
 // Systems that interpret their programs.
 ghost use Rattle.std.specs.Prelude.{◌≡◌, ◌<◌, ◌≤◌, OnErr, OnOk, length};
 ghost use Rattle.msg_world.specs.Prelude.{SameLoan};
-ghost use Rattle.msg_system.specs.{Needs.program_needs, OpRuns.cursor_places, inner.TurnRuns.HasReplies, inner.TurnRuns.ProgramRan, Promises.Covers};
+ghost use Rattle.msg_system.specs.{declared.limits.TheConstants.MAX_OPS, Needs.program_needs, OpRuns.cursor_places, inner.TurnRuns.HasReplies, inner.TurnRuns.ProgramRan, Promises.Covers};
 
 use crate::{Access, Cursors, NoMemory, Numbered, Op, Program, Reply, Start, SystemOf};
 use msg_world::{Counts, Lent, Taken, TypeNo, Value};
@@ -37,7 +37,7 @@ pub struct Scripted<V = i64> {
     program: Program<V>,
     writer: u32,
     cursors: Cursors,
-    ghost few: { length program.ops ≤ 64 },
+    ghost few: { length program.ops ≤ MAX_OPS },
 }
 
 impl<V: Value> Scripted<V> {
@@ -45,7 +45,7 @@ impl<V: Value> Scripted<V> {
 
     /// It has read nothing yet. It writes as the number `writer`.
     pub fn new(program: Program<V>, writer: u32) -> Scripted<V>
-        requires few { length program.ops ≤ 64 }
+        requires few { length program.ops ≤ MAX_OPS }
         ensures new { ⟦<Scripted<V> as SystemOf>⟧.meaning result ≡ new_system program writer }
     {
         Scripted {

@@ -9,9 +9,10 @@ const LONGEST_PAUSE: u32 = 256;
 ///
 /// A batch over workers paid if others than the first worker ran at least a quarter of its jobs. If
 /// it didn't, the first worker ran nearly all by the time that the others had started: so the next
-/// batch runs in place, and after each further try that doesn't pay twice as many do, at most 256.
-/// A try that pays ends that, and so does a batch in place that did more than twice as much as the
-/// one of the last try: then the next goes over workers. No result depends on it.
+/// batch runs in place, and after each further try that doesn't pay twice as many do, at most
+/// `LONGEST_PAUSE`. A try that pays ends that, and so does a batch in place that did more than
+/// twice as much as the one of the last try: then the next goes over workers. No result depends on
+/// it.
 #[derive(Clone, Copy, Debug)]
 pub struct Habit {
     /// How many others the first worker starts before it runs a job.

@@ -8,12 +8,14 @@
 
 mod gate;
 mod habit;
+mod limits;
 mod run_workers;
 mod runs;
 mod workers;
 
 pub use gate::{Gate, NoGate};
 pub use habit::Habit;
+pub use limits::MAX_WORKERS;
 pub use msg_board::NoMemory;
 pub use run_workers::run_jobs;
 pub use runs::{Runs, work};

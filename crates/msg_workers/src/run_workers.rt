@@ -5,9 +5,10 @@ ghost use Rattle.msg_board.specs.Prelude.{IsLawfulOutcome, IsNewPass, jobs_of};
 ghost use Rattle.msg_workers.specs.Work.{EachMay, PassedGate};
 ghost use Rattle.msg_workers.specs.inner.Workers.{HasWorked, HaveWorked, IsFirstDraw};
 
+use crate::limits::MAX_WORKERS;
 use crate::runs::{Runs, work_on};
 use crate::{Gate, Habit, NoMemory, Workers};
-use msg_board::{Board, Pass, Work};
+use msg_board::{Board, MAX_JOBS, Pass, Work};
 use std::alloc::Global;
 use std::sync::atomic::{AtomicBool, Ordering};
 use std::thread::{Threads, join_mut, yield_now};
@@ -63,7 +64,7 @@ fn work_from<R: Threads + Sync, W: Runs + Send, G: Gate>(
     at_once: u32,
     passes: &mut [Pass<W::Job, W::Done>],
 ) -> u32
-    requires few { worker + length passes.old ≤ 64 }
+    requires few { worker + length passes.old ≤ MAX_WORKERS }
     requires new { All (IsNewPass shared.now.board.now) passes.old }
     requires may { EachMay W.may (jobs_of shared.now.board.now) }
     ensures ran { IfSome (slice_get passes.new 0)
@@ -100,7 +101,7 @@ fn work_beside<R: Threads + Sync, W: Runs + Send, G: Gate>(
     beginners: Beginners,
     others: &mut [Pass<W::Job, W::Done>],
 ) -> u32
-    requires few { beginners.next + length others.old ≤ 64 }
+    requires few { beginners.next + length others.old ≤ MAX_WORKERS }
     requires some { 0 < length others.old }
     requires first { IsFirstDraw shared.now.board.now pass.old first }
     requires new { All (IsNewPass shared.now.board.now) others.old }
@@ -117,7 +118,8 @@ fn work_beside<R: Threads + Sync, W: Runs + Send, G: Gate>(
     let (beside, rest) = others.split_at_mut(begun);
     let after = next + begun as u32;
     let mut own = ||
-        requires { IsSync R.row × IsSend W.row × IsSync G.row × (after + length rest.now ≤ 64)
+        requires { IsSync R.row × IsSend W.row × IsSync G.row
+            × (after + length rest.now ≤ MAX_WORKERS)
             × IsFirstDraw shared.now.board.now pass.now first
             × All (IsNewPass shared.now.board.now) rest.now
             × EachMay W.may (jobs_of shared.now.board.now) }
@@ -142,7 +144,8 @@ fn work_beside<R: Threads + Sync, W: Runs + Send, G: Gate>(
         }
     };
     let mut theirs = ||
-        requires { IsSync R.row × IsSend W.row × IsSync G.row × (next + length beside.now ≤ 64)
+        requires { IsSync R.row × IsSend W.row × IsSync G.row
+            × (next + length beside.now ≤ MAX_WORKERS)
             × All (IsNewPass shared.now.board.now) beside.now
             × EachMay W.may (jobs_of shared.now.board.now) }
         ensures { HaveWorked shared.entry.now.board.now
@@ -177,7 +180,7 @@ pub fn run_jobs<R: Threads + Sync, W: Runs + Send, G: Gate>(
     jobs: Vec<W::Job>,
     habit: &mut Habit,
 ) -> Result<Vec<W::Done>, NoMemory>
-    requires few { length jobs.items ≤ 256 }
+    requires few { length jobs.items ≤ MAX_JOBS }
     requires may { EachMay W.may jobs.items }
     ensures lawful { IfOk result (λ results. IsLawfulOutcome W.lawful jobs.items results.items) }
     ensures gate_passed { OnOk result ((k : ℕ) (job : W.Job) → slice_get jobs.items k ≡ Some job

@@ -3,6 +3,7 @@ ghost use Rattle.std.specs.Prelude.{◌≡◌};
 ghost use Rattle.msg_world.specs.Prelude.{HomeAgain, HomeMerges, HomeWhereEither, LentIsLoan, LoanEnds, LoanStays, MayComeHome, OthersStayHome, OwnedStands, OwnsWhatItWrites, StaysApart, StaysComplete, ValuesStand, WritesStand};
 
 use crate::Value;
+use crate::limits::MAX_SYSTEMS;
 use crate::record::HOST;
 
 /// What `World::lend_out` moved out is a loan of its access, so that it may be opened. It and the
@@ -46,7 +47,7 @@ pub fn loans_end<V: Value>()
     ensures owned { OwnedStands V.values }
 {}
 
-/// The host writes as a number past those of 256 systems, which begin at 0.
+/// The host writes as a number past those of all systems, which begin at 0.
 pub fn host_comes_after_systems()
-    ensures host { HOST ≡ 256 }
+    ensures host { HOST ≡ MAX_SYSTEMS }
 {}

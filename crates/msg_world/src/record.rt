@@ -1,5 +1,7 @@
+use crate::limits::MAX_SYSTEMS;
+
 /// The writer of messages that the host posts. Systems write as their number in order of addition.
-pub const HOST: u32 = 256;
+pub const HOST: u32 = MAX_SYSTEMS as u32;
 
 /// A message of a world: a value, and its writer, which is the number of a system or `HOST`.
 #[derive(Clone, Copy, Debug, PartialEq, Eq)]

@@ -6,6 +6,7 @@ ghost use Rattle.msg_world.specs.inner.Slots.{AllUpdated, BufferStands, at};
 
 use crate::access::Access;
 use crate::counts::Counts;
+use crate::limits::{MAX_RESOURCES, MAX_TYPES};
 use crate::marks::Marks;
 use crate::moved::Moved;
 use crate::record::{HOST, Record};
@@ -19,8 +20,8 @@ use std::marker::Model;
 /// What systems share: the messages of each type, the value of each resource, and the registry of
 /// signals. Parts of it may be out on loan.
 ///
-/// Updates of a held world wait for a signal, which they spend. A world has at most 64 types and 64
-/// resources.
+/// Updates of a held world wait for a signal, which they spend. A world has at most `MAX_TYPES`
+/// types and `MAX_RESOURCES` resources.
 ///
 /// ```
 /// // Two types, of at most 100 messages each, and a resource that is 0 at first.
@@ -44,6 +45,7 @@ pub struct World<V = i64> {
 impl<V> Model for World<V> {
     ghost use Rattle.std.specs.Prelude.{◌≤◌, length};
     ghost use Rattle.msg_world.specs.Parts.{Parts};
+    ghost use Rattle.msg_world.specs.declared.limits.TheConstants.{MAX_RESOURCES, MAX_TYPES};
 
     ghost Value = { Parts V };
 
@@ -53,7 +55,8 @@ impl<V> Model for World<V> {
       marks = w.marks;
     } };
 
-    ghost invariant = { λ w. (length w.types.items ≤ 64) × (length w.resources.items ≤ 64) };
+    ghost invariant = { λ w. (length w.types.items ≤ MAX_TYPES)
+        × (length w.resources.items ≤ MAX_RESOURCES) };
 }
 
 /// A buffer for each limit.
@@ -116,7 +119,7 @@ fn count_of<V: Value>(slot: &Option<Messages<Record<V>>>) -> u64
 
 /// The counts of all buffers.
 fn counts_of<V: Value>(types: &[Option<Messages<Record<V>>>]) -> Counts
-    requires few { length types.now ≤ 64 }
+    requires few { length types.now ≤ MAX_TYPES }
     ensures types { length result ≡ length types.now }
     ensures counts { (t : ℕ) → IsSome (at types.now t) → (h : History (Record V))
         → BufferStands (at types.now t) h → slice_get result t ≡ Some (count h) }
@@ -159,8 +162,8 @@ impl<V: Value> World<V> {
     /// A world that isn't held, with a message type for each limit and a resource for each value.
     #[tactic(auto, using(crate::proofs::Worlds::new_stands, crate::proofs::Worlds::new_whole))]
     pub fn new(alloc: Global, limits: &[u64], resources: &[V]) -> Result<World<V>, NoMemory>
-        requires types { length limits.now ≤ 64 }
-        requires resources { length resources.now ≤ 64 }
+        requires types { length limits.now ≤ MAX_TYPES }
+        requires resources { length resources.now ≤ MAX_RESOURCES }
         ensures meaning { IfOk result
             (λ w. PartsStand w (new_world V.values limits.now resources.now)) }
         ensures whole { IfOk result IsWhole }
@@ -184,10 +187,11 @@ impl<V: Value> World<V> {
         })
     }
 
-    /// A law: a world stands for some state, and has at most 64 types and 64 resources.
+    /// A law: a world stands for some state, and has no more types and resources than it may.
     pub fn stands_for_some(&self)
         ensures state { (s : WorldState V.values) × PartsStand self.now s }
-        ensures few { (length self.now.types ≤ 64) × (length self.now.resources ≤ 64) }
+        ensures few { (length self.now.types ≤ MAX_TYPES)
+            × (length self.now.resources ≤ MAX_RESOURCES) }
     {
         each_stands(&self.types);
     }
@@ -254,7 +258,7 @@ impl<V: Value> World<V> {
     /// How many message types it has, at home or out.
     pub fn types(&self) -> usize
         ensures types { result ≡ length self.now.types }
-        ensures few { result ≤ 64 }
+        ensures few { result ≤ MAX_TYPES }
     {
         self.types.len()
     }
@@ -263,7 +267,7 @@ impl<V: Value> World<V> {
     pub fn counts(&self) -> Counts
         requires whole { IsWhole self.now }
         ensures types { length result ≡ length self.now.types }
-        ensures few { length result ≤ 64 }
+        ensures few { length result ≤ MAX_TYPES }
         ensures meaning { (s : WorldState V.values) → PartsStand self.now s → (t : ℕ)
             → t < length self.now.types → slice_get result t ≡ Some (count (s.histories t)) }
     {

@@ -1,6 +1,6 @@
 -- What is added to totals, and where they begin.
 use Rattle.std.specs.Prelude.{ℕ, ◌≤◌, ◌==◌, List, [], length, None, Some, option_to_list, ⊤, if◌then◌else◌}
-use Rattle.msg_system.specs.{declared.op.Op.Op, declared.reply.Reply.Reply}
+use Rattle.msg_system.specs.{declared.limits.TheConstants.MAX_OPS, declared.op.Op.Op, declared.reply.Reply.Reply}
 use Rattle.msg_world.specs.Prelude.{OfType}
 use Rattle.msg_system.specs.Prelude.{Meaning, start_place, type_read_by}
 use Rattle.msg_frames.specs.{declared.log.Outcome.Outcome, declared.log.Outcome.TheVariants.Skipped, declared.log.Outcome.TheVariants.Ran}
@@ -28,4 +28,4 @@ module _ {V : Type 0} where
   -- no more replies than a turn has at most
   abbrev pub HasFewReplies : Outcome V → Type 0
   HasFewReplies Skipped = ⊤
-  HasFewReplies (Ran replies) = length replies ≤ 64
+  HasFewReplies (Ran replies) = length replies ≤ MAX_OPS

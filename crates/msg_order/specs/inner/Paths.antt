@@ -2,7 +2,7 @@
 -- contract cites these; that they are the paths of the definitions is proved.
 use Rattle.std.specs.Prelude.{◌≡◌, ℕ, ◌≤◌, ◌<◌, Bool, true, not, ◌&&◌, List, map, length, filter, flat_map, slice_index_or, IsTrue}
 use Rattle.std.specs.List.{range_with_len}
-use Rattle.msg_world.specs.{Prelude.Conflict, declared.access.Access.Access}
+use Rattle.msg_world.specs.{Prelude.Conflict, declared.limits.TheConstants.MAX_SYSTEMS, declared.access.Access.Access}
 use Rattle.msg_order.specs.{declared.system_set.SystemSet.SystemSet, inner.SystemSet.has, inner.SystemSet.meets, inner.SystemSet.no_set, Graph.Graph, Graph.path, Settled.has_joined, Settled.pairs, Settled.settle, Order.TellsConflicts, Order.access_of, Plan.PlanView}
 
 -- the set of those before system j
@@ -45,9 +45,9 @@ IsSetOf joined set = (i : ℕ) → has set i ≡ has_joined joined i
 abbrev pub is_ready : List SystemSet → SystemSet → ℕ → Bool
 is_ready before left i = has left i && not (meets (set_at before i) left)
 
--- the sets of at most 256 systems; where one system is before another, both have joined
+-- the sets of at most `MAX_SYSTEMS` systems; where one system is before another, both have joined
 pub record AreKept (before : List SystemSet) (joined : SystemSet) : Type 0 where
-  pub few : length before ≤ 256
+  pub few : length before ≤ MAX_SYSTEMS
   pub within : (i : ℕ) → has joined i ≡ true → i < length before
   pub among : (i j : ℕ) → comes_before before i j ≡ true
       → (has joined i ≡ true) × (has joined j ≡ true)

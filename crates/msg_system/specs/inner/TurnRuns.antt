@@ -1,7 +1,7 @@
 -- What the private functions of programs and turns say. No public contract cites these.
 use Rattle.std.specs.Prelude.{◌≡◌, ℕ, ◌++◌, List, Option, length}
 use Rattle.msg_world.specs.{Prelude.LoanStands, Prelude.WorldState, declared.lent.Lent.Lent, Prelude.Values}
-use Rattle.msg_system.specs.{declared.behavior_system.BehaviorSystem.BehaviorSystem, declared.op.Op.Op, declared.reply.Reply.Reply, Needs.Needs, Programs.AfterProgram, Programs.after_program, Systems.after_at_most, Systems.if_kept, Systems.ops_answered}
+use Rattle.msg_system.specs.{declared.behavior_system.BehaviorSystem.BehaviorSystem, declared.limits.TheConstants.MAX_OPS, declared.op.Op.Op, declared.reply.Reply.Reply, Needs.Needs, Programs.AfterProgram, Programs.after_program, Systems.after_at_most, Systems.if_kept, Systems.ops_answered}
 
 -- the places, the loan and the replies are those after a program
 pub record IsAfterProgram {V : Type 0} {values : Values V} (after : AfterProgram values)
@@ -37,7 +37,7 @@ abbrev pub TurnRan : {V : Type 0} (values : Values V) → (List (Reply V) → Op
     → List (Reply V) → Type 0
 TurnRan values next writer old_places new_places old new before answers =
     (s : WorldState values) → LoanStands old s
-    → IsAfterProgram (after_at_most 64 next writer old_places s) new_places new before answers
+    → IsAfterProgram (after_at_most MAX_OPS next writer old_places s) new_places new before answers
 
 module _ {V : Type 0} where
   -- replies were appended, and these are the ops that they are answers to, one each

@@ -1,14 +1,15 @@
 use Rattle.std.proofs.Common.{ℕ, List, Option, IfNone, MatchOption, arith}
+use Rattle.msg_world.specs.declared.limits.TheConstants.{MAX_SYSTEMS}
 use Rattle.msg_order.specs.{Prelude.Graph, Prelude.IsAcyclic, Prelude.IsLowestOnCycle, Prelude.SystemSet, inner.Paths.ArePaths}
 use Rattle.msg_order.proofs.SetPaths.{all_rules, sets_empty}
 use Rattle.msg_order.proofs.cycles.lowest_on_cycle.Goals as goal
 
 pub follow_rules-requires-clause-none_yet : goal.follow_rules-requires-clause-none_yet
-follow_rules-requires-clause-none_yet c = sets_empty 256 c.args.systems c.empty-before.result c.empty-before.ensures
+follow_rules-requires-clause-none_yet c = sets_empty MAX_SYSTEMS c.args.systems c.empty-before.result c.empty-before.ensures
 
 pub returns-clause-lowest : goal.returns-clause-lowest
 returns-clause-lowest c =
-    let all = all_rules 256 c.args.systems c.args.rules.now c.requires.few c.requires.in_range in
+    let all = all_rules MAX_SYSTEMS c.args.systems c.args.rules.now c.requires.few c.requires.in_range in
     let found = rw all at c.follow_rules.ensures in
     grind arith
 
@@ -18,5 +19,5 @@ if_none g before found h = grind arith
 
 pub returns-clause-acyclic : goal.returns-clause-acyclic
 returns-clause-acyclic c =
-    let all = all_rules 256 c.args.systems c.args.rules.now c.requires.few c.requires.in_range in
+    let all = all_rules MAX_SYSTEMS c.args.systems c.args.rules.now c.requires.few c.requires.in_range in
     rw (← all) (if_none _ c.follow_rules.new.before c.follow_rules.result c.follow_rules.ensures)

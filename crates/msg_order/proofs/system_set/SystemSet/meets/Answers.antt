@@ -1,5 +1,6 @@
 use Rattle.std.proofs.Common.{◌<◌, ℕ, ◌+◌, ◌*◌, ◌/◌, ◌^◌, ◌&&◌, get_or, sym, refl, arith, rules, bit_and}
 use Rattle.std.proofs.lemmas.Nat.{and_le_l}
+use Rattle.msg_world.specs.declared.limits.TheConstants.{MAX_SYSTEMS}
 use Rattle.msg_world.proofs.Bits.{some_bit}
 use Rattle.msg_order.specs.inner.SystemSet.{has, meets}
 use Rattle.msg_order.proofs.SystemSets.{none_below, some_below, has_bit-apart, words-share}
@@ -8,7 +9,7 @@ use Rattle.msg_order.proofs.system_set.SystemSet.meets.Goals as goal
 pub returns : goal.returns
 unfolding has meets
 returns c =
-    sym (none_below (λ k. has c.args.self.now k && has c.args.other.now k) 256 (λ k h.
+    sym (none_below (λ k. has c.args.self.now k && has c.args.other.now k) MAX_SYSTEMS (λ k h.
     grind (arith, has_bit-apart, c.loop-i.invariant (k / 64))))
 
 pub returns-then-self-i-ne0 : goal.returns-then-self-i-ne0
@@ -20,5 +21,5 @@ returns-then-self-i-ne0 c =
     let a : ℕ = get_or xs i 0 in
     let fits : a < 2 ^ 64 = search rules in
     let bit = some_bit (bit_and a (get_or ys i 0)) (omega (arith, and_le_l a (get_or ys i 0))) c.if-self-i-ne0.true in
-    sym (some_below (λ k. has c.args.self.now k && has c.args.other.now k) 256 (64 * i + bit.0) (omega (arith, bit.1.0))
+    sym (some_below (λ k. has c.args.self.now k && has c.args.other.now k) MAX_SYSTEMS (64 * i + bit.0) (omega (arith, bit.1.0))
     (words-share xs ys i bit.0 (64 * i + bit.0) bit.1.0 refl bit.1.1))

@@ -1,4 +1,5 @@
 use Rattle.std.proofs.Common.{◌≡◌, [], arith, refl, rules, sym, ◌∙◌}
+use Rattle.msg_system.specs.declared.limits.TheConstants.{MAX_OPS}
 use Rattle.msg_system.proofs.{Deciding.answered_more, Deciding.appended, Deciding.covers_kept, Deciding.turn_more, Deciding.turn_over, Runs.same_loan_trans, Turns.next_kept_to}
 use Rattle.msg_system.proofs.behavior_system.BehaviorSystem.run_ops.Goals as goal
 
@@ -42,5 +43,5 @@ loop-done-preserved g c =
 
 pub returns-clause-ran : goal.returns-clause-ran
 returns-clause-ran g c s stands =
-    let all : c.loop-done._done ≡ 64 = omega arith in
+    let all : c.loop-done._done ≡ MAX_OPS = omega arith in
     rw all at (c.loop-done.invariant.so_far s stands)
