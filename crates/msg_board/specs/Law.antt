@@ -25,7 +25,7 @@ abbrev pub draws_at : ℕ → ℕ
 draws_at zero = 0
 draws_at (suc more) = 1
 
--- a slot of a table: `none` where there is no such slot, `some none` where its value is out
+-- a slot of a table: `none` if there is no such slot, `some none` if its value is out
 abbrev Home : Type 0 → Type 0
 Home S = maybe.Option (maybe.Option S)
 

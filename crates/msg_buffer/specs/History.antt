@@ -74,7 +74,7 @@ module _ {M : Type 0} where
   abbrev pub IsPresent : History M → ℕ → Type 0
   IsPresent h n = (e : Entry M) × (slice_get h.entries n ≡ Some e) × IsTrue (is_present h (n, e))
 
-  -- message n, where entry n is present
+  -- message n, if entry n is present
   abbrev pub get : History M → ℕ → Option M
   get h n = option_and_then (λ e. if is_present h (n, e) then Some e.message else None)
       (slice_get h.entries n)
@@ -87,7 +87,7 @@ module _ {M : Type 0} where
   abbrev pub stamped : ℕ → List M → List (Entry M)
   stamped updates ms = map (λ m. record { message = m; stamp = updates }) ms
 
-  -- The history after a write: all messages are added at the end, or none where there are too few
+  -- The history after a write: all messages are added at the end, or none if there are too few
   -- numbers.
   abbrev pub write : List M → History M → History M
   write ms h = if has_room h (length ms)

@@ -5,7 +5,7 @@ use Rattle.msg_buffer.specs.{declared.instance.Instance.Instance, History.messag
 -- what contracts see of a buffer
 pub record Kept (M : Type 0) : Type 0 where
   pub limit : ℕ
-  -- the number of its first message, or of the next where it has none
+  -- the number of its first message, or of the next if it has none
   pub oldest : ℕ
   pub older : List (Instance M)
   pub newer : List (Instance M)

@@ -26,7 +26,7 @@ module _ {M : Type 0} where
   abbrev pub unread : History M → ℕ → List (Instance M)
   unread h place = drop (first h place) (instances h)
 
-  -- the first `limit` of them, or all where there is no limit
+  -- the first `limit` of them, or all if there is no limit
   abbrev pub at_most : Option ℕ → List (Instance M) → List (Instance M)
   at_most None xs = xs
   at_most (Some limit) xs = take limit xs

@@ -34,7 +34,7 @@ module _ (M : Type 0) where
       ≡ take (read h place limit).number (drop (read h place limit).first (instances h)))
       × (place ≤ count h → next_place (read h place limit) ≤ count h)
 
-  -- A read goes past all that is unread, or past as many messages as its limit where these are
+  -- A read goes past all that is unread, or past as many messages as its limit if these are
   -- fewer.
   abbrev pub ReadsUpTo : Type 0
   ReadsUpTo = (h : History M) (place : ℕ)

@@ -71,7 +71,7 @@ impl<M, A: Allocator + Copy> Messages<M, A> {
 }
 
 impl<M, A: Allocator> Messages<M, A> {
-    /// The number of the oldest message that is kept, or of the next one where none is.
+    /// The number of the oldest message that is kept, or of the next one if none is.
     pub fn oldest(&self) -> u64
         ensures meaning { (h : History M) → StandsFor self.now h → result ≡ oldest h }
         ensures kept { result ≡ self.now.oldest }

@@ -9,7 +9,7 @@ use std::alloc::Allocator;
 /// Messages under consecutive numbers.
 #[derive(Drop)]
 pub(crate) struct MessageSequence<M, A: Allocator> {
-    /// The number of the first message, or of the next one where there is none.
+    /// The number of the first message, or of the next one if there is none.
     pub(crate) start: u64,
     pub(crate) instances: Vec<Instance<M>, A>,
 }

@@ -1,7 +1,7 @@
 use crate::Items;
 use msg_system::Reply;
 
-/// What came of a system's turn: nothing, where one of its conditions didn't hold, or its replies,
+/// What came of a system's turn: nothing, if one of its conditions didn't hold, or its replies,
 /// one for each op.
 #[derive(Debug, PartialEq, Eq, Drop)]
 pub enum Outcome<V = i64> {

@@ -10,7 +10,7 @@ pub fn states_stay_sound<V: Value>()
     ensures run { RunStaysSound V.values }
 {}
 
-/// A state before any frame is sound, where its systems are new ones over a sound world.
+/// A state before any frame is sound, if its systems are new ones over a sound world.
 pub fn first_states_are_sound<V: Value>()
     ensures law { FirstIsSound V.values }
 {}

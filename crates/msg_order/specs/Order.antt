@@ -4,7 +4,7 @@ use Rattle.std.specs.{List.Sorted.IsStrictlyIncreasing}
 use Rattle.msg_world.specs.{Prelude.Conflict, Prelude.no_access, declared.access.Access.Access}
 use Rattle.msg_order.specs.{declared.rule.Rule.Rule, Graph.Graph, Graph.IsEdge, Graph.IsBatchNumber, Settled.has_joined, Settled.settled}
 
--- the access of system i, which uses nothing where there is no such system
+-- the access of system i, which uses nothing if there is no such system
 abbrev pub access_of : List Access → ℕ → Access
 access_of accesses i = slice_index_or accesses i no_access
 

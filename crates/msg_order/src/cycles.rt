@@ -7,7 +7,7 @@ use crate::paths::follow_rules;
 use crate::system_set::SystemSet;
 use msg_world::MAX_SYSTEMS;
 
-/// Of so many systems the lowest one from which the rules lead back to it; None where there is no
+/// Of so many systems the lowest one from which the rules lead back to it; None if there is no
 /// such system. It takes no memory.
 pub fn lowest_on_cycle(systems: usize, rules: &[Rule]) -> Option<u32>
     requires few { systems ≤ MAX_SYSTEMS }

@@ -3,7 +3,7 @@
 ghost use Rattle.msg_order.specs.Prelude.{FewerSystemsMakeNoCycle, SettlingMakesNoCycle, ConflictingSystemsAreOrdered, SettledIsTheOrder, BatchesAreByNumber, TurnOrderIsLawful, BatchNumbersRise, LawfulOrdersKeepPaths};
 
 /// Rules that make no cycle among some systems make none among fewer of them. So a plan over
-/// systems that have joined can't be refused for a cycle where the rules of all systems have none.
+/// systems that have joined can't be refused for a cycle if the rules of all systems have none.
 pub fn fewer_systems_make_no_cycle()
     ensures law { FewerSystemsMakeNoCycle }
 {}

@@ -88,7 +88,7 @@ fn only(system: usize) -> SystemSet
     set
 }
 
-/// Adds the rules among the joined systems as edges, where there is no path already.
+/// Adds the rules among the joined systems as edges, if there is no path already.
 fn add_rules(before: &mut [SystemSet], rules: &[Rule], joined: &[bool])
     requires few { length before.old ≤ MAX_SYSTEMS }
     requires one_each { length joined.now ≡ length before.old }

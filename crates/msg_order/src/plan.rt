@@ -95,7 +95,7 @@ impl<A: Allocator + Copy> Plan<A> {
     /// Settles the order of the joined systems, given by their accesses and by rules, and parts
     /// them into batches.
     ///
-    /// Conflicting systems run by order of addition where the rules, and the pairs that were
+    /// Conflicting systems run by order of addition if the rules, and the pairs that were
     /// settled before, leave that open. A rule or a conflict with a system that hasn't joined has
     /// no effect.
     ///

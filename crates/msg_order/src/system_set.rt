@@ -49,7 +49,7 @@ impl SystemSet {
         self.words[k / 64] &= !(1u64 << (k % 64));
     }
 
-    /// The first system in it from this number on; `MAX_SYSTEMS` where there is none.
+    /// The first system in it from this number on; `MAX_SYSTEMS` if there is none.
     pub fn next(&self, from: usize) -> usize
         requires { from ≤ MAX_SYSTEMS }
         ensures from_there { from ≤ result }

@@ -73,7 +73,7 @@ pub record AfterJob {V : Type 0} (values : Values V) : Type 0 where
   pub steps : List (Step values)
 
 module _ {V : Type 0} {values : Values V} where
-  -- Every condition is asked, whatever the others answer. The program runs where all hold.
+  -- Every condition is asked, whatever the others answer. The program runs if all hold.
   abbrev pub after_job : Job V → WorldState values → AfterJob values
   after_job j s =
       let asked : List (Asked V) = map (after_asking s) j.conditions in

@@ -4,7 +4,7 @@ use Rattle.std.specs.List.{list_any}
 use Rattle.msg_world.specs.{Prelude.Overlap, Prelude.Part, Prelude.OfType, Prelude.OfResource, Prelude.Registry, Prelude.reads, Prelude.same_part, Prelude.writes, declared.access.Access.Access}
 use Rattle.msg_system.specs.{declared.op.Op.Op, declared.op.Op.TheVariants.Write, declared.op.Op.TheVariants.Batch, declared.op.Op.TheVariants.Read, declared.op.Op.TheVariants.Len, declared.op.Op.TheVariants.Missed, declared.op.Op.TheVariants.Clear, declared.op.Op.TheVariants.Forward, declared.op.Op.TheVariants.Sum, declared.op.Op.TheVariants.Get, declared.op.Op.TheVariants.Set, declared.op.Op.TheVariants.Add, declared.op.Op.TheVariants.Drain, declared.op.Op.TheVariants.Signal, declared.condition.Condition.Condition, declared.condition.Probe.Probe, declared.condition.Probe.TheVariants.OnMessage, declared.condition.Probe.TheVariants.ResourceEquals}
 
--- true where there is no part, and else what `holds` says of the part
+-- true if there is no part, and else what `holds` says of the part
 abbrev pub is_none_or : (Part → Bool) → Option Part → Bool
 is_none_or holds part = elim part [ None ↦ true | Some p ↦ holds p ]
 
@@ -30,7 +30,7 @@ module _ {V : Type 0} where
   op_parts (Drain t) = record { read = None; written = Some (OfType t) }
   op_parts Signal = record { read = None; written = Some Registry }
 
--- the type, where the part is one
+-- the type, if the part is one
 abbrev pub type_in_part : Part → Option ℕ
 type_in_part (OfType t) = Some t
 type_in_part _ = None
@@ -44,7 +44,7 @@ module _ {V : Type 0} where
   abbrev pub type_written : Op V → Option ℕ
   type_written op = option_and_then type_in_part (op_parts op).written
 
-  -- the type that op k of a program reads; none where there is no such op
+  -- the type that op k of a program reads; none if there is no such op
   abbrev pub type_read_by : List (Op V) → ℕ → Option ℕ
   type_read_by ops k = option_and_then type_read (slice_get ops k)
 

@@ -24,7 +24,7 @@ OpRan values op writer old_places new_places old new answer =
     → IsAfterOp (after_op op writer old_places s) new_places new answer
 
 module _ {V : Type 0} {values : Values V} where
-  -- An op asks for memory only where it writes, gives or drops something.
+  -- An op asks for memory only if it writes, gives or drops something.
   abbrev pub AsksForMemory : Op V → (ℕ → ℕ) → WorldState values → Type 0
   AsksForMemory (Write t v) places s = IsSome (numbers_for (s.histories t) 1)
   AsksForMemory (Batch t vs) places s = 0 < length vs

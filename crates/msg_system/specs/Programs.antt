@@ -31,7 +31,7 @@ module _ {V : Type 0} where
   abbrev pub place_after_read : History (Record V) → ℕ → Option ℕ → ℕ
   place_after_read h place limit = first h place + length (given h place limit)
 
-  -- the numbers that so many messages get; none where too few are left
+  -- the numbers that so many messages get; none if too few are left
   abbrev pub numbers_for : History (Record V) → ℕ → Option Written
   numbers_for h n = if has_room h n then Some (record { first = count h; n = n }) else None
 

@@ -36,7 +36,7 @@ abbrev pub OneOpIsCovered : Type 0 → Type 0
 OneOpIsCovered V = (op : Op V) (l : Lent V) → Covers (program_needs (op ∷ [])) l
     → Covers (op_needs op) l
 
--- One op that ran is the turn of a system whose program is that op, where its reply is appended and
+-- One op that ran is the turn of a system whose program is that op, if its reply is appended and
 -- its loan given back.
 abbrev pub OneOpIsATurn : {V : Type 0} → Values V → Type 0
 OneOpIsATurn {V} values = (op : Op V) (start : Start) (writer : ℕ) (old_places new_places : ℕ → ℕ)

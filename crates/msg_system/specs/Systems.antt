@@ -22,7 +22,7 @@ pub record Meaning (V : Type 0) : Type 0 where
 -- ---- a turn
 
 module _ {V : Type 0} where
-  -- the op, where it keeps to what is needed; else the turn is over
+  -- the op, if it keeps to what is needed; else the turn is over
   abbrev pub if_kept : Needs → Option (Op V) → Option (Op V)
   if_kept n next = option_and_then (λ op. if keeps_to n op then Some op else None) next
 
@@ -31,7 +31,7 @@ module _ {V : Type 0} where
   next_op m replies = if_kept m.needs (m.rule [] replies)
 
 module _ {V : Type 0} {values : Values V} where
-  -- one op more; or nothing, where the turn is over
+  -- one op more; or nothing, if the turn is over
   abbrev pub one_more : Option (Op V) → ℕ → AfterProgram values → AfterProgram values
   one_more None w far = far
   one_more (Some op) w far =

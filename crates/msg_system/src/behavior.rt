@@ -52,7 +52,7 @@ pub trait Behavior: Drop {
     // What it remembers after a turn that was answered so.
     ghost remembered: { Memory → List (Reply Self.Value) → Memory };
 
-    /// The next op of this turn, by the replies so far; None where the turn is over. A turn ends
+    /// The next op of this turn, by the replies so far; None if the turn is over. A turn ends
     /// after `MAX_OPS` ops, and before an op outside the access of its system.
     fn next(
         &self,

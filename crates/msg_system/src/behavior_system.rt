@@ -18,7 +18,7 @@ fn since<V>(replies: &[Reply<V>], from: usize) -> &[Reply<V>]
     &replies[from..]
 }
 
-/// The next op, where it keeps to the access.
+/// The next op, if it keeps to the access.
 fn next_within<B: Behavior>(
     alloc: Global,
     behavior: &B,

@@ -8,7 +8,7 @@ use msg_world::Value;
 pub fn job_access<V: Value>(system: &Access, conditions: &[Condition<V>]) -> Access
     ensures union { IsAccessOf (with_conditions (needs_of system.now) conditions.now) result }
 
-    // So it is what the job needs, where `system` is what its system needs.
+    // So it is what the job needs, if `system` is what its system needs.
     ensures needs { (n : Needs) → IsAccessOf n system.now
         → IsAccessOf (with_conditions n conditions.now) result }
 {

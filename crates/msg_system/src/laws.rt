@@ -28,7 +28,7 @@ pub fn one_op_is_a_turn<V: Value>()
     ensures law { OneOpIsATurn V.values }
 {}
 
-/// What a run gives back stands for the world after it, where the loan owned nothing but what its
+/// What a run gives back stands for the world after it, if the loan owned nothing but what its
 /// access writes.
 pub fn what_is_given_back_stands<V: Value>()
     ensures law { WrittenIsAll V.values }

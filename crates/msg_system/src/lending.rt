@@ -35,7 +35,7 @@ pub(crate) fn value_of<V: Value>(lent: &Lent<V>, r: ResNo) -> V
     }
 }
 
-/// Writes one message, or none where no number is left.
+/// Writes one message, or none if no number is left.
 #[tactic(auto, using(crate::proofs::Lendings::of_loans))]
 pub(crate) fn write_one<V: Value>(
     lent: &mut Lent<V>,
@@ -49,7 +49,7 @@ pub(crate) fn write_one<V: Value>(
         → LoanStands lent.new (with_history s t (write (message ∷ []) (s.histories t)))) }
     ensures same { OnOk result (SameLoan lent.old lent.new) }
 
-    // Memory is refused only where a number was left.
+    // Memory is refused only if a number was left.
     ensures refused { OnErr result ((s : WorldState V.values) → LoanStands lent.old s
         → IsSome (numbers_for (s.histories t) 1)) }
 {
@@ -64,7 +64,7 @@ pub(crate) fn write_one<V: Value>(
     }
 }
 
-/// Writes what the function makes of each item, or nothing where too few numbers are left.
+/// Writes what the function makes of each item, or nothing if too few numbers are left.
 #[tactic(auto, using(crate::proofs::Lendings::of_loans))]
 pub(crate) fn write_each<V: Value, T, F: Fn(&T) -> Record<V>>(
     lent: &mut Lent<V>,
@@ -84,7 +84,7 @@ pub(crate) fn write_each<V: Value, T, F: Fn(&T) -> Record<V>>(
         → LoanStands lent.new (with_history s t (write (map f items.now) (s.histories t)))) }
     ensures same { OnOk result (SameLoan lent.old lent.new) }
 
-    // Memory is refused only where there is something to write, and numbers enough were left.
+    // Memory is refused only if there is something to write, and numbers enough were left.
     ensures some { OnErr result (0 < length items.now) }
     ensures refused { OnErr result ((s : WorldState V.values) → LoanStands lent.old s
         → IsSome (numbers_for (s.histories t) (length items.now))) }

@@ -32,7 +32,7 @@ pub enum Reply<V = i64> {
         first: u64,
         n: u64,
     },
-    /// What was read, and the numbers that it got; None where too few were left.
+    /// What was read, and the numbers that it got; None if too few were left.
     Forwarded {
         took: Took<V>,
         wrote: Option<Written>,
@@ -53,7 +53,7 @@ pub enum Reply<V = i64> {
     Signalled,
 }
 
-/// The messages that the op of reply `k` read. There are none where it read none, or where there is
+/// The messages that the op of reply `k` read. There are none if it read none, or if there is
 /// no such reply.
 pub fn brought<V>(replies: &[Reply<V>], k: usize) -> &[Record<V>]
     ensures brought { result.now ≡ brought (slice_get replies.now k) }

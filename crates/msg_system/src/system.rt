@@ -33,8 +33,8 @@ pub trait SystemOf: Drop {
     fn access(&self) -> Access
         ensures needs { IsAccessOf (meaning self.now).needs result };
 
-    /// The type that an op of its last turn reads, or of its program where it has one; `op` counts
-    /// them from 0. None where that op reads no type, or there is no such op.
+    /// The type that an op of its last turn reads, or of its program if it has one; `op` counts
+    /// them from 0. None if that op reads no type, or there is no such op.
     fn read_type(&self, op: u32) -> Option<TypeNo>
         ensures type_read { result ≡ type_read_by (meaning self.now).last op };
 
@@ -77,8 +77,8 @@ pub trait System: Send + Drop {
     fn access(&self) -> Access
         ensures needs { IsAccessOf (meaning self.now).needs result };
 
-    /// The type that an op of its last turn reads, or of its program where it has one; `op` counts
-    /// them from 0. None where that op reads no type, or there is no such op.
+    /// The type that an op of its last turn reads, or of its program if it has one; `op` counts
+    /// them from 0. None if that op reads no type, or there is no such op.
     fn read_type(&self, op: u32) -> Option<TypeNo>
         ensures type_read { result ≡ type_read_by (meaning self.now).last op };
 

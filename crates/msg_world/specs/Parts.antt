@@ -4,7 +4,7 @@ use Rattle.std.specs.Option.{option_or}
 use Rattle.msg_buffer.specs.Prelude.{Kept, StandsFor}
 use Rattle.msg_world.specs.{declared.record.Record.Record, declared.marks.Marks.Marks, declared.access.Access.Access, Access.HasPart, Access.Part, Access.OfType, Access.OfResource, Access.Registry, Access.uses, Access.writes, World.Values, World.WorldState, World.Content, World.content}
 
--- A slot for each type, for each resource, and for the registry's marks: empty where that part is
+-- A slot for each type, for each resource, and for the registry's marks: empty if that part is
 -- elsewhere.
 pub record Parts (V : Type 0) : Type 0 where
   pub types : List (Option (Kept (Record V)))

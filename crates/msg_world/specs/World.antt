@@ -67,7 +67,7 @@ module _ {V : Type 0} {values : Values V} where
     marks = record s.marks { pending = false };
   }
 
--- A signal makes a held world pending. It changes nothing where the world isn't held.
+-- A signal makes a held world pending. It changes nothing if the world isn't held.
 abbrev pub signalled_marks : Marks → Marks
 signalled_marks m = record m { pending = m.pending || m.held }
 

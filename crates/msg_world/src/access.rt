@@ -5,7 +5,7 @@ use crate::{ResNo, TypeNo, masks};
 /// What a job reads and writes: a bit for each message type and each resource, by its number, and
 /// whether it signals to the registry.
 ///
-/// Two jobs may run side by side where their accesses don't conflict.
+/// Two jobs may run side by side if their accesses don't conflict.
 #[derive(Clone, Copy, Debug, Default, PartialEq, Eq)]
 pub struct Access {
     pub read_types: u64,

@@ -42,7 +42,7 @@ impl Counts {
         self.types += 1;
     }
 
-    /// How many messages of this type were ever written; None where there is no such type.
+    /// How many messages of this type were ever written; None if there is no such type.
     pub fn of(&self, t: TypeNo) -> Option<u64>
         ensures count { result ≡ slice_get self.now t }
     {

@@ -79,7 +79,7 @@ impl<'a, V: Value> Lent<'a, V> {
         }
     }
 
-    /// Asks for an update of a held world. It is false, and changes nothing, where the registry
+    /// Asks for an update of a held world. It is false, and changes nothing, if the registry
     /// isn't lent.
     #[tactic(auto, using(crate::proofs::Loans::signal_stands))]
     pub fn signal(&mut self) -> bool

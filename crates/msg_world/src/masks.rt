@@ -55,7 +55,7 @@ pub fn is_below(mask: u64, n: u32) -> bool
     n >= 64 || mask >> n == 0
 }
 
-/// The first bit of the mask from this number on; 64 where there is none.
+/// The first bit of the mask from this number on; 64 if there is none.
 pub fn next_bit(mask: u64, from: u32) -> u32
     requires { from ≤ 64 }
     ensures from_there { from ≤ result }

@@ -24,7 +24,7 @@ impl Model for ResNo {
 }
 
 impl ResNo {
-    /// The resource with this number; None where it is `MAX_RESOURCES` or more.
+    /// The resource with this number; None if it is `MAX_RESOURCES` or more.
     pub fn new(number: u32) -> Option<Self>
         ensures valid { IsSome result ↔ (number < MAX_RESOURCES) }
         ensures value { IfSome result (λ r. r ≡ number) }

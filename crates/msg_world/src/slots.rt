@@ -5,7 +5,7 @@ ghost use Rattle.msg_world.specs.inner.Slots.{HaveEach, at};
 
 use crate::masks;
 
-/// What a slot holds; nothing where there is no such slot.
+/// What a slot holds; nothing if there is no such slot.
 pub(crate) fn slot_ref<T>(slots: &Vec<Option<T>>, k: usize) -> Option<&T>
     ensures held { option_copied result ≡ at slots.now.items k }
 {

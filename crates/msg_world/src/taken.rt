@@ -92,7 +92,7 @@ impl<V: Value> Taken<V> {
         self.resources.get_mut(k)
     }
 
-    /// Marks a signal, where the registry is there; says whether it is.
+    /// Marks a signal, if the registry is there; says whether it is.
     pub(crate) fn signal(&mut self) -> bool
         ensures answer { result ≡ is_some (slot Registry self.old) }
         ensures marks { self.new ≡ record self.old {

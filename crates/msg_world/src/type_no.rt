@@ -23,7 +23,7 @@ impl Model for TypeNo {
 }
 
 impl TypeNo {
-    /// The type with this number; None where it is `MAX_TYPES` or more.
+    /// The type with this number; None if it is `MAX_TYPES` or more.
     pub fn new(number: u32) -> Option<Self>
         ensures valid { IsSome result ↔ (number < MAX_TYPES) }
         ensures value { IfSome result (λ t. t ≡ number) }

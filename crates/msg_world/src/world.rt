@@ -106,7 +106,7 @@ fn update_each<V: Value>(types: &mut [Option<Messages<Record<V>>>])
     }
 }
 
-/// How many messages were ever written to a buffer; 0 where there is none.
+/// How many messages were ever written to a buffer; 0 if there is none.
 fn count_of<V: Value>(slot: &Option<Messages<Record<V>>>) -> u64
     ensures count { IsSome slot.now → (h : History (Record V)) → BufferStands slot.now h
         → result ≡ count h }
@@ -196,7 +196,7 @@ impl<V: Value> World<V> {
         each_stands(&self.types);
     }
 
-    /// The update at the beginning of a frame: every type, or none where a held world waits.
+    /// The update at the beginning of a frame: every type, or none if a held world waits.
     #[tactic(auto, using(crate::proofs::Worlds::waiting_stays))]
     pub fn update_all(&mut self)
         requires whole { IsWhole self.old }
@@ -274,14 +274,14 @@ impl<V: Value> World<V> {
         counts_of(&self.types)
     }
 
-    /// The messages of a type; None where there is no such type, or it is out.
+    /// The messages of a type; None if there is no such type, or it is out.
     pub fn messages(&self, t: TypeNo) -> Option<&Messages<Record<V>>>
         ensures home { option_copied result ≡ slot (OfType t) self.now }
     {
         slot_ref(&self.types, t.number() as usize)
     }
 
-    /// The value of a resource; None where there is no such resource, or it is out.
+    /// The value of a resource; None if there is no such resource, or it is out.
     pub fn resource(&self, r: ResNo) -> Option<V>
         ensures home { result ≡ slot (OfResource r) self.now }
     {

@@ -45,7 +45,7 @@ IsSetOf joined set = (i : ℕ) → has set i ≡ has_joined joined i
 abbrev pub is_ready : List SystemSet → SystemSet → ℕ → Bool
 is_ready before left i = has left i && not (meets (set_at before i) left)
 
--- the sets of at most `MAX_SYSTEMS` systems; where one system is before another, both have joined
+-- the sets of at most `MAX_SYSTEMS` systems; if one system is before another, both have joined
 pub record AreKept (before : List SystemSet) (joined : SystemSet) : Type 0 where
   pub few : length before ≤ MAX_SYSTEMS
   pub within : (i : ℕ) → has joined i ≡ true → i < length before

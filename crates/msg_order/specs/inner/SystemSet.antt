@@ -12,6 +12,6 @@ has s k = has_bit (slice_index s.words (k / 64)) (k % 64)
 unfoldable pub meets : SystemSet → SystemSet → Bool
 meets s t = list_any (λ k. has s k && has t k) (range_with_len 0 MAX_SYSTEMS)
 
--- the set that is read where a list has none there: it has no words
+-- the set that is read if a list has none there: it has no words
 abbrev pub no_set : SystemSet
 no_set = record { words = [] }

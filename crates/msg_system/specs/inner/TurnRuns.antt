@@ -25,7 +25,7 @@ module _ {V : Type 0} where
   HasReplies before answers n = (more : List (Reply V)) × (answers ≡ before ++ more)
       × (length more ≡ n)
 
-  -- what a memory gives next, where that keeps to what is needed
+  -- what a memory gives next, if that keeps to what is needed
   abbrev pub next_kept : {M : Type 0} → Needs → (M → List (Reply V) → Option (Op V)) → M
       → List (Reply V)
       → Option (Op V)

@@ -12,7 +12,7 @@ abbrev pub HaveEach : {X : Type 0} → List (Option X) → ℕ → Type 0
 HaveEach xs mask = (k : ℕ) → IsTrue (has_bit mask k) → IsSome (at xs k)
 
 module _ {V : Type 0} where
-  -- the buffer in a slot stands for a history, where there is one
+  -- the buffer in a slot stands for a history, if there is one
   abbrev pub BufferStands : Option (Kept (Record V)) → History (Record V) → Type 0
   BufferStands b h = IfSome b (λ k. StandsFor k h)
 
