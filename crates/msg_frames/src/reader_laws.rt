@@ -76,8 +76,8 @@ pub fn who_reads_each_frame_misses_nothing<V: Value>()
 {}
 
 /// A system whose one condition is that a message of a type came, and which reads all of the type
-/// if it runs, loses no wake-up. If it was skipped, nothing was unread by it as its turn came. So if
-/// it is up to date, it misses nothing over a run, unless a system drains the type.
+/// if it runs, loses no wake-up. If it was skipped, nothing was unread by it as its turn came. So
+/// if it is up to date, it misses nothing over a run, unless a system drains the type.
 pub fn no_wake_up_is_lost<V: Value>()
     ensures sleeps { WhoSleepsHasNothingUnread V.values }
     ensures woken { WhoIsWokenStaysSo V.values }
@@ -93,8 +93,8 @@ pub fn what_is_written_is_read_in_time<V: Value>()
     ensures next { AllReadersHaveItNext V.values }
 {}
 
-/// A system whose program of at most `MAX_OPS` ops reads a type without limit does so if it runs; if it
-/// has joined and has no conditions, in each frame.
+/// A system whose program of at most `MAX_OPS` ops reads a type without limit does so if it runs; if
+/// it has joined and has no conditions, in each frame.
 pub fn programs_read_all<V: Value>()
     ensures law { WhoseProgramReadsAll V.values }
     ensures woken { WhoseProgramReadsAllWhenWoken V.values }

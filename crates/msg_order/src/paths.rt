@@ -6,8 +6,8 @@ use crate::Rule;
 use crate::system_set::SystemSet;
 use msg_world::{Access, MAX_SYSTEMS};
 
-/// The systems of a set, and those to which a path leads from one of these. `starts` has each system
-/// from which a path leads on.
+/// The systems of a set, and those to which a path leads from one of these. `starts` has each
+/// system from which a path leads on.
 #[tactic(auto, using(crate::proofs::SetPaths::meets_past, crate::proofs::SetPaths::leads_nowhere))]
 fn reached_from(before: &[SystemSet], starts: &SystemSet, to: &SystemSet) -> SystemSet
     requires few { length before.now ≤ MAX_SYSTEMS }

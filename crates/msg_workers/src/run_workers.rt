@@ -88,10 +88,10 @@ fn work_from<R: Threads + Sync, W: Runs + Send, G: Gate>(
 }
 
 /// Starts a thread in which the next worker draws, while this worker runs the job that it drew
-/// first and draws on here. If more than one is to begin at once, the next worker starts no other, and
-/// this worker starts the rest before it runs its job; else the next worker may start the one after
-/// it, and first looks for a while whether the jobs run out: short ones are drawn here by then, and
-/// it starts none. Gives how many jobs it ran.
+/// first and draws on here. If more than one is to begin at once, the next worker starts no other,
+/// and this worker starts the rest before it runs its job; else the next worker may start the one
+/// after it, and first looks for a while whether the jobs run out: short ones are drawn here by
+/// then, and it starts none. Gives how many jobs it ran.
 #[cycle(workers)]
 fn work_beside<R: Threads + Sync, W: Runs + Send, G: Gate>(
     shared: &Shared<R, W, G>,

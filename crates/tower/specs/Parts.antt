@@ -44,7 +44,8 @@ next_deed (Tower t) replies =
     option_map (λ creep. Write t.lane.shots (Shot creep t.amount))
     (target_of t.reach (brought (slice_get replies 0)))
     else None
-next_deed (Gate breaks lives) replies = if length replies == 0 then Some (Sum breaks lives) else None
+next_deed (Gate breaks lives) replies =
+    if length replies == 0 then Some (Sum breaks lives) else None
 
 -- what a part is after a turn with these replies
 abbrev pub part_after : Part → List (Reply Event) → Part
