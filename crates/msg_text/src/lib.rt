@@ -1,5 +1,4 @@
-//! Text that is printed: numbers at its end, and the sinks that it goes into. What calls files
-//! answer and what scenario files report goes this way.
+//! Printing: numbers in decimal at the end of a text, and the sinks that texts are put into.
 #![tactic(auto)]
 
 mod memory_sink;
