@@ -5,9 +5,9 @@ use Rattle.msg_world.specs.Prelude.{OfType}
 use Rattle.msg_system.specs.Prelude.{op_needs, type_read, type_read_by}
 use Rattle.msg_system.specs.declared.op.Op.{Op}
 use Rattle.msg_order.specs.declared.rule.Rule.{Rule}
-use Rattle.msg_files.specs.Prelude.{Text}
-use Rattle.msg_files.specs.declared.reason.Reason.{Reason}
-use Rattle.msg_files.specs.declared.reason.Reason.TheVariants as reason
+use Rattle.msg_text.specs.Prelude.{Text}
+use Rattle.msg_json.specs.declared.reason.Reason.{Reason}
+use Rattle.msg_json.specs.declared.reason.Reason.TheVariants as reason
 use Rattle.msg_scenario_data.specs.Prelude.{system_name, type_name}
 use Rattle.msg_scenario_data.specs.{declared.scenario.Scenario.Scenario, declared.scenario.SystemSpec.SystemSpec}
 use Rattle.msg_plans.specs.declared.clash.Clash.{Clash}
