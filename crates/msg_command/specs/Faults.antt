@@ -3,10 +3,10 @@ use Rattle.std.specs.Prelude.{ℕ, List, [], codes}
 use Rattle.msg_command.specs.{declared.fault.MainFault.MainFault, declared.fault.MainFault.TheVariants.Words, declared.fault.MainFault.TheVariants.Input, declared.fault.MainFault.TheVariants.Refused, declared.fault.MainFault.TheVariants.Told, declared.fault.MainFault.TheVariants.Built, declared.fault.MainFault.TheVariants.Report}
 use Rattle.msg_command.specs.declared.words.WordFault.TheVariants as word
 use Rattle.msg_command.specs.declared.input.InputFault.TheVariants as input
-use Rattle.msg_files.specs.declared.refusal.Refusal.{Refusal}
-use Rattle.msg_files.specs.declared.refusal.Refusal.TheVariants as refusal
+use Rattle.msg_json.specs.declared.refusal.Refusal.{Refusal}
+use Rattle.msg_json.specs.declared.refusal.Refusal.TheVariants as refusal
 use Rattle.msg_world.specs.declared.run_fault.RunFault.TheVariants as run
-use Rattle.msg_files.specs.declared.report_fault.ReportFault.TheVariants as report
+use Rattle.msg_text.specs.declared.report_fault.ReportFault.TheVariants as report
 
 -- the line of a refusal: its number and name, but for want of memory
 abbrev pub refusal_line : Refusal → List ℕ

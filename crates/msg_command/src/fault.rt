@@ -1,7 +1,9 @@
 ghost use Rattle.std.specs.Prelude.{◌≡◌};
 
 use crate::{InputFault, WordFault};
-use msg_files::{NoMemory, Refusal, ReportFault};
+use msg_json::Refusal;
+use msg_text::ReportFault;
+use msg_world::NoMemory;
 use thiserror::Error;
 
 mod print;

@@ -5,8 +5,9 @@ use Rattle.std.specs.Io.KnownBytes.{Appends}
 use Rattle.std.proofs.KnownBytes.{Appends-trans}
 use Rattle.msg_buffer.specs.Prelude.{Kept}
 use Rattle.msg_files.specs.inner.Running.{AreIn, TakesFront}
-use Rattle.msg_files.specs.Prelude.{AppendsPrefix, Call, BufferState, after, cursors_exist, line, made_by, text_of}
-use Rattle.msg_files.proofs.Puts.{AppendsPrefix_after}
+use Rattle.msg_text.specs.Prelude.{AppendsPrefix}
+use Rattle.msg_files.specs.Prelude.{Call, BufferState, after, cursors_exist, line, made_by, text_of}
+use Rattle.msg_text.proofs.Puts.{AppendsPrefix_after}
 
 -- a call makes as many places as it makes cursors
 pub length-places_after : (call : Call) (s : BufferState)

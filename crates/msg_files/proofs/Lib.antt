@@ -1,10 +1,5 @@
--- reading a file: lists of JSON values, element by element
-pub mod WalksOverLists
-pub mod FaultsOfFiles
-pub mod KeysInOrder
-pub mod NearNames
+-- the calls of a file, element by element
+pub mod CallsAreRead
 -- its calls, one after another, and their text
 pub mod ItemsInLines
-pub mod Digits
-pub mod Puts
 pub mod CallsAreRun

@@ -2,13 +2,14 @@
 use Rattle.std.specs.Prelude.{ℕ, ◌+◌, ◌||◌, ℤ, nat_lt, Bool, List, [], ◌∷◌, Some, None, Ok, codes, if◌then◌else◌}
 use Rattle.std.specs.Str.{bytes_eq}
 use Rattle.serde_json.specs.Data.{Data}
-use Rattle.msg_files.specs.{Json.Text, Cursors.CallsFile, Cursors.made_by}
-use Rattle.msg_files.specs.Values.{at_key, below, headed, known_keys, limit, limit_of, list_up_to, natural, number_of, value_of, values_of}
-use Rattle.msg_files.specs.Faults.{Reading, fails, in_element, in_part, in_section, wanted, ◌>>=◌}
+use Rattle.msg_text.specs.Text.{Text}
+use Rattle.msg_files.specs.{Cursors.CallsFile, Cursors.made_by}
+use Rattle.msg_json.specs.Values.{at_key, below, headed, known_keys, limit, limit_of, list_up_to, natural, number_of, value_of, values_of}
+use Rattle.msg_json.specs.Faults.{Reading, fails, in_element, in_part, in_section, wanted, ◌>>=◌}
 use Rattle.msg_files.specs.declared.call.Call.{Call}
 use Rattle.msg_files.specs.declared.call.Call.TheVariants as call
-use Rattle.msg_files.specs.declared.location.Key.TheVariants as key
-use Rattle.msg_files.specs.declared.reason.Reason.TheVariants as reason
+use Rattle.msg_json.specs.declared.location.Key.TheVariants as key
+use Rattle.msg_json.specs.declared.reason.Reason.TheVariants as reason
 
 -- a call that makes a cursor, if fewer than 64 were made before
 abbrev pub one_cursor_more : ℕ → Call → Reading Call

@@ -4,7 +4,8 @@ use Rattle.std.specs.Prelude.{ℕ, ℤ, List, [], ◌∷◌, ◌++◌, length, s
 use Rattle.std.specs.Fmt.{signed_decimal}
 use Rattle.msg_buffer.specs.Prelude.{History, clear, count, current, empty, get, given, has_room, missed, next_place, oldest, present, read, unread, update, write}
 use Rattle.msg_buffer.specs.declared.Instance.{Instance}
-use Rattle.msg_files.specs.{Json.Text, Cursors.CallsFile, declared.call.Call.Call, declared.call.Call.TheVariants.Write, declared.call.Call.TheVariants.Batch, declared.call.Call.TheVariants.Update, declared.call.Call.TheVariants.Read, declared.call.Call.TheVariants.Missed, declared.call.Call.TheVariants.Len, declared.call.Call.TheVariants.Clear, declared.call.Call.TheVariants.Cursor, declared.call.Call.TheVariants.CursorCurrent, declared.call.Call.TheVariants.Get, declared.call.Call.TheVariants.Current, declared.call.Call.TheVariants.Oldest, declared.call.Call.TheVariants.Count, declared.call.Call.TheVariants.Total, declared.call.Call.TheVariants.Drain, declared.call.Call.TheVariants.ClearAll}
+use Rattle.msg_text.specs.Text.{Text}
+use Rattle.msg_files.specs.{Cursors.CallsFile, declared.call.Call.Call, declared.call.Call.TheVariants.Write, declared.call.Call.TheVariants.Batch, declared.call.Call.TheVariants.Update, declared.call.Call.TheVariants.Read, declared.call.Call.TheVariants.Missed, declared.call.Call.TheVariants.Len, declared.call.Call.TheVariants.Clear, declared.call.Call.TheVariants.Cursor, declared.call.Call.TheVariants.CursorCurrent, declared.call.Call.TheVariants.Get, declared.call.Call.TheVariants.Current, declared.call.Call.TheVariants.Oldest, declared.call.Call.TheVariants.Count, declared.call.Call.TheVariants.Total, declared.call.Call.TheVariants.Drain, declared.call.Call.TheVariants.ClearAll}
 
 -- a history, and the place of each cursor in the order of their making
 pub record BufferState : Type 0 where

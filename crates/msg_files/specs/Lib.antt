@@ -1,12 +1,5 @@
-pub mod Json
-pub mod Faults
-pub mod Values
-pub mod Seen
 pub mod Prelude
-pub mod Sinks
 pub mod Cursors
 pub mod CallsFormat
 pub mod CallsText
-pub mod Nearest
-pub mod Told
 pub mod inner

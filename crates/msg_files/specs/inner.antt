@@ -1,3 +1,2 @@
 pub mod Cursors
 pub mod Running
-pub mod Edits

@@ -2,7 +2,7 @@
 use Rattle.std.specs.Prelude.{ℕ, ◌+◌, ◌∷◌, ◌++◌, List, [], length, flat_map, codes, decimal, if◌then◌else◌}
 use Rattle.std.specs.List.{range_with_len}
 use Rattle.msg_order.specs.Prelude.{batch_at}
-use Rattle.msg_files.specs.Prelude.{Text}
+use Rattle.msg_text.specs.Prelude.{Text}
 use Rattle.msg_scenario_data.specs.Prelude.{resource_name, system_name, type_name}
 use Rattle.msg_scenario_data.specs.declared.scenario.Scenario.{Scenario}
 use Rattle.msg_plans.specs.Order.{batches_in, causes, chain, has_rule, is_next, turns_in, users}

@@ -3,7 +3,7 @@ use Rattle.std.specs.Prelude.{ℕ, ◌++◌, ◌&&◌, ◌||◌, ◌==◌, not, 
 use Rattle.std.specs.{List.list_any, List.range_with_len, Option.option_map_or}
 use Rattle.msg_world.specs.Prelude.{OfResource, OfType}
 use Rattle.msg_system.specs.Prelude.{needs_any, program_needs}
-use Rattle.msg_files.specs.Prelude.{Text}
+use Rattle.msg_text.specs.Prelude.{Text}
 use Rattle.msg_frames.specs.declared.frame.Frame.{Frame}
 use Rattle.msg_scenario_data.specs.Prelude.{resource_name, system_name, type_name}
 use Rattle.msg_scenario_data.specs.{declared.scenario.Scenario.Scenario, declared.scenario.SystemSpec.SystemSpec}

@@ -4,9 +4,9 @@ use Rattle.std.specs.{List.list_any, Option.option_map_or}
 use Rattle.msg_system.specs.Prelude.{type_read, type_read_by, type_written}
 use Rattle.msg_system.specs.declared.op.Op.{Op}
 use Rattle.msg_order.specs.declared.rule.Rule.{Rule}
-use Rattle.msg_files.specs.Prelude.{Text}
-use Rattle.msg_files.specs.declared.reason.Reason.{Reason}
-use Rattle.msg_files.specs.declared.reason.Reason.TheVariants as reason
+use Rattle.msg_text.specs.Prelude.{Text}
+use Rattle.msg_json.specs.declared.reason.Reason.{Reason}
+use Rattle.msg_json.specs.declared.reason.Reason.TheVariants as reason
 use Rattle.msg_scenario_data.specs.Prelude.{system_name, type_name}
 use Rattle.msg_scenario_data.specs.{declared.scenario.Scenario.Scenario, declared.scenario.SystemSpec.SystemSpec}
 use Rattle.msg_plans.specs.declared.clash.Clash.{Clash}

@@ -4,10 +4,10 @@ ghost use Rattle.msg_plans.specs.Prelude.{batch_end, batch_head, batch_text, bat
 ghost use Rattle.msg_plans.specs.inner.Tables.{IsTableOf};
 
 use crate::planned::{Form, Planned};
-use msg_files::NoMemory;
-use msg_files::numerals::add_count;
 use msg_scenario_data::Scenario;
 use msg_scenario_data::names::add_system;
+use msg_text::numerals::add_count;
+use msg_world::NoMemory;
 use std::alloc::Global;
 
 /// The name of a system as Graphviz reads it.

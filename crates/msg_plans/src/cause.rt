@@ -5,10 +5,9 @@ ghost use Rattle.msg_plans.specs.Prelude.{all_causes, cause_text, causes, causes
 ghost use Rattle.msg_plans.specs.inner.Tables.{IsTableOf};
 
 use crate::planned::Planned;
-use msg_files::NoMemory;
 use msg_scenario_data::Scenario;
 use msg_scenario_data::names::{add_resource, add_type};
-use msg_world::{ResNo, TypeNo};
+use msg_world::{NoMemory, ResNo, TypeNo};
 use std::alloc::Global;
 
 /// Why one system is before another: a rule says so, or one of them writes a part of the world that

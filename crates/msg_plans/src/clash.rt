@@ -2,12 +2,11 @@
 ghost use Rattle.std.specs.Prelude.{◌≡◌, ◌++◌, OnOk};
 ghost use Rattle.msg_plans.specs.Unfit as Spec;
 
-use msg_files::NoMemory;
-use msg_files::numerals::add_count;
 use msg_scenario_data::names::add_type;
 use msg_scenario_data::{Scenario, SystemSpec};
 use msg_system::Op;
-use msg_world::TypeNo;
+use msg_text::numerals::add_count;
+use msg_world::{NoMemory, TypeNo};
 
 /// An op that reads a type and one that writes it, by their places in one program.
 #[derive(Clone, Copy, Debug, PartialEq, Eq)]

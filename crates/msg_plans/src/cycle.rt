@@ -2,11 +2,11 @@
 ghost use Rattle.std.specs.Prelude.{◌≡◌, ◌++◌, IfOk, OnOk, map};
 ghost use Rattle.msg_plans.specs.Unfit as Spec;
 
-use msg_files::NoMemory;
-use msg_files::numerals::add_count;
 use msg_order::Rule;
 use msg_scenario_data::Scenario;
 use msg_scenario_data::names::add_system;
+use msg_text::numerals::add_count;
+use msg_world::NoMemory;
 use std::alloc::Global;
 
 /// The rules that lead from a system back to it, as few as there are, by their places; none if it

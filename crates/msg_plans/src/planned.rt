@@ -7,12 +7,11 @@ ghost use Rattle.msg_scenario_data.specs.Prelude.{IsRunnable};
 ghost use Rattle.msg_plans.specs.Prelude.{is_next, needs_in, precedes, turns_in, uses};
 ghost use Rattle.msg_plans.specs.inner.Tables.{AreAccesses, IsTableOf, joined_by, spec_needs};
 
-use msg_files::NoMemory;
 use msg_order::laws::fewer_systems_make_no_cycle;
 use msg_order::{Plan, PlanRefusal};
 use msg_scenario_data::{Scenario, SystemSpec};
 use msg_system::job_access;
-use msg_world::{Access, TypeNo};
+use msg_world::{Access, NoMemory, TypeNo};
 use std::alloc::Global;
 
 /// How a plan is told.

@@ -1,7 +1,7 @@
 // The text of a plan, made in memory and put into a sink.
 ghost use Rattle.std.specs.Prelude.{◌≡◌, ◌<◌, ◌≤◌, ◌⊎◌, ◌++◌, Err, IfErr, OnErr, OnOk, length};
 ghost use Rattle.std.specs.Io.KnownBytes.{Appends};
-ghost use Rattle.msg_files.specs.Prelude.{AppendsPrefix, one_failure_more};
+ghost use Rattle.msg_text.specs.Prelude.{AppendsPrefix, one_failure_more};
 ghost use Rattle.msg_scenario_data.specs.Prelude.{IsRunnable};
 ghost use Rattle.msg_plans.specs.Prelude.{dot_head, dot_text, lines_text, plan_text};
 ghost use Rattle.msg_plans.specs.inner.Tables.{IsTableOf};
@@ -10,9 +10,10 @@ use crate::batches::{add_batches, add_chain};
 use crate::edges::add_edges;
 use crate::planned::{Form, Planned, plan_frame};
 use crate::users::add_types;
-use msg_files::numerals::add_count;
-use msg_files::{NoMemory, ReportFault, Sink, put_text};
 use msg_scenario_data::Scenario;
+use msg_text::numerals::add_count;
+use msg_text::{ReportFault, Sink, put_text};
+use msg_world::NoMemory;
 use std::alloc::Global;
 
 fn add_lines(text: &mut Vec<u8>, scenario: &Scenario, planned: &Planned) -> Result<(), NoMemory>

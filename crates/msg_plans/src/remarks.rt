@@ -5,12 +5,11 @@ ghost use Rattle.msg_plans.specs.Remarks.{absent_remark, absent_remarks, everybo
 ghost use Rattle.msg_plans.specs.inner.Tables.{IsTableOf};
 
 use crate::planned::{Planned, Use, plan_frame};
-use msg_files::NoMemory;
-use msg_files::numerals::add_count;
 use msg_frames::Frame;
 use msg_scenario_data::names::{add_name, add_resource, add_system, add_type};
 use msg_scenario_data::{LAST_JOIN, Scenario, SystemSpec};
-use msg_world::{ResNo, TypeNo};
+use msg_text::numerals::add_count;
+use msg_world::{NoMemory, ResNo, TypeNo};
 
 /// What there is to remark of a type.
 #[derive(Clone, Copy)]

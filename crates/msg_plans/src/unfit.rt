@@ -4,8 +4,9 @@ ghost use Rattle.msg_plans.specs.Unfit.{unfit_text};
 
 use crate::clash::add_clash;
 use crate::cycle::add_round;
-use msg_files::{NoMemory, Reason};
+use msg_json::Reason;
 use msg_scenario_data::Scenario;
+use msg_world::NoMemory;
 
 /// Adds what there is to tell of a scenario that is refused as a whole: of a clash the ops and the
 /// type, of a cycle the rules round it, a line each.

@@ -4,10 +4,9 @@ ghost use Rattle.msg_plans.specs.Prelude.{is_late, type_line, types_text, user, 
 ghost use Rattle.msg_plans.specs.inner.Tables.{IsTableOf};
 
 use crate::planned::{Planned, Use, User};
-use msg_files::NoMemory;
 use msg_scenario_data::Scenario;
 use msg_scenario_data::names::{add_system, add_type};
-use msg_world::TypeNo;
+use msg_world::{NoMemory, TypeNo};
 use std::alloc::Global;
 
 /// Whether a system runs before one that writes the type.

@@ -2,9 +2,9 @@
 use Rattle.std.proofs.Common.{◌≡◌, ℕ, suc, ◌+◌, ◌≤◌, List, [], ◌∷◌, length, refl, ap, arith, Bool, true, false, All, Ok, Err, IfOk, Option, Some, None, nat_le, zero-add, if◌then◌else◌}
 use Rattle.std.proofs.lemmas.{Bool.leb-true, List.Elements.All-cons, List.Elements.All-nil, Result.IfOk-at_ok, Result.IfOk-weaker}
 use Rattle.serde_json.specs.Data.{Data}
-use Rattle.msg_files.specs.Prelude.{Reading, elements, found, inside, is_list, list_up_to, wanted, ◌>>=◌}
-use Rattle.msg_files.specs.declared.location.Step.{Step}
-use Rattle.msg_files.specs.declared.reason.Reason.{Reason}
+use Rattle.msg_json.specs.Prelude.{Reading, elements, found, inside, is_list, list_up_to, wanted, ◌>>=◌}
+use Rattle.msg_json.specs.declared.location.Step.{Step}
+use Rattle.msg_json.specs.declared.reason.Reason.{Reason}
 use Rattle.msg_reading.specs.Prelude.{Declared, each_from, each_of}
 
 -- it holds of what the second gives, whatever the first gave

@@ -2,9 +2,9 @@
 use Rattle.std.proofs.Common.{◌≡◌, ℕ, ◌+◌, List, [], ◌∷◌, ◌++◌, drop, map, refl, sym, ap, ◌∙◌, Ok, Err, inl, inr}
 use Rattle.std.proofs.lemmas.List.{append_assoc}
 use Rattle.serde_json.specs.{Data.Data, View.view, declared.value.Value.Value}
-use Rattle.msg_files.specs.Prelude.{Reading, inside, ◌>>=◌}
-use Rattle.msg_files.specs.declared.fault.Fault.{Fault}
-use Rattle.msg_files.specs.declared.location.Step.{Step}
+use Rattle.msg_json.specs.Prelude.{Reading, inside, ◌>>=◌}
+use Rattle.msg_json.specs.declared.fault.Fault.{Fault}
+use Rattle.msg_json.specs.declared.location.Step.{Step}
 use Rattle.msg_reading.specs.Prelude.{Declared, each_from}
 use Rattle.msg_reading.specs.inner.Elements.{ReadsWith}
 

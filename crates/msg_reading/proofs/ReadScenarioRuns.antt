@@ -7,9 +7,10 @@ use Rattle.msg_system.specs.Prelude.{job_needs, needs_any}
 use Rattle.msg_system.specs.{declared.condition.Condition.Condition, declared.op.Op.Op}
 use Rattle.msg_order.specs.Prelude.{IsAcyclic, NameSystemsBelow, edges_of}
 use Rattle.msg_frames.specs.declared.frame.Frame.{Frame}
-use Rattle.msg_files.specs.Prelude.{Reading, Text, at_key, elements, in_element, in_item, in_key, in_part, known_keys, limit, not_negative, number_of, only_below, whole}
-use Rattle.msg_files.specs.declared.location.Key.TheVariants as key
-use Rattle.msg_files.specs.declared.location.Step.TheVariants as step
+use Rattle.msg_json.specs.Prelude.{Reading, at_key, elements, in_element, in_item, in_key, in_part, known_keys, limit, not_negative, number_of, only_below, whole}
+use Rattle.msg_text.specs.Prelude.{Text}
+use Rattle.msg_json.specs.declared.location.Key.TheVariants as key
+use Rattle.msg_json.specs.declared.location.Step.TheVariants as step
 use Rattle.msg_scenario_data.specs.{Prelude.IsRunnable, Prelude.fits_kind, declared.kind.Kind.Kind, declared.scenario.Scenario.Scenario, declared.scenario.SystemSpec.SystemSpec}
 use Rattle.msg_reading.specs.ScenarioFormat as Spec
 use Rattle.msg_reading.specs.Prelude.{Declared, NoneClash, frames_of, held_of, resources_of, rules_of, scenario_of, systems_of, types_of}

@@ -7,8 +7,9 @@ use Rattle.msg_world.specs.Prelude.{HasPart, Part}
 use Rattle.msg_system.specs.Prelude.{is_part, job_needs, needs_any, op_parts, probe_part}
 use Rattle.msg_system.specs.{declared.condition.Condition.Condition, declared.condition.Probe.Probe, declared.op.Op.Op}
 use Rattle.msg_order.specs.declared.rule.Rule.{Rule}
-use Rattle.msg_files.specs.Prelude.{Reading, Text, elements, headed, in_nots, in_part, only_below, text_in, whole, ◌>>=◌}
-use Rattle.msg_files.specs.declared.location.Step.TheVariants as step
+use Rattle.msg_json.specs.Prelude.{Reading, elements, headed, in_nots, in_part, only_below, text_in, whole, ◌>>=◌}
+use Rattle.msg_text.specs.Prelude.{Text}
+use Rattle.msg_json.specs.declared.location.Step.TheVariants as step
 use Rattle.msg_reading.specs.ScenarioFormat as Spec
 use Rattle.msg_reading.specs.Prelude.{Declared, resource_number, system_number, type_number}
 use Rattle.msg_reading.proofs.FitsOfReadings.{either, in_then, of_found, within}

@@ -1,7 +1,8 @@
 -- Names in a scenario file.
 use Rattle.std.specs.Prelude.{ℕ, List, Option, position, option_and_then}
 use Rattle.std.specs.Str.{bytes_eq}
-use Rattle.msg_files.specs.Prelude.{Text, only_below}
+use Rattle.msg_text.specs.Prelude.{Text}
+use Rattle.msg_json.specs.Prelude.{only_below}
 
 -- the names that are declared so far, of three kinds
 pub record Declared : Type 0 where

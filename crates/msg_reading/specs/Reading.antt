@@ -3,11 +3,11 @@ use Rattle.std.specs.Prelude.{◌≡◌, ◌⊎◌, ℕ, All, List, Some, Ok, Er
 use Rattle.serde_json.specs.Data.{Data}
 use Rattle.msg_order.specs.Prelude.{IsAcyclic, IsLowestOnCycle, edges_of}
 use Rattle.msg_system.specs.Prelude.{HasClash, program_needs}
-use Rattle.msg_files.specs.Prelude.{fault, here}
-use Rattle.msg_files.specs.declared.fault.Fault.{Fault}
-use Rattle.msg_files.specs.declared.location.Key.TheVariants as key
-use Rattle.msg_files.specs.declared.reason.Reason.{Reason}
-use Rattle.msg_files.specs.declared.reason.Reason.TheVariants as reason
+use Rattle.msg_json.specs.Prelude.{fault, here}
+use Rattle.msg_json.specs.declared.fault.Fault.{Fault}
+use Rattle.msg_json.specs.declared.location.Key.TheVariants as key
+use Rattle.msg_json.specs.declared.reason.Reason.{Reason}
+use Rattle.msg_json.specs.declared.reason.Reason.TheVariants as reason
 use Rattle.msg_reading.specs.ScenarioFormat.{scenario_of}
 use Rattle.msg_scenario_data.specs.{declared.scenario.Scenario.Scenario, declared.scenario.SystemSpec.SystemSpec}
 

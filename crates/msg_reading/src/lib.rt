@@ -4,6 +4,6 @@
 mod limits;
 mod read;
 
-pub use msg_files::{Fault, FileFault, Refusal};
+pub use msg_json::{Fault, FileFault, Refusal};
 pub use msg_scenario_data::{Kind, Name, Scenario, SystemSpec};
 pub use read::{check_scenario, read_scenario, read_sections};

@@ -1,13 +1,13 @@
 // A scenario from the bytes of a JSON text.
 ghost use Rattle.std.specs.Prelude.{◌≡◌, ◌≢◌, ◌⊎◌, Err, IfOk, IfErr};
 ghost use Rattle.serde_json.specs.{Data.Data, View.view};
-ghost use Rattle.msg_files.specs.Prelude.{IsFaultOf, IsJsonOf, IsNotJson, IsRefusedFor};
-ghost use Rattle.msg_files.specs.declared.reason.Reason.TheVariants.{NoMemory as NoRoom};
+ghost use Rattle.msg_json.specs.Prelude.{IsFaultOf, IsJsonOf, IsNotJson, IsRefusedFor};
+ghost use Rattle.msg_json.specs.declared.reason.Reason.TheVariants.{NoMemory as NoRoom};
 ghost use Rattle.msg_reading.specs.Prelude.{HasFault, IsReadAs};
 ghost use Rattle.msg_scenario_data.specs.Prelude.{IsRunnable};
 
 use crate::{Fault, FileFault, Refusal, Scenario};
-use msg_files::json::parse;
+use msg_json::json::parse;
 use serde_json::Value;
 use std::alloc::Global;
 

@@ -12,11 +12,11 @@ use Rattle.msg_frames.specs.{declared.account.Account.Account, declared.frame.Fr
 use Rattle.msg_exec.specs.declared.engine.EngineOf.{EngineOf}
 use Rattle.msg_frames.proofs.Functions.{run_more}
 use Rattle.msg_world.specs.{declared.run_fault.RunFault.RunFault, declared.run_fault.RunFault.TheVariants.BadOrder, declared.run_fault.RunFault.TheVariants.NoMemory, declared.run_fault.RunFault.TheVariants.Spoiled, Prelude.i64_values}
-use Rattle.msg_files.specs.Prelude.{AppendsPrefix, Text}
+use Rattle.msg_text.specs.Prelude.{AppendsPrefix, Text}
 use Rattle.msg_reports.specs.Prelude.{HasPrinted, HasReported, HasRunOut, HasStopped, accounts_text, frame_text, frames_text, text_so_far}
 use Rattle.msg_scenario_data.specs.Prelude.{state_of}
 use Rattle.msg_scenario_data.specs.declared.scenario.Scenario.{Scenario}
-use Rattle.msg_files.proofs.Puts.{AppendsPrefix_after}
+use Rattle.msg_text.proofs.Puts.{AppendsPrefix_after}
 use Rattle.msg_reports.specs.inner.SoFar.{ReportSoFar}
 use Rattle.msg_reports.proofs.TextsByPieces.{zip-nil}
 

@@ -8,7 +8,7 @@ use Rattle.msg_exec.specs.declared.engine.EngineOf.{EngineOf}
 use Rattle.msg_frames.specs.declared.log.Log.{Log}
 use Rattle.msg_reports.specs.ReportText.{frames_text, report_text, text_so_far}
 use Rattle.msg_scenario_data.specs.Prelude.{state_of}
-use Rattle.msg_files.specs.Prelude.{AppendsAtLeast, AppendsPrefix}
+use Rattle.msg_text.specs.Prelude.{AppendsAtLeast, AppendsPrefix}
 use Rattle.msg_scenario_data.specs.declared.scenario.Scenario.{Scenario}
 use Rattle.msg_world.specs.Prelude.{i64_values}
 

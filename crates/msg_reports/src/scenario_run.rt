@@ -2,16 +2,16 @@
 ghost use Rattle.std.specs.Prelude.{◌≡◌, ◌≢◌, ◌⊎◌, Ok, Err, IfOk, OnErr, OnOk, length};
 ghost use Rattle.msg_world.specs.declared.run_fault.RunFault.TheVariants.{BadOrder, NoMemory as NoRoom, Spoiled};
 ghost use Rattle.msg_exec.specs.Prelude.{EachIs};
-ghost use Rattle.msg_files.specs.Prelude.{one_failure_more};
+ghost use Rattle.msg_text.specs.Prelude.{one_failure_more};
 ghost use Rattle.msg_scenario_data.specs.Prelude.{IsRunnable};
 ghost use Rattle.msg_reports.specs.Prelude.{HasPrinted, IsReported, IsSystemAt, RanOut, Stopped};
 
 use crate::building::engine_of;
 use crate::reports::report;
 use msg_exec::{Gate, NoMemory, Workers};
-use msg_files::{ReportFault, Sink};
 use msg_scenario_data::Scenario;
 use msg_system::SystemOf;
+use msg_text::{ReportFault, Sink};
 use std::alloc::Global;
 use std::thread::Threads;
 

@@ -1,7 +1,8 @@
 -- From the bytes of a file to what is answered.
 use Rattle.std.specs.Prelude.{◌≡◌, ℕ, List, Ok, Some}
 use Rattle.serde_json.specs.Data.{Data}
-use Rattle.msg_files.specs.Prelude.{IsJsonOf, file_of}
+use Rattle.msg_json.specs.Prelude.{IsJsonOf}
+use Rattle.msg_files.specs.Prelude.{file_of}
 use Rattle.msg_files.specs.declared.calls.Calls.{Calls}
 use Rattle.msg_reading.specs.Prelude.{IsReadAs}
 use Rattle.msg_reports.specs.Prelude.{IsReported}

@@ -1,7 +1,7 @@
 -- Names of types, resources and systems.
 use Rattle.std.specs.Prelude.{ℕ, ◌&&◌, ◌||◌, ◌==◌, not, nat_le, Bool, length, codes}
 use Rattle.std.specs.{List.list_all, Str.bytes_eq}
-use Rattle.msg_files.specs.Prelude.{Text}
+use Rattle.msg_text.specs.Prelude.{Text}
 
 -- `a` to `z`, `0` to `9`, or `_`
 abbrev pub is_name_character : ℕ → Bool

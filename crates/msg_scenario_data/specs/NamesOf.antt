@@ -1,7 +1,7 @@
 -- The names of the parts of a scenario. A number that no part has goes without a name.
 use Rattle.std.specs.Prelude.{ℕ, [], slice_get}
 use Rattle.std.specs.Option.{option_map_or}
-use Rattle.msg_files.specs.Prelude.{Text}
+use Rattle.msg_text.specs.Prelude.{Text}
 use Rattle.msg_scenario_data.specs.declared.scenario.Scenario.{Scenario}
 
 -- the name of type t

@@ -3,7 +3,7 @@ ghost use Rattle.std.specs.List.{list_all};
 ghost use Rattle.msg_scenario_data.specs.Prelude.{is_name, is_name_character};
 
 use crate::limits::MAX_NAME;
-use msg_files::Refusal;
+use msg_json::Refusal;
 use std::alloc::Global;
 use std::marker::Model;
 
@@ -16,7 +16,7 @@ pub struct Name {
 
 impl Model for Name {
     ghost use Rattle.std.specs.Prelude.{string_bytes};
-    ghost use Rattle.msg_files.specs.Prelude.{Text};
+    ghost use Rattle.msg_text.specs.Prelude.{Text};
 
     ghost Value = { Text };
 

@@ -3,8 +3,7 @@ ghost use Rattle.std.specs.Prelude.{◌≡◌, ◌++◌, OnOk};
 ghost use Rattle.msg_scenario_data.specs.Prelude.{resource_name, system_name, type_name};
 
 use crate::{Name, Scenario};
-use msg_files::NoMemory;
-use msg_world::{ResNo, TypeNo};
+use msg_world::{NoMemory, ResNo, TypeNo};
 
 /// A name as it is.
 pub fn add_name(text: &mut Vec<u8>, name: &Name) -> Result<(), NoMemory>

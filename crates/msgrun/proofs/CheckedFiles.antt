@@ -1,9 +1,9 @@
 -- What is told of a checked file.
 use Rattle.std.proofs.Common.{◌≡◌, ℕ, List, inl, inr, ap, sym, ◌∙◌, unwrap_or}
 use Rattle.serde_json.specs.Data.{Data}
-use Rattle.msg_files.specs.Prelude.{IsFaultOf, IsJsonOf}
-use Rattle.msg_files.specs.declared.fault.Fault.{Fault}
-use Rattle.msg_files.specs.declared.file_fault.FileFault.TheVariants as file_fault
+use Rattle.msg_json.specs.Prelude.{IsFaultOf, IsJsonOf}
+use Rattle.msg_json.specs.declared.fault.Fault.{Fault}
+use Rattle.msg_json.specs.declared.file_fault.FileFault.TheVariants as file_fault
 use Rattle.msg_command.specs.declared.fault.MainFault.{MainFault}
 use Rattle.msg_command.specs.declared.fault.MainFault.TheVariants as main
 use Rattle.msgrun.specs.Prelude.{EndsCheck, IsFaultOfEither}

@@ -1,12 +1,14 @@
 -- What a file is told as that was checked, and not run.
 use Rattle.std.specs.Prelude.{◌≡◌, ◌⊎◌, ℕ, Bool, true, false, List, [], ◌++◌, length, Ok, Err, codes, decimal, is_some}
 use Rattle.serde_json.specs.{Data.Data, Find.get}
-use Rattle.msg_files.specs.Prelude.{IsJsonOf, IsNotJson, Text, file_of, key_text, reason_refusal, told}
+use Rattle.msg_json.specs.Prelude.{IsJsonOf, IsNotJson, key_text, reason_refusal, told}
+use Rattle.msg_text.specs.Prelude.{Text}
+use Rattle.msg_files.specs.Prelude.{file_of}
 use Rattle.msg_files.specs.Cursors.{CallsFile}
-use Rattle.msg_files.specs.declared.fault.Fault.{Fault}
-use Rattle.msg_files.specs.declared.location.Key.TheVariants as key
-use Rattle.msg_files.specs.declared.refusal.Refusal.TheVariants as refusal
-use Rattle.msg_files.specs.declared.reason.Reason.{Reason}
+use Rattle.msg_json.specs.declared.fault.Fault.{Fault}
+use Rattle.msg_json.specs.declared.location.Key.TheVariants as key
+use Rattle.msg_json.specs.declared.refusal.Refusal.TheVariants as refusal
+use Rattle.msg_json.specs.declared.reason.Reason.{Reason}
 use Rattle.msg_reading.specs.Prelude.{HasFault, IsReadAs, scenario_of}
 use Rattle.msg_scenario_data.specs.declared.scenario.Scenario.{Scenario}
 use Rattle.msg_plans.specs.Prelude.{remarks_text, unfit_text}

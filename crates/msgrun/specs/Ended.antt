@@ -1,6 +1,6 @@
 -- How the program ends by what a run of a scenario came to.
 use Rattle.std.specs.Prelude.{ℕ, Result, Ok, Err}
-use Rattle.msg_files.specs.declared.report_fault.ReportFault.{ReportFault}
+use Rattle.msg_text.specs.declared.report_fault.ReportFault.{ReportFault}
 use Rattle.msg_command.specs.Prelude.{status_of}
 use Rattle.msg_command.specs.{declared.fault.MainFault.MainFault, declared.fault.MainFault.TheVariants.Built, declared.fault.MainFault.TheVariants.Report}
 

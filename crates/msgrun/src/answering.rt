@@ -1,15 +1,17 @@
 // From the bytes of a file to what is put: what the program does between its input and its output.
 ghost use Rattle.std.specs.Prelude.{◌≡◌, ◌⊎◌, OnErr, OnOk};
 ghost use Rattle.std.specs.Io.KnownBytes.{Appends};
-ghost use Rattle.msg_files.specs.Prelude.{AppendsPrefix, calls_text};
+ghost use Rattle.msg_text.specs.Prelude.{AppendsPrefix};
+ghost use Rattle.msg_files.specs.Prelude.{calls_text};
 ghost use Rattle.msg_reports.specs.Prelude.{HasPrinted, IsReported};
 ghost use Rattle.msg_scenario.specs.FromBytes.{AreOfCalls, IsOfScenario};
 
 use crate::boxes::{as_main_fault, run_in_boxes};
 use msg_command::MainFault;
 use msg_exec::Workers;
-use msg_files::{Sink, read_calls, run_calls};
+use msg_files::{read_calls, run_calls};
 use msg_reading::read_scenario;
+use msg_text::Sink;
 use std::alloc::Global;
 use std::thread::Threads;
 

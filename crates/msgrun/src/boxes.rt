@@ -1,7 +1,7 @@
 // A scenario, run to its end by systems in boxes.
 ghost use Rattle.std.specs.Prelude.{◌≡◌, ◌≢◌, ◌⊎◌, Ok, Err, IfOk, OnErr, OnOk};
 ghost use Rattle.msg_world.specs.declared.run_fault.RunFault.TheVariants.{BadOrder, NoMemory as NoRoom, Spoiled};
-ghost use Rattle.msg_files.specs.Prelude.{one_failure_more};
+ghost use Rattle.msg_text.specs.Prelude.{one_failure_more};
 ghost use Rattle.msg_scenario_data.specs.Prelude.{IsRunnable};
 ghost use Rattle.msg_reports.specs.Prelude.{HasPrinted, IsReported, PrintedFrames, PrintedSome};
 ghost use Rattle.msgrun.specs.Prelude.{main_fault};
@@ -9,10 +9,10 @@ ghost use Rattle.msgrun.specs.Prelude.{main_fault};
 use crate::building::{relay_of, scripted_of, tally_of};
 use msg_command::MainFault;
 use msg_exec::{NoGate, NoMemory, Workers};
-use msg_files::{ReportFault, Sink};
 use msg_reports::{add_system, run_scenario};
 use msg_scenario_data::{Kind, Scenario};
 use msg_system::System;
+use msg_text::{ReportFault, Sink};
 use std::alloc::Global;
 use std::thread::Threads;
 

@@ -1,9 +1,9 @@
 // A file that is checked, and not run.
 ghost use Rattle.std.specs.Prelude.{◌≡◌, ◌++◌, IfErr, IfOk, OnOk};
 ghost use Rattle.serde_json.specs.View.{view};
-ghost use Rattle.msg_files.specs.Prelude.{IsFaultOf};
-ghost use Rattle.msg_files.specs.declared.file_fault.FileFault.TheVariants.{At as AtPlace};
-ghost use Rattle.msg_files.specs.declared.refusal.Refusal.TheVariants.{NotJson};
+ghost use Rattle.msg_json.specs.Prelude.{IsFaultOf};
+ghost use Rattle.msg_json.specs.declared.file_fault.FileFault.TheVariants.{At as AtPlace};
+ghost use Rattle.msg_json.specs.declared.refusal.Refusal.TheVariants.{NotJson};
 ghost use Rattle.msg_reading.specs.Prelude.{HasFault};
 ghost use Rattle.msg_scenario_data.specs.Prelude.{IsRunnable};
 ghost use Rattle.msg_command.specs.Prelude.{refusal_line as line_of_refusal};
@@ -12,12 +12,14 @@ ghost use Rattle.msgrun.specs.Checked.{course_counts, parts_counts};
 ghost use Rattle.msgrun.specs.inner.Checking.{TellsOf};
 
 use msg_command::{MainFault, refusal_line};
-use msg_files::json::parse;
-use msg_files::numerals::{add_count, add_number};
-use msg_files::{Calls, Fault, FileFault, Key, NoMemory, Reason, Refusal, add_told, check_calls};
+use msg_files::{Calls, check_calls};
+use msg_json::json::parse;
+use msg_json::{Fault, FileFault, Key, Reason, Refusal, add_told};
 use msg_plans::{add_remarks, add_unfit};
 use msg_reading::{check_scenario, read_sections};
 use msg_scenario_data::Scenario;
+use msg_text::numerals::{add_count, add_number};
+use msg_world::NoMemory;
 use serde_json::Value;
 use std::alloc::Global;
 

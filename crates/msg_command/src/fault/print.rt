@@ -1,10 +1,12 @@
 ghost use Rattle.std.specs.Prelude.{◌≡◌};
-ghost use Rattle.msg_files.specs.Prelude.{TakesUnlessFailed};
+ghost use Rattle.msg_text.specs.Prelude.{TakesUnlessFailed};
 ghost use Rattle.msg_command.specs.Prelude.{line_of, refusal_line, status_of};
 
 use crate::fault::MainFault;
 use crate::{InputFault, WordFault};
-use msg_files::{Refusal, ReportFault, RunFault, Sink, put_all};
+use msg_json::Refusal;
+use msg_text::{ReportFault, Sink, put_all};
+use msg_world::RunFault;
 
 /// Puts the fault's line into the sink, and gives the status that the program ends with. Help has
 /// no line. A failure of the sink changes nothing of the status. It takes no memory.

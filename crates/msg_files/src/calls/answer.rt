@@ -5,10 +5,10 @@ ghost use Rattle.msg_files.specs.{inner.Running.AreIn, Prelude.BufferState, Prel
 
 use crate::call::Call;
 use crate::calls::text::{add_found, add_items, add_unread};
-use crate::numerals::add_count;
 use msg_buffer::{
     BatchRefusal, Instance, MessageCursor, MessageId, Messages, NoMemory, WriteRefusal,
 };
+use msg_text::numerals::add_count;
 use msg_world::Items;
 use std::alloc::Global;
 

@@ -1,12 +1,12 @@
 // A calls file, read from the bytes of a JSON text.
 ghost use Rattle.std.specs.Prelude.{◌≡◌, ◌≢◌, Ok, Err, IfOk, IfErr};
 ghost use Rattle.serde_json.specs.Data.{Data};
-ghost use Rattle.msg_files.specs.Prelude.{IsFaultOf, IsJsonOf, IsNotJson, IsRefusedFor, file_of};
+ghost use Rattle.msg_json.specs.Prelude.{IsFaultOf, IsJsonOf, IsNotJson, IsRefusedFor};
+ghost use Rattle.msg_files.specs.Prelude.{file_of};
 
 use crate::calls::Calls;
-use crate::file_fault::FileFault;
-use crate::json::parse;
-use crate::refusal::Refusal;
+use msg_json::json::parse;
+use msg_json::{FileFault, Refusal};
 use std::alloc::Global;
 
 mod call;

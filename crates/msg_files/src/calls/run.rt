@@ -1,13 +1,13 @@
 // Calls made one after another. Their lines are gathered, and put into the sink in large pieces.
 ghost use Rattle.std.specs.Prelude.{◌≡◌, ◌⊎◌, ◌++◌, if◌then◌else◌, Err, IfErr, OnOk, OnErr};
 ghost use Rattle.std.specs.Io.KnownBytes.{Appends};
-ghost use Rattle.msg_files.specs.{inner.Running.TakesFront, Prelude.AppendsPrefix, Prelude.calls_text, Prelude.one_failure_more};
+ghost use Rattle.msg_text.specs.Prelude.{AppendsPrefix, one_failure_more};
+ghost use Rattle.msg_files.specs.{inner.Running.TakesFront, Prelude.calls_text};
 
 use crate::calls::Calls;
 use crate::calls::answer::answer;
-use crate::report_fault::ReportFault;
-use crate::sink::{Sink, put_text};
 use msg_buffer::Messages;
+use msg_text::{ReportFault, Sink, put_text};
 use std::alloc::Global;
 
 /// How many bytes are gathered before they are put.

@@ -4,8 +4,8 @@ ghost use Rattle.std.specs.Option.{option_copied};
 ghost use Rattle.msg_buffer.specs.Prelude.{History, StandsFor, at_most, given, next_place, read};
 ghost use Rattle.msg_files.specs.Prelude.{pair_text, pairs_text, more_pairs, value_text};
 
-use crate::numerals::{add_pair, add_value};
 use msg_buffer::{Instance, MessageCursor, MessageId, Messages, NoMemory};
+use msg_text::numerals::{add_pair, add_value};
 
 /// A message's value, or `none`.
 pub fn add_found(text: &mut Vec<u8>, value: Option<&i64>) -> Result<(), NoMemory>

@@ -1,7 +1,7 @@
 -- What the functions that read a list's elements promise.
 use Rattle.std.specs.Prelude.{◌≡◌, ◌⊎◌, Ok, Err}
-use Rattle.msg_files.specs.Prelude.{Reading}
-use Rattle.msg_files.specs.declared.reason.Reason.TheVariants.{NoMemory}
+use Rattle.msg_json.specs.Prelude.{Reading}
+use Rattle.msg_json.specs.declared.reason.Reason.TheVariants.{NoMemory}
 use Rattle.msg_reading.specs.Names.{Declared}
 
 -- the answer of what declares names and may want memory, and the names after it

@@ -1,11 +1,11 @@
 // Whether a system's program clashes with itself.
 ghost use Rattle.std.specs.Prelude.{◌≡◌, ◌≤◌, ℕ, Err, IfErr, OnOk, length};
 ghost use Rattle.msg_reading.specs.Prelude.{IsLowestClashing, NoneClash, unfit};
-ghost use Rattle.msg_files.specs.declared.reason.Reason.TheVariants.{Clash};
+ghost use Rattle.msg_json.specs.declared.reason.Reason.TheVariants.{Clash};
 
 use crate::{Fault, SystemSpec};
-use msg_files::fault::inside;
-use msg_files::{Key, Reason, Step};
+use msg_json::fault::inside;
+use msg_json::{Key, Reason, Step};
 use msg_scenario_data::MAX_SYSTEMS;
 
 /// Checks that no program reads and writes one type; else `Clash` with the lowest system whose

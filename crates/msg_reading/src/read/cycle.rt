@@ -1,12 +1,12 @@
 // Whether the rules of a file go round in a circle.
 ghost use Rattle.std.specs.Prelude.{◌≡◌, ◌≤◌, ℕ, IfErr, OnOk};
 ghost use Rattle.msg_order.specs.Prelude.{IsAcyclic, IsLowestOnCycle, NameSystemsBelow, edges_of};
-ghost use Rattle.msg_files.specs.declared.reason.Reason.TheVariants.{Cycle};
+ghost use Rattle.msg_json.specs.declared.reason.Reason.TheVariants.{Cycle};
 ghost use Rattle.msg_reading.specs.Prelude.{unfit};
 
 use crate::Fault;
-use msg_files::fault::inside;
-use msg_files::{Key, Reason, Step};
+use msg_json::fault::inside;
+use msg_json::{Key, Reason, Step};
 use msg_order::{Rule, lowest_on_cycle};
 use msg_scenario_data::MAX_SYSTEMS;
 

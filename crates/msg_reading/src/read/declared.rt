@@ -7,9 +7,9 @@ use crate::read::list::Element;
 use crate::read::names::Declarations;
 use crate::read::part::{text_and_number, two};
 use crate::{Fault, Name};
-use msg_files::fault::inside;
-use msg_files::numbers::{small_number, whole_number};
-use msg_files::{MAX_LIMIT, Step};
+use msg_json::fault::inside;
+use msg_json::numbers::{small_number, whole_number};
+use msg_json::{MAX_LIMIT, Step};
 use serde_json::Value;
 use std::alloc::Global;
 

@@ -1,7 +1,7 @@
 // The sections of a scenario file, one after another.
 ghost use Rattle.std.specs.Prelude.{◌≡◌};
 ghost use Rattle.serde_json.specs.View.{view};
-ghost use Rattle.msg_files.specs.Prelude.{Reads};
+ghost use Rattle.msg_json.specs.Prelude.{Reads};
 ghost use Rattle.msg_reading.specs.ScenarioFormat as Spec;
 ghost use Rattle.msg_reading.specs.inner.Elements.{ReadsWith};
 
@@ -9,10 +9,10 @@ use crate::limits::{MAX_FRAMES, MAX_RULES};
 use crate::read::list::{read_list, read_list_if_there};
 use crate::read::names::Declarations;
 use crate::{Fault, Name, Scenario, SystemSpec};
-use msg_files::fault::inside;
-use msg_files::json::{Keys, check_keys, needed};
-use msg_files::{Key, Reason, Step};
 use msg_frames::{Frame, Items};
+use msg_json::fault::inside;
+use msg_json::json::{Keys, check_keys, needed};
+use msg_json::{Key, Reason, Step};
 use msg_order::Rule;
 use msg_scenario_data::{MAX_RESOURCES, MAX_SYSTEMS, MAX_TYPES};
 use serde_json::Value;

@@ -5,8 +5,8 @@ ghost use Rattle.msg_reading.specs.{Names.Declared, ScenarioFormat.each_from, Sc
 
 use crate::Fault;
 use crate::read::names::Declarations;
-use msg_files::json;
 use msg_frames::Items;
+use msg_json::json;
 use serde_json::Value;
 use std::alloc::Global;
 
@@ -15,7 +15,7 @@ use std::alloc::Global;
 pub trait Element: Sized + Drop {
     ghost use Rattle.std.specs.Prelude.{ℕ};
     ghost use Rattle.serde_json.specs.Data.{Data};
-    ghost use Rattle.msg_files.specs.Prelude.{Reading};
+    ghost use Rattle.msg_json.specs.Prelude.{Reading};
 
     /// What element n is, and the names that are declared after it.
     ghost reads: { Declared → ℕ → Data → Reading (Self × Declared) };

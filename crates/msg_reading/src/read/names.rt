@@ -1,11 +1,11 @@
 // The names that a file declares.
 ghost use Rattle.std.specs.Prelude.{◌≡◌, ◌≤◌, ◌∷◌, ◌++◌, [], OnOk, option_and_then};
 ghost use Rattle.msg_reading.specs.{Names.position_of, ScenarioFormat.good_name, ScenarioFormat.new_name, ScenarioFormat.no_names, ScenarioFormat.resource_named, ScenarioFormat.system_named, ScenarioFormat.type_named, ScenarioFormat.with_system};
-ghost use Rattle.msg_files.specs.Prelude.{Reads, only_below};
+ghost use Rattle.msg_json.specs.Prelude.{Reads, only_below};
 
 use crate::{Fault, Name};
 use indexmap::IndexSet;
-use msg_files::{Reason, Refusal};
+use msg_json::{Reason, Refusal};
 use msg_scenario_data::{MAX_RESOURCES, MAX_SYSTEMS, MAX_TYPES};
 use msg_world::{ResNo, TypeNo};
 use std::alloc::Global;
@@ -30,7 +30,7 @@ pub struct NameSpace {
 
 impl Model for NameSpace {
     ghost use Rattle.std.specs.Prelude.{List, map, string_bytes};
-    ghost use Rattle.msg_files.specs.Prelude.{Text};
+    ghost use Rattle.msg_text.specs.Prelude.{Text};
 
     ghost Value = { List Text };
 

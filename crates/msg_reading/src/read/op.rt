@@ -1,7 +1,7 @@
 // One op, by its head and the number of parts that follow it.
 ghost use Rattle.std.specs.Prelude.{◌≡◌, map};
 ghost use Rattle.serde_json.specs.View.{view};
-ghost use Rattle.msg_files.specs.Prelude.{Reads};
+ghost use Rattle.msg_json.specs.Prelude.{Reads};
 ghost use Rattle.msg_reading.specs.ScenarioFormat as Spec;
 
 use crate::Fault;
@@ -11,9 +11,9 @@ use crate::read::part::{
     one_resource, one_type, resource_and_value, two_types, type_and_limit, type_and_resource,
     type_and_value, type_and_values,
 };
-use msg_files::fault::inside;
-use msg_files::json::head_and_parts;
-use msg_files::{Reason, Step};
+use msg_json::fault::inside;
+use msg_json::json::head_and_parts;
+use msg_json::{Reason, Step};
 use msg_system::Op;
 use serde_json::Value;
 use std::alloc::Global;

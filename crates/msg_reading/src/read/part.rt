@@ -1,22 +1,22 @@
 // The parts of a list: what they are, and then what they mean. m is the number of the first.
 ghost use Rattle.std.specs.Prelude.{◌≡◌, ◌≤◌};
 ghost use Rattle.serde_json.specs.View.{view};
-ghost use Rattle.msg_files.specs.Prelude.{Reads, elements};
+ghost use Rattle.msg_json.specs.Prelude.{Reads, elements};
 ghost use Rattle.msg_reading.specs.ScenarioFormat as Spec;
 ghost use Rattle.msg_reading.specs.inner.PartsSeen.{number_and_text_seen, numbers_and_text_seen, pair_seen, texts_seen};
 
 use crate::Fault;
 use crate::read::names::Declarations;
-use msg_files::fault::inside;
-use msg_files::json::text;
-use msg_files::numbers::{batch_values, list_of_numbers, number, small_number, whole_number};
-use msg_files::{MAX_LIMIT, Reason, Step};
+use msg_json::fault::inside;
+use msg_json::json::text;
+use msg_json::numbers::{batch_values, list_of_numbers, number, small_number, whole_number};
+use msg_json::{MAX_LIMIT, Reason, Step};
 use msg_world::{Items, ResNo, TypeNo};
 use serde_json::{Number, Value};
 use std::alloc::Global;
 
 /// The two elements of a list of two.
-#[tactic(auto, using(msg_files::proofs::WalksOverLists::list_steps))]
+#[tactic(auto, using(msg_json::proofs::WalksOverLists::list_steps))]
 pub fn two(value: &Value) -> Result<(&Value, &Value), Fault>
     ensures two { pair_seen result ≡ Spec.two (elements (view value.now)) }
 {

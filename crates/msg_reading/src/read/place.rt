@@ -1,17 +1,17 @@
 // A system's conditions, the frame that it joins with, and where its cursors start.
 ghost use Rattle.std.specs.Prelude.{◌≡◌};
 ghost use Rattle.serde_json.specs.View.{view, number_view};
-ghost use Rattle.msg_files.specs.Prelude.{in_key};
+ghost use Rattle.msg_json.specs.Prelude.{in_key};
 ghost use Rattle.msg_reading.specs.{ScenarioFormat.conditions_of, ScenarioFormat.join_number, ScenarioFormat.join_of, ScenarioFormat.start_of, inner.Elements.ReadsWith};
 
 use crate::Fault;
 use crate::limits::MAX_CONDITIONS;
 use crate::read::list::read_list_if_there;
 use crate::read::names::Declarations;
-use msg_files::fault::inside;
-use msg_files::numbers::number;
-use msg_files::{Key, Reason, Step};
 use msg_frames::Items;
+use msg_json::fault::inside;
+use msg_json::numbers::number;
+use msg_json::{Key, Reason, Step};
 use msg_scenario_data::LAST_JOIN;
 use msg_system::{Condition, Start};
 use serde_json::{Number, Value};

@@ -1,7 +1,7 @@
 // One system: its name, its kind and program, and its conditions, join and start.
 ghost use Rattle.std.specs.Prelude.{◌≡◌, IfOk};
 ghost use Rattle.serde_json.specs.View.{view};
-ghost use Rattle.msg_files.specs.Prelude.{Reads, in_key};
+ghost use Rattle.msg_json.specs.Prelude.{Reads, in_key};
 ghost use Rattle.msg_reading.specs.ScenarioFormat as Spec;
 ghost use Rattle.msg_reading.specs.inner.Elements.{ReadsWith};
 
@@ -9,10 +9,10 @@ use crate::read::list::{Element, read_list};
 use crate::read::names::Declarations;
 use crate::read::place::{read_conditions, read_join, read_start};
 use crate::{Fault, Kind, Name, SystemSpec};
-use msg_files::fault::inside;
-use msg_files::json::{Keys, check_keys, needed, text};
-use msg_files::{Key, Reason, Step};
 use msg_frames::Place;
+use msg_json::fault::inside;
+use msg_json::json::{Keys, check_keys, needed, text};
+use msg_json::{Key, Reason, Step};
 use msg_scenario_data::MAX_OPS;
 use msg_system::{Items, Op, Program};
 use serde_json::Value;
@@ -52,7 +52,7 @@ impl Keys for SystemKeys {
     }
 }
 
-#[tactic(auto, using(msg_files::proofs::WalksOverLists::Reads_inside))]
+#[tactic(auto, using(msg_json::proofs::WalksOverLists::Reads_inside))]
 fn read_name(alloc: Global, names: &mut Declarations, name: &Value) -> Result<Name, Fault>
     ensures reads { Reads (in_key Key.Name (Spec.system_name names.old (view name.now))) result }
     ensures declares { IfOk result (λ text. names.new ≡ Spec.with_system names.old text) }

@@ -4,9 +4,9 @@ ghost use Rattle.msg_reports.specs.Prelude.{account_line, accounts_text, standin
 
 use msg_buffer::NoMemory;
 use msg_exec::Account;
-use msg_files::numerals::add_count;
 use msg_scenario_data::Scenario;
 use msg_scenario_data::names::{add_system, add_type};
+use msg_text::numerals::add_count;
 
 /// A line for each reader.
 pub fn add_accounts(

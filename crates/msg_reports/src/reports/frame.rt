@@ -7,10 +7,10 @@ use crate::reports::lines::SystemLines;
 use crate::reports::reply::add_reply;
 use msg_buffer::NoMemory;
 use msg_exec::{Frame, Log, Outcome, Turn};
-use msg_files::numerals::add_count;
 use msg_scenario_data::Scenario;
 use msg_scenario_data::names::add_type;
 use msg_system::Reply;
+use msg_text::numerals::add_count;
 use msg_world::TypeNo;
 
 /// The text of a frame that had this log.

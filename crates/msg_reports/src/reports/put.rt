@@ -3,14 +3,14 @@ ghost use Rattle.std.specs.Prelude.{◌≡◌, ◌≢◌, ◌⊎◌, [], Err, If
 ghost use Rattle.std.specs.Io.KnownBytes.{Appends};
 ghost use Rattle.msg_reports.specs.Prelude.{accounts_text, frame_text};
 ghost use Rattle.msg_reports.specs.inner.LineStarts.{AreLines};
-ghost use Rattle.msg_files.specs.Prelude.{AppendsPrefix, one_failure_more};
+ghost use Rattle.msg_text.specs.Prelude.{AppendsPrefix, one_failure_more};
 
 use crate::reports::accounts::add_accounts;
 use crate::reports::frame::add_frame;
 use crate::reports::lines::SystemLines;
 use msg_exec::{Account, Frame, Log};
-use msg_files::{ReportFault, Sink, put_text};
 use msg_scenario_data::Scenario;
+use msg_text::{ReportFault, Sink, put_text};
 
 /// Puts the text of a frame that had this log; it is made in `text` first.
 pub fn put_frame<S: Sink>(

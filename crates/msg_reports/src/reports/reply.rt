@@ -5,9 +5,9 @@ ghost use Rattle.msg_reports.specs.Prelude.{item_text, items_text, more_items, n
 
 use crate::reports::names::add_writer;
 use msg_buffer::{NoMemory, Written};
-use msg_files::numerals::{add_count, add_pair, add_value};
 use msg_scenario_data::Scenario;
 use msg_system::{Reply, Took};
+use msg_text::numerals::{add_count, add_pair, add_value};
 use msg_world::Record;
 
 /// What an op was answered, as that follows the op on its line.

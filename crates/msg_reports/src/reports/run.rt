@@ -4,7 +4,7 @@ ghost use Rattle.msg_exec.specs.Prelude.{EngineStands};
 ghost use Rattle.msg_world.specs.declared.run_fault.RunFault.TheVariants.{BadOrder, NoMemory, Spoiled};
 ghost use Rattle.msg_reports.specs.Prelude.{HasPrinted, HasReported, HasRunOut, HasStopped};
 ghost use Rattle.msg_scenario_data.specs.Prelude.{PostsAreToTypes, state_of};
-ghost use Rattle.msg_files.specs.Prelude.{one_failure_more};
+ghost use Rattle.msg_text.specs.Prelude.{one_failure_more};
 ghost use Rattle.msg_reports.specs.{inner.LineStarts.AreLines, inner.SoFar.ReportSoFar};
 
 use crate::reports::lines::{SystemLines, make_lines};
@@ -12,9 +12,9 @@ use crate::reports::put::{put_accounts, put_frame};
 use msg_exec::engine_laws::engines_stand;
 use msg_exec::laws::frames_keep_the_systems;
 use msg_exec::{EngineOf, Gate, Workers};
-use msg_files::{ReportFault, Sink};
 use msg_scenario_data::Scenario;
 use msg_system::SystemOf;
+use msg_text::{ReportFault, Sink};
 use std::alloc::Global;
 use std::thread::Threads;
 

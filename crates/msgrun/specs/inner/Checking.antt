@@ -1,8 +1,8 @@
 -- What a private function promises: no public contract cites this file.
 use Rattle.std.specs.Prelude.{◌≡◌, ◌≢◌}
 use Rattle.serde_json.specs.Data.{Data}
-use Rattle.msg_files.specs.declared.fault.Fault.{Fault}
-use Rattle.msg_files.specs.declared.reason.Reason.TheVariants as reason
+use Rattle.msg_json.specs.declared.fault.Fault.{Fault}
+use Rattle.msg_json.specs.declared.reason.Reason.TheVariants as reason
 use Rattle.msg_command.specs.{declared.fault.MainFault.MainFault, declared.fault.MainFault.TheVariants.Built, declared.fault.MainFault.TheVariants.Told}
 use Rattle.msgrun.specs.Checked.{fault_told}
 

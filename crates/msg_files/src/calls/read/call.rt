@@ -2,15 +2,15 @@
 ghost use Rattle.std.specs.Prelude.{◌≡◌, ◌≤◌, ◌<◌, IfOk, MatchResult, map};
 ghost use Rattle.serde_json.specs.View.{view};
 ghost use Rattle.msg_files.specs.CallsFormat as Spec;
-ghost use Rattle.msg_files.specs.{Faults.Reads, Faults.fault, Faults.in_element, inner.Cursors.FitsCursors};
+ghost use Rattle.msg_json.specs.{Faults.Reads, Faults.fault, Faults.in_element};
+ghost use Rattle.msg_files.specs.inner.Cursors.{FitsCursors};
 
 use crate::call::Call;
 use crate::calls::read::part;
-use crate::fault::{Fault, inside};
-use crate::json::head_and_parts;
 use crate::limits::MAX_CURSORS;
-use crate::location::Step;
-use crate::reason::Reason;
+use msg_json::fault::inside;
+use msg_json::json::head_and_parts;
+use msg_json::{Fault, Reason, Step};
 use serde_json::Value;
 use std::alloc::Global;
 

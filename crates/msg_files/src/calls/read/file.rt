@@ -1,16 +1,16 @@
 // A calls file: its limit, and each call after those before it.
 ghost use Rattle.std.specs.Prelude.{◌≡◌, true, IfOk, map};
 ghost use Rattle.serde_json.specs.View.{view};
-ghost use Rattle.msg_files.specs.{CallsFormat.calls_from, CallsFormat.calls_of, CallsFormat.file_of, CallsFormat.is_known, Cursors.cursors_exist, Cursors.made_by, Faults.Reads};
+ghost use Rattle.msg_files.specs.{CallsFormat.calls_from, CallsFormat.calls_of, CallsFormat.file_of, CallsFormat.is_known, Cursors.cursors_exist, Cursors.made_by};
+ghost use Rattle.msg_json.specs.Faults.{Reads};
 
 use crate::call::Call;
 use crate::calls::Calls;
 use crate::calls::read::call::read_call;
-use crate::fault::{Fault, inside};
-use crate::json::{Keys, check_keys, list, needed};
 use crate::limits::MAX_CALLS;
-use crate::location::{Key, Step};
-use crate::numbers;
+use msg_json::fault::inside;
+use msg_json::json::{Keys, check_keys, list, needed};
+use msg_json::{Fault, Key, Step, numbers};
 use msg_world::Items;
 use serde_json::Value;
 use std::alloc::Global;

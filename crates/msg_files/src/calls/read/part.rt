@@ -1,12 +1,12 @@
 // Reads the parts of a call.
 ghost use Rattle.std.specs.Prelude.{◌≡◌, ◌<◌, IfOk};
 ghost use Rattle.serde_json.specs.View.{view};
-ghost use Rattle.msg_files.specs.{CallsFormat.cursor_and_limit, CallsFormat.cursor_in, CallsFormat.cursor_part, CallsFormat.message_in, CallsFormat.message_part, CallsFormat.value_part, CallsFormat.values_part, Faults.Reads};
+ghost use Rattle.msg_files.specs.{CallsFormat.cursor_and_limit, CallsFormat.cursor_in, CallsFormat.cursor_part, CallsFormat.message_in, CallsFormat.message_part, CallsFormat.value_part, CallsFormat.values_part};
+ghost use Rattle.msg_json.specs.Faults.{Reads};
 
-use crate::fault::{Fault, inside};
-use crate::limits::MAX_LIMIT;
-use crate::location::Step;
-use crate::numbers::{self, natural_number, number, small_number};
+use msg_json::fault::inside;
+use msg_json::numbers::{self, natural_number, number, small_number};
+use msg_json::{Fault, MAX_LIMIT, Step};
 use msg_world::Items;
 use serde_json::Value;
 use std::alloc::Global;

@@ -1,4 +1,4 @@
-use Rattle.msg_files.proofs.FaultsOfFiles.{refused_for}
+use Rattle.msg_json.proofs.FaultsOfFiles.{refused_for}
 use Rattle.msg_reading.specs.Prelude.{HasFault}
 use Rattle.msg_reading.proofs.read.read_scenario.Goals as goal
 

@@ -1,7 +1,7 @@
 use Rattle.std.proofs.lemmas.Result.{err_from_is_err_and}
 use Rattle.std.proofs.Common.{◌≡◌, Err}
 use Rattle.msg_files.specs.Prelude.{file_of}
-use Rattle.msg_files.proofs.FaultsOfFiles.{unread_is_fault}
+use Rattle.msg_json.proofs.FaultsOfFiles.{unread_is_fault}
 use Rattle.msg_files.proofs.calls.read.check_calls.Goals as goal
 
 pub returns-in_err-value-clause-fault : goal.returns-in_err-value-clause-fault

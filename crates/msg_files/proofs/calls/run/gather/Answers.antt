@@ -2,7 +2,7 @@ use Rattle.std.proofs.lemmas.{Grind.common_steps, Result.on_err_weaker, Result.o
 use Rattle.std.proofs.Common.{refl, arith, ◌++◌, sym, append-nil, append_assoc, []}
 use Rattle.std.proofs.KnownBytes.{Appends-trans}
 use Rattle.msg_files.specs.inner.Running.{TakesFront}
-use Rattle.msg_files.proofs.Puts.{AppendsPrefix_after, on_err}
+use Rattle.msg_text.proofs.Puts.{AppendsPrefix_after, on_err}
 use Rattle.msg_files.proofs.calls.run.gather.Goals as goal
 
 -- both were put

@@ -1,6 +1,7 @@
 use Rattle.std.proofs.lemmas.{Grind.common_steps, Result.on_err_weaker, Result.on_ok_weaker}
 use Rattle.std.proofs.Common.{arith, [], sym, append-nil, ◌∙◌}
-use Rattle.msg_files.proofs.{Puts.on_err, CallsAreRun.OnTheWay_ends, CallsAreRun.OnTheWay_fails, CallsAreRun.OnTheWay_more, CallsAreRun.OnTheWay_stops}
+use Rattle.msg_text.proofs.Puts.{on_err}
+use Rattle.msg_files.proofs.{CallsAreRun.OnTheWay_ends, CallsAreRun.OnTheWay_fails, CallsAreRun.OnTheWay_more, CallsAreRun.OnTheWay_stops}
 use Rattle.msg_files.proofs.calls.run.run_calls.Goals as goal
 
 pub returns-in_err-put_text-in-Err-clause-prefix : goal.returns-in_err-put_text-in-Err-clause-prefix

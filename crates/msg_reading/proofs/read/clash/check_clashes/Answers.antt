@@ -1,7 +1,7 @@
 use Rattle.std.proofs.Common.{◌∙◌, ap, sym, refl, ◌+◌}
 use Rattle.msg_system.specs.Prelude.{HasClash, program_needs}
 use Rattle.std.proofs.lemmas.{Bool.false≢true, List.take_all, List.Elements.All-more, Option.slice_get_read}
-use Rattle.msg_files.specs.declared.reason.Reason.TheVariants.{Clash}
+use Rattle.msg_json.specs.declared.reason.Reason.TheVariants.{Clash}
 use Rattle.msg_reading.specs.Prelude.{unfit}
 use Rattle.msg_reading.proofs.read.clash.check_clashes.Goals as goal
 

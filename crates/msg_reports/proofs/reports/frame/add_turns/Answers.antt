@@ -3,7 +3,7 @@ use Rattle.std.proofs.lemmas.List.{take_all}
 use Rattle.std.specs.{Global.Vec, Option.option_map_or}
 use Rattle.msg_system.specs.{declared.op.Op.Op, declared.reply.Reply.Reply}
 use Rattle.msg_frames.specs.{declared.log.Outcome.Outcome}
-use Rattle.msg_files.specs.Prelude.{Text}
+use Rattle.msg_text.specs.Prelude.{Text}
 use Rattle.msg_scenario_data.specs.{declared.scenario.Scenario.Scenario, declared.scenario.SystemSpec.SystemSpec}
 use Rattle.msg_reports.specs.Prelude.{answered_line, op_start, ops_text, outcome_text, turn_text}
 use Rattle.msg_reports.specs.{declared.reports.lines.SystemLines.SystemLines, inner.LineStarts.finished_outcome, inner.LineStarts.finished_turn, inner.LineStarts.lines_of, inner.LineStarts.texts_in}

@@ -2,7 +2,7 @@ use Rattle.std.proofs.Common.{[], Err, ap, arith, inl, inr, length, refl, sym, â
 use Rattle.std.proofs.lemmas.Result.{err_from_is_err_and, on_err_weaker, on_ok_weaker}
 use Rattle.msg_scenario_data.specs.Prelude.{state_of}
 use Rattle.std.proofs.KnownBytes.{Appends-nil}
-use Rattle.msg_files.proofs.Puts.{on_err}
+use Rattle.msg_text.proofs.Puts.{on_err}
 use Rattle.msg_reports.proofs.{TextsByPieces.zip-nil, Reporting.accounts_out, Reporting.out_printed, Reporting.readers_put, Reporting.readers_stopped, Reporting.stopped_before_all}
 use Rattle.msg_reports.proofs.reports.run.report.Goals as goal
 

@@ -1,4 +1,4 @@
-use Rattle.msg_files.proofs.Puts.{on_err}
+use Rattle.msg_text.proofs.Puts.{on_err}
 use Rattle.msg_reports.proofs.Reporting.{frame_put, frame_stopped, no_memory_for_frame, out_printed}
 use Rattle.msg_reports.proofs.reports.run.report_frame.Goals as goal
 

@@ -1,5 +1,5 @@
 use Rattle.std.proofs.lemmas.{List.drop_more, Result.err_from_is_err_and}
-use Rattle.msg_files.proofs.WalksOverLists.{calls_more, calls_refused}
+use Rattle.msg_files.proofs.CallsAreRead.{calls_more, calls_refused}
 use Rattle.msg_files.proofs.calls.read.file.read_items.Goals as goal
 
 pub returns-in_err-call-clause-calls : goal.returns-in_err-call-clause-calls

@@ -1,4 +1,4 @@
-use Rattle.msg_files.proofs.WalksOverLists.{CallsLeft}
+use Rattle.msg_files.proofs.CallsAreRead.{CallsLeft}
 use Rattle.msg_files.proofs.calls.read.file.read_items.Given as goal
 
 abbrev pub invariant-loop-number : goal.invariant-loop-number

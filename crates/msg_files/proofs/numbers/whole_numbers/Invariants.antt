@@ -1,5 +1,0 @@
-use Rattle.msg_files.proofs.WalksOverLists.{ValuesLeft}
-use Rattle.msg_files.proofs.numbers.whole_numbers.Given as goal
-
-abbrev pub invariant-loop-item : goal.invariant-loop-item
-invariant-loop-item l = ValuesLeft l.items l.item-index l.values.items

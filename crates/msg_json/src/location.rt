@@ -1,0 +1,137 @@
+ghost use Rattle.std.specs.Prelude.{◌≡◌};
+ghost use Rattle.msg_json.specs.Faults.{after, here, key_text};
+
+/// The keys of files and of systems.
+#[derive(Clone, Copy, Debug, PartialEq, Eq)]
+pub enum Key {
+    Limit,
+    Calls,
+    Types,
+    Resources,
+    Held,
+    Systems,
+    Rules,
+    Frames,
+    Name,
+    Kind,
+    Ops,
+    If,
+    Join,
+    Start,
+}
+
+impl Key {
+    /// The key as it stands in a file.
+    pub fn text(self) -> &'static str
+        ensures text { result.now ≡ key_text self }
+    {
+        match self {
+            Key::Limit => "limit",
+            Key::Calls => "calls",
+            Key::Types => "types",
+            Key::Resources => "resources",
+            Key::Held => "held",
+            Key::Systems => "systems",
+            Key::Rules => "rules",
+            Key::Frames => "frames",
+            Key::Name => "name",
+            Key::Kind => "kind",
+            Key::Ops => "ops",
+            Key::If => "if",
+            Key::Join => "join",
+            Key::Start => "start",
+        }
+    }
+}
+
+/// A step from a value of a file to what stands within it.
+#[derive(Clone, Copy, Debug, PartialEq, Eq)]
+pub enum Step {
+    /// To the section of this key.
+    Section(Key),
+    /// To this element of a section.
+    Element(usize),
+    /// To what an element has at this key.
+    Key(Key),
+    /// To this item of a list there.
+    Item(usize),
+    /// Into so many `not`s.
+    Nots(u8),
+    /// To this part of a list that has a head, or of a pair.
+    Part(usize),
+    /// To this value of a batch.
+    Value(usize),
+}
+
+/// Where something stands in a file, level by level from its root, as in
+/// `systems[7].ops[1][2][0]`. A level that isn't there is None.
+#[derive(Clone, Copy, Debug, PartialEq, Eq)]
+pub struct Location {
+    /// The key of the file.
+    pub section: Option<Key>,
+    /// The number of an element of that section.
+    pub element: Option<usize>,
+    /// The key of that element, which is a system.
+    pub key: Option<Key>,
+    /// The number of an item there: an op, a condition or a post.
+    pub item: Option<usize>,
+    /// How many `not`s stand round what is meant: each is one step `[1]`.
+    pub nots: u8,
+    /// The number of a part of a list that has a head, or of a pair.
+    pub part: Option<usize>,
+    /// The number of a value of a batch.
+    pub value: Option<usize>,
+    /// The number of a member of the object there, counted in order of its keys.
+    pub member: Option<usize>,
+}
+
+impl Location {
+    /// What is read itself.
+    pub fn here() -> Location
+        ensures here { result ≡ here }
+    {
+        Location {
+            section: None,
+            element: None,
+            key: None,
+            item: None,
+            nots: 0,
+            part: None,
+            value: None,
+            member: None,
+        }
+    }
+
+    /// A location within what this step leads to, as it is told from where the step begins.
+    pub fn after(self, step: Step) -> Location
+        ensures after { result ≡ after step self }
+    {
+        match step {
+            Step::Section(key) => Location {
+                section: Some(key),
+                ..self
+            },
+            Step::Element(n) => Location {
+                element: Some(n),
+                ..self
+            },
+            Step::Key(key) => Location {
+                key: Some(key),
+                ..self
+            },
+            Step::Item(n) => Location {
+                item: Some(n),
+                ..self
+            },
+            Step::Nots(nots) => Location { nots, ..self },
+            Step::Part(n) => Location {
+                part: Some(n),
+                ..self
+            },
+            Step::Value(n) => Location {
+                value: Some(n),
+                ..self
+            },
+        }
+    }
+}
