@@ -6,8 +6,8 @@ ghost use Rattle.msg_plans.specs.inner.Tables.{IsTableOf};
 
 use crate::planned::Planned;
 use msg_files::NoMemory;
-use msg_scenario_data::Scenario;
 use msg_scenario_data::names::{add_resource, add_type};
+use msg_scenario_data::{MAX_RESOURCES, MAX_TYPES, Scenario};
 use msg_world::{ResNo, TypeNo};
 use std::alloc::Global;
 
@@ -22,7 +22,7 @@ pub enum Cause {
 }
 
 fn add_all_types(causes: &mut Vec<Cause>, types: usize) -> Result<(), NoMemory>
-    requires few { types ≤ 64 }
+    requires few { types ≤ MAX_TYPES }
     ensures added { OnOk result
         (causes.new.items ≡ causes.old.items ++ map Cause.OnType (range_with_len 0 types)) }
 {
@@ -36,7 +36,7 @@ fn add_all_types(causes: &mut Vec<Cause>, types: usize) -> Result<(), NoMemory>
 }
 
 fn add_all_resources(causes: &mut Vec<Cause>, resources: usize) -> Result<(), NoMemory>
-    requires few { resources ≤ 64 }
+    requires few { resources ≤ MAX_RESOURCES }
     ensures added { OnOk result
         (causes.new.items ≡ causes.old.items ++ map Cause.OnResource (range_with_len 0 resources)) }
 {
@@ -51,8 +51,8 @@ fn add_all_resources(causes: &mut Vec<Cause>, resources: usize) -> Result<(), No
 
 /// All that may be a cause.
 pub(crate) fn all_causes(alloc: Global, scenario: &Scenario) -> Result<Vec<Cause>, NoMemory>
-    requires types { length scenario.now.types ≤ 64 }
-    requires resources { length scenario.now.resources ≤ 64 }
+    requires types { length scenario.now.types ≤ MAX_TYPES }
+    requires resources { length scenario.now.resources ≤ MAX_RESOURCES }
     ensures all { IfOk result (λ causes. causes.items ≡ all_causes scenario.now) }
 {
     let mut causes = Vec::new(alloc);
@@ -103,8 +103,8 @@ pub(crate) fn causes_of(
     j: u32,
 ) -> Result<Vec<Cause>, NoMemory>
     requires table { IsTableOf scenario.now planned.now }
-    requires types { length scenario.now.types ≤ 64 }
-    requires resources { length scenario.now.resources ≤ 64 }
+    requires types { length scenario.now.types ≤ MAX_TYPES }
+    requires resources { length scenario.now.resources ≤ MAX_RESOURCES }
     ensures causes { IfOk result (λ found. found.items ≡ causes scenario.now i j) }
 {
     let mut found = Vec::new(alloc);
