@@ -16,7 +16,7 @@ use Rattle.msg_frames.specs.declared.place.Place.{Place}
 use Rattle.msg_frames.specs.Frames.{settled_order}
 use Rattle.msg_frames.proofs.{Functions.plan_order, SystemsStay.joining_on_keeps}
 use Rattle.msg_scenario_data.specs.Prelude.{IsRunnable, first_world, meanings_of, places_of, state_of}
-use Rattle.msg_scenario_data.specs.{declared.scenario.Scenario.Scenario, declared.scenario.SystemSpec.SystemSpec}
+use Rattle.msg_scenario_data.specs.{declared.limits.TheConstants.MAX_RESOURCES, declared.limits.TheConstants.MAX_TYPES, declared.scenario.Scenario.Scenario, declared.scenario.SystemSpec.SystemSpec}
 use Rattle.msg_plans.specs.Order.{batches_in, needs_in, precedes, state_in}
 use Rattle.msg_plans.specs.inner.Tables.{AreAccesses, IsTableOf, joined_by, spec_needs}
 use Rattle.msg_plans.specs.declared.planned.Planned.{Planned}
@@ -132,8 +132,8 @@ module _ (s : Scenario) where
     few_parts : UsesParts (state_in s k)
     unfolding needs_in
     few_parts i lt p needed =
-        within_from (HasPart 64 64) 0 s.systems
-        (λ j x l q n. elim q as (λ r. HasPart (length s.types) (length s.resources) r → HasPart 64 64 r) [
+        within_from (HasPart MAX_TYPES MAX_RESOURCES) 0 s.systems
+        (λ j x l q n. elim q as (λ r. HasPart (length s.types) (length s.resources) r → HasPart MAX_TYPES MAX_RESOURCES r) [
           | OfType t ↦ λ below. omega (arith, below, runnable.few_types)
           | OfResource r ↦ λ below. omega (arith, below, runnable.few_resources)
           | Registry ↦ λ below. tt

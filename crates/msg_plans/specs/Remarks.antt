@@ -6,14 +6,14 @@ use Rattle.msg_system.specs.Prelude.{needs_any, program_needs}
 use Rattle.msg_text.specs.Prelude.{Text}
 use Rattle.msg_frames.specs.declared.frame.Frame.{Frame}
 use Rattle.msg_scenario_data.specs.Prelude.{resource_name, system_name, type_name}
-use Rattle.msg_scenario_data.specs.{declared.scenario.Scenario.Scenario, declared.scenario.SystemSpec.SystemSpec}
+use Rattle.msg_scenario_data.specs.{declared.limits.TheConstants.LAST_JOIN, declared.scenario.Scenario.Scenario, declared.scenario.SystemSpec.SystemSpec}
 use Rattle.msg_order.specs.declared.rule.Rule.{Rule}
 use Rattle.msg_plans.specs.Order.{needs_in, precedes, turns_in, uses}
 use Rattle.msg_plans.specs.{declared.planned.Use.Use, declared.planned.Use.TheVariants.Read, declared.planned.Use.TheVariants.Write, declared.remarks.TypeRemark.TypeRemark, declared.remarks.TypeRemark.TheVariants.Half, declared.remarks.TypeRemark.TheVariants.Late, declared.remarks.TypeRemark.TheVariants.Skipped}
 
 -- a frame in which every system has joined
 abbrev pub everybody : ℕ
-everybody = 10000
+everybody = LAST_JOIN
 
 -- all systems, in the order of their turns once every one has joined
 abbrev pub all_turns : Scenario → List ℕ

@@ -5,8 +5,8 @@ ghost use Rattle.msg_plans.specs.Prelude.{all_causes, cause_text, causes, causes
 ghost use Rattle.msg_plans.specs.inner.Tables.{IsTableOf};
 
 use crate::planned::Planned;
-use msg_scenario_data::Scenario;
 use msg_scenario_data::names::{add_resource, add_type};
+use msg_scenario_data::{MAX_RESOURCES, MAX_TYPES, Scenario};
 use msg_world::{NoMemory, ResNo, TypeNo};
 use std::alloc::Global;
 
@@ -21,7 +21,7 @@ pub enum Cause {
 }
 
 fn add_all_types(causes: &mut Vec<Cause>, types: usize) -> Result<(), NoMemory>
-    requires few { types ≤ 64 }
+    requires few { types ≤ MAX_TYPES }
     ensures added { OnOk result
         (causes.new.items ≡ causes.old.items ++ map Cause.OnType (range_with_len 0 types)) }
 {
@@ -35,7 +35,7 @@ fn add_all_types(causes: &mut Vec<Cause>, types: usize) -> Result<(), NoMemory>
 }
 
 fn add_all_resources(causes: &mut Vec<Cause>, resources: usize) -> Result<(), NoMemory>
-    requires few { resources ≤ 64 }
+    requires few { resources ≤ MAX_RESOURCES }
     ensures added { OnOk result
         (causes.new.items ≡ causes.old.items ++ map Cause.OnResource (range_with_len 0 resources)) }
 {
@@ -50,8 +50,8 @@ fn add_all_resources(causes: &mut Vec<Cause>, resources: usize) -> Result<(), No
 
 /// All that may be a cause.
 pub(crate) fn all_causes(alloc: Global, scenario: &Scenario) -> Result<Vec<Cause>, NoMemory>
-    requires types { length scenario.now.types ≤ 64 }
-    requires resources { length scenario.now.resources ≤ 64 }
+    requires types { length scenario.now.types ≤ MAX_TYPES }
+    requires resources { length scenario.now.resources ≤ MAX_RESOURCES }
     ensures all { IfOk result (λ causes. causes.items ≡ all_causes scenario.now) }
 {
     let mut causes = Vec::new(alloc);
@@ -102,8 +102,8 @@ pub(crate) fn causes_of(
     j: u32,
 ) -> Result<Vec<Cause>, NoMemory>
     requires table { IsTableOf scenario.now planned.now }
-    requires types { length scenario.now.types ≤ 64 }
-    requires resources { length scenario.now.resources ≤ 64 }
+    requires types { length scenario.now.types ≤ MAX_TYPES }
+    requires resources { length scenario.now.resources ≤ MAX_RESOURCES }
     ensures causes { IfOk result (λ found. found.items ≡ causes scenario.now i j) }
 {
     let mut found = Vec::new(alloc);

@@ -7,8 +7,8 @@ use crate::Cause;
 use crate::batches::add_quoted;
 use crate::cause::{add_causes, causes_of, has_rule};
 use crate::planned::{Form, Planned};
-use msg_scenario_data::Scenario;
 use msg_scenario_data::names::add_system;
+use msg_scenario_data::{MAX_RESOURCES, MAX_TYPES, Scenario};
 use msg_world::NoMemory;
 
 fn add_line(
@@ -62,8 +62,8 @@ fn add_edge(
     j: u32,
 ) -> Result<(), NoMemory>
     requires table { IsTableOf scenario.now planned.now }
-    requires types { length scenario.now.types ≤ 64 }
-    requires resources { length scenario.now.resources ≤ 64 }
+    requires types { length scenario.now.types ≤ MAX_TYPES }
+    requires resources { length scenario.now.resources ≤ MAX_RESOURCES }
     ensures appends { OnOk result (text.new.items ≡ text.old.items
         ++ (if is_next scenario.now planned.now.frame i j
         then edge_text form scenario.now i j else [])) }
@@ -87,8 +87,8 @@ fn add_edges_from(
     i: u32,
 ) -> Result<(), NoMemory>
     requires table { IsTableOf scenario.now planned.now }
-    requires types { length scenario.now.types ≤ 64 }
-    requires resources { length scenario.now.resources ≤ 64 }
+    requires types { length scenario.now.types ≤ MAX_TYPES }
+    requires resources { length scenario.now.resources ≤ MAX_RESOURCES }
     ensures appends { OnOk result (text.new.items ≡ text.old.items
         ++ flat_map (λ j. if is_next scenario.now planned.now.frame i j
         then edge_text form scenario.now i j else [])
@@ -109,8 +109,8 @@ pub(crate) fn add_edges(
     form: Form,
 ) -> Result<(), NoMemory>
     requires table { IsTableOf scenario.now planned.now }
-    requires types { length scenario.now.types ≤ 64 }
-    requires resources { length scenario.now.resources ≤ 64 }
+    requires types { length scenario.now.types ≤ MAX_TYPES }
+    requires resources { length scenario.now.resources ≤ MAX_RESOURCES }
     ensures appends { OnOk result
         (text.new.items ≡ text.old.items ++ edges_text form scenario.now planned.now.frame) }
 {

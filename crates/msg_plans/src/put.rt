@@ -10,7 +10,7 @@ use crate::batches::{add_batches, add_chain};
 use crate::edges::add_edges;
 use crate::planned::{Form, Planned, plan_frame};
 use crate::users::add_types;
-use msg_scenario_data::Scenario;
+use msg_scenario_data::{MAX_RESOURCES, MAX_TYPES, Scenario};
 use msg_text::numerals::add_count;
 use msg_text::{ReportFault, Sink, put_text};
 use msg_world::NoMemory;
@@ -18,8 +18,8 @@ use std::alloc::Global;
 
 fn add_lines(text: &mut Vec<u8>, scenario: &Scenario, planned: &Planned) -> Result<(), NoMemory>
     requires table { IsTableOf scenario.now planned.now }
-    requires types { length scenario.now.types ≤ 64 }
-    requires resources { length scenario.now.resources ≤ 64 }
+    requires types { length scenario.now.types ≤ MAX_TYPES }
+    requires resources { length scenario.now.resources ≤ MAX_RESOURCES }
     ensures appends { OnOk result
         (text.new.items ≡ text.old.items ++ lines_text scenario.now planned.now.frame) }
 {
@@ -42,8 +42,8 @@ fn add_dot_head(text: &mut Vec<u8>, frame: u32) -> Result<(), NoMemory>
 
 fn add_dot(text: &mut Vec<u8>, scenario: &Scenario, planned: &Planned) -> Result<(), NoMemory>
     requires table { IsTableOf scenario.now planned.now }
-    requires types { length scenario.now.types ≤ 64 }
-    requires resources { length scenario.now.resources ≤ 64 }
+    requires types { length scenario.now.types ≤ MAX_TYPES }
+    requires resources { length scenario.now.resources ≤ MAX_RESOURCES }
     ensures appends { OnOk result
         (text.new.items ≡ text.old.items ++ dot_text scenario.now planned.now.frame) }
 {

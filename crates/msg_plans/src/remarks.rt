@@ -7,7 +7,7 @@ ghost use Rattle.msg_plans.specs.inner.Tables.{IsTableOf};
 use crate::planned::{Planned, Use, plan_frame};
 use msg_frames::Frame;
 use msg_scenario_data::names::{add_name, add_resource, add_system, add_type};
-use msg_scenario_data::{LAST_JOIN, Scenario, SystemSpec};
+use msg_scenario_data::{LAST_JOIN, MAX_RESOURCES, MAX_SYSTEMS, MAX_TYPES, Scenario, SystemSpec};
 use msg_text::numerals::add_count;
 use msg_world::{NoMemory, ResNo, TypeNo};
 
@@ -142,7 +142,7 @@ fn add_unused_one(
 fn add_unused(text: &mut Vec<u8>, scenario: &Scenario, planned: &Planned) -> Result<(), NoMemory>
     requires table { IsTableOf scenario.now planned.now }
     requires all { planned.now.frame ≡ everybody }
-    requires few { length scenario.now.resources ≤ 64 }
+    requires few { length scenario.now.resources ≤ MAX_RESOURCES }
     ensures appends { OnOk result
         (text.new.items ≡ text.old.items ++ resources_remarks scenario.now) }
 {
@@ -393,7 +393,7 @@ fn add_of_types(
 ) -> Result<(), NoMemory>
     requires table { IsTableOf scenario.now planned.now }
     requires all { planned.now.frame ≡ everybody }
-    requires few { length scenario.now.types ≤ 64 }
+    requires few { length scenario.now.types ≤ MAX_TYPES }
     ensures appends { OnOk result
         (text.new.items ≡ text.old.items ++ types_remarks of scenario.now) }
 {
@@ -411,7 +411,7 @@ fn add_of_types(
 fn add_late(text: &mut Vec<u8>, scenario: &Scenario, planned: &Planned) -> Result<(), NoMemory>
     requires table { IsTableOf scenario.now planned.now }
     requires all { planned.now.frame ≡ everybody }
-    requires few { length scenario.now.types ≤ 64 }
+    requires few { length scenario.now.types ≤ MAX_TYPES }
     ensures appends { OnOk result (text.new.items ≡ text.old.items ++ late_remarks scenario.now) }
 {
     for system in planned.turns.as_slice() {
@@ -425,8 +425,8 @@ fn add_late(text: &mut Vec<u8>, scenario: &Scenario, planned: &Planned) -> Resul
 fn add_skipped(text: &mut Vec<u8>, scenario: &Scenario, planned: &Planned) -> Result<(), NoMemory>
     requires table { IsTableOf scenario.now planned.now }
     requires all { planned.now.frame ≡ everybody }
-    requires few { length scenario.now.types ≤ 64 }
-    requires systems { length scenario.now.systems ≤ 256 }
+    requires few { length scenario.now.types ≤ MAX_TYPES }
+    requires systems { length scenario.now.systems ≤ MAX_SYSTEMS }
     ensures appends { OnOk result
         (text.new.items ≡ text.old.items ++ skipped_remarks scenario.now) }
 {

@@ -4,8 +4,8 @@ ghost use Rattle.msg_plans.specs.Prelude.{is_late, type_line, types_text, user, 
 ghost use Rattle.msg_plans.specs.inner.Tables.{IsTableOf};
 
 use crate::planned::{Planned, Use, User};
-use msg_scenario_data::Scenario;
 use msg_scenario_data::names::{add_system, add_type};
+use msg_scenario_data::{MAX_TYPES, Scenario};
 use msg_world::{NoMemory, TypeNo};
 use std::alloc::Global;
 
@@ -117,7 +117,7 @@ pub(crate) fn add_types(
     planned: &Planned,
 ) -> Result<(), NoMemory>
     requires table { IsTableOf scenario.now planned.now }
-    requires few { length scenario.now.types ≤ 64 }
+    requires few { length scenario.now.types ≤ MAX_TYPES }
     ensures appends { OnOk result
         (text.new.items ≡ text.old.items ++ types_text scenario.now planned.now.frame) }
 {

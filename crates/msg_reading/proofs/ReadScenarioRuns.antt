@@ -12,6 +12,8 @@ use Rattle.msg_text.specs.Prelude.{Text}
 use Rattle.msg_json.specs.declared.location.Key.TheVariants as key
 use Rattle.msg_json.specs.declared.location.Step.TheVariants as step
 use Rattle.msg_scenario_data.specs.{Prelude.IsRunnable, Prelude.fits_kind, declared.kind.Kind.Kind, declared.scenario.Scenario.Scenario, declared.scenario.SystemSpec.SystemSpec}
+use Rattle.msg_scenario_data.specs.declared.limits.TheConstants.{LAST_JOIN, MAX_OPS, MAX_RESOURCES, MAX_SYSTEMS, MAX_TYPES}
+use Rattle.msg_reading.specs.declared.limits.TheConstants.{MAX_CONDITIONS, MAX_FRAMES, MAX_POSTS, MAX_RULES}
 use Rattle.msg_reading.specs.ScenarioFormat as Spec
 use Rattle.msg_reading.specs.Prelude.{Declared, NoneClash, frames_of, held_of, resources_of, rules_of, scenario_of, systems_of, types_of}
 use Rattle.msg_reading.proofs.FitsOfReadings.{in_then, list_fits, of_found, of_wanted, within}
@@ -46,10 +48,10 @@ resource_fits t names k d has =
 
 -- a system can be made, and added to an engine over so many types and resources, if it doesn't clash
 pub record SystemFits (t r : ℕ) (x : SystemSpec) : Type 0 where
-  pub few_ops : length x.program.ops ≤ 64
+  pub few_ops : length x.program.ops ≤ MAX_OPS
   pub fit_kind : IsTrue (fits_kind x.kind x.program.ops)
   pub fits : (p : Part) → IsTrue (needs_any (job_needs x.program.ops x.place.conditions) p) → HasPart t r p
-  pub joins : (1 ≤ x.place.join) × (x.place.join ≤ 10000)
+  pub joins : (1 ≤ x.place.join) × (x.place.join ≤ LAST_JOIN)
 
 -- elements that declare no name leave the names as they were
 kept : {A : Type 0} (P : A → Type 0) (Inv : Declared → Type 0) (names : Declared) (r : Reading A) → Inv names → IfOk r P
@@ -62,30 +64,30 @@ module _ (t r n : ℕ) where
   Known = HasNames t r n
 
   abbrev OpsFit : Kind → List (Op ℤ) × Declared → Type 0
-  OpsFit kind x = All (OpFits t r) x.0 × (length x.0 ≤ 64) × Known x.1 × IsTrue (fits_kind kind x.0)
+  OpsFit kind x = All (OpFits t r) x.0 × (length x.0 ≤ MAX_OPS) × Known x.1 × IsTrue (fits_kind kind x.0)
 
   ops_fit : (names : Declared) (kind : Kind) (d : Data) → Known names → IfOk (Spec.ops_of names kind d) (OpsFit kind)
   ops_fit names kind d known =
       let all = list_fits Spec.op_at (OpFits t r) (λ k. Known)
       (λ m k e h. kept (OpFits t r) Known m (in_item k (Spec.op_of m e)) h
-      (within (OpFits t r) (step.Item k) (Spec.op_of m e) (op_fits t r n m h e))) 64 names d known in
-      in_then (OpsFit kind) (Spec.each_of 64 Spec.op_at names d) _ (λ x is.
+      (within (OpFits t r) (step.Item k) (Spec.op_of m e) (op_fits t r n m h e))) MAX_OPS names d known in
+      in_then (OpsFit kind) (Spec.each_of MAX_OPS Spec.op_at names d) _ (λ x is.
       let fit = IfOk-at_ok _ is all in
       of_wanted (OpsFit kind) (fits_kind kind x.0) _ _ (λ as_kind. (fit.0, fit.1, fit.2, as_kind)))
 
   abbrev ConditionsFit : List (Condition ℤ) × Declared → Type 0
-  ConditionsFit x = All (ConditionFits t r) x.0 × (length x.0 ≤ 8) × Known x.1
+  ConditionsFit x = All (ConditionFits t r) x.0 × (length x.0 ≤ MAX_CONDITIONS) × Known x.1
 
   conditions_fit : (names : Declared) (d : Data) → Known names → IfOk (Spec.conditions_of names d) ConditionsFit
   conditions_fit names d known = list_fits Spec.condition_at (ConditionFits t r) (λ k. Known)
       (λ m k e h. kept (ConditionFits t r) Known m (in_item k (Spec.condition_of m e)) h
-      (within (ConditionFits t r) (step.Item k) (Spec.condition_of m e) (condition_fits t r n m h e))) 8 names
+      (within (ConditionFits t r) (step.Item k) (Spec.condition_of m e) (condition_fits t r n m h e))) MAX_CONDITIONS names
       (Spec.value_or key.If Spec.nothing d) known
 
   abbrev IsJoinFrame : ℕ → Type 0
-  IsJoinFrame j = (1 ≤ j) × (j ≤ 10000)
+  IsJoinFrame j = (1 ≤ j) × (j ≤ LAST_JOIN)
 
-  from_one_to : (o : Option ℕ) (j : ℕ) → option_and_then Spec.from_one (option_and_then (only_below 10001) o) ≡ Some j
+  from_one_to : (o : Option ℕ) (j : ℕ) → option_and_then Spec.from_one (option_and_then (only_below (LAST_JOIN + 1)) o) ≡ Some j
       → IsJoinFrame j
   from_one_to o j h = grind arith
 
@@ -132,11 +134,11 @@ system_fits t r names n d has =
 -- ---- rules and frames
 
 rules_fit : (t r n : ℕ) (names : Declared) (d : Data) → HasNames t r n names
-    → IfOk (Spec.each_of 1024 Spec.rule_at names d)
-    (λ x. All (IsBelow n) x.0 × (length x.0 ≤ 1024) × HasNames t r n x.1)
+    → IfOk (Spec.each_of MAX_RULES Spec.rule_at names d)
+    (λ x. All (IsBelow n) x.0 × (length x.0 ≤ MAX_RULES) × HasNames t r n x.1)
 rules_fit t r n names d has = list_fits Spec.rule_at (IsBelow n) (λ k. HasNames t r n)
     (λ m k e h. kept (IsBelow n) (HasNames t r n) m (in_element k (Spec.rule_of m e)) h
-    (within (IsBelow n) (step.Element k) (Spec.rule_of m e) (rule_fits t r n m h e))) 1024 names d has
+    (within (IsBelow n) (step.Element k) (Spec.rule_of m e) (rule_fits t r n m h e))) MAX_RULES names d has
 
 abbrev FrameFits : ℕ → Frame ℤ → Type 0
 FrameFits t frame = All (λ p. p.0 < t) frame.posts
@@ -150,21 +152,21 @@ module _ (t r n : ℕ) where
       let IsPost = λ (p : ℕ × ℤ). p.0 < t in
       let all = list_fits Spec.post_at IsPost (λ k. HasNames t r n)
       (λ m k e h. kept IsPost (HasNames t r n) m (in_item k (Spec.post_of m e)) h
-      (within IsPost (step.Item k) (Spec.post_of m e) (post_fits t r n m h e))) 1024 names d has in
-      in_then FrameRead (Spec.each_of 1024 Spec.post_at names d) _ (λ x is.
+      (within IsPost (step.Item k) (Spec.post_of m e) (post_fits t r n m h e))) MAX_POSTS names d has in
+      in_then FrameRead (Spec.each_of MAX_POSTS Spec.post_at names d) _ (λ x is.
       let fit = IfOk-at_ok _ is all in (fit.0, fit.2))
 
   frames_fit : (names : Declared) (d : Data) → HasNames t r n names
-      → IfOk (Spec.each_of 10000 Spec.frame_at names d)
-      (λ x. All (FrameFits t) x.0 × (length x.0 ≤ 10000) × HasNames t r n x.1)
+      → IfOk (Spec.each_of MAX_FRAMES Spec.frame_at names d)
+      (λ x. All (FrameFits t) x.0 × (length x.0 ≤ MAX_FRAMES) × HasNames t r n x.1)
   frames_fit names d has = list_fits Spec.frame_at (FrameFits t) (λ k. HasNames t r n)
-      (λ m k e h. within FrameRead (step.Element k) (Spec.frame_of m e) (posts_fit m e h)) 10000 names d has
+      (λ m k e h. within FrameRead (step.Element k) (Spec.frame_of m e) (posts_fit m e h)) MAX_FRAMES names d has
 
 -- ---- the whole
 
 -- what holds of a scenario that was read: it can be run, if no program clashes and the rules make no cycle
 pub record IsWhole (s : Scenario) : Type 0 where
-  pub few_systems : length s.systems ≤ 256
+  pub few_systems : length s.systems ≤ MAX_SYSTEMS
   pub rules_in_range : NameSystemsBelow (length s.systems) s.rules
   pub runnable : NoneClash s.systems → IsAcyclic (edges_of s.rules)
       → IsRunnable s
@@ -175,26 +177,26 @@ in_turn_whole types systems frames d =
     let resources_in = Spec.value_or key.Resources Spec.nothing d in
     let rules_in = Spec.value_or key.Rules Spec.nothing d in
     in_then IsWhole (types_of Spec.no_names types) _ (λ ts ts_is.
-    let type = IfOk-at_ok _ ts_is (within _ (step.Section key.Types) (Spec.each_of 64 Spec.type_at Spec.no_names types)
-    (list_fits Spec.type_at (λ _. Unit {0}) (λ k. HasNames k 0 0) type_fits 64 Spec.no_names types
+    let type = IfOk-at_ok _ ts_is (within _ (step.Section key.Types) (Spec.each_of MAX_TYPES Spec.type_at Spec.no_names types)
+    (list_fits Spec.type_at (λ _. Unit {0}) (λ k. HasNames k 0 0) type_fits MAX_TYPES Spec.no_names types
     (record { types = refl; resources = refl; systems = refl }))) in
     in_then IsWhole (resources_of ts.1 d) _ (λ rs rs_is.
-    let resource = IfOk-at_ok _ rs_is (within _ (step.Section key.Resources) (Spec.each_of 64 Spec.resource_at ts.1 resources_in)
-    (list_fits Spec.resource_at (λ _. Unit {0}) (λ k. HasNames (length ts.0) k 0) (resource_fits (length ts.0)) 64 ts.1
+    let resource = IfOk-at_ok _ rs_is (within _ (step.Section key.Resources) (Spec.each_of MAX_RESOURCES Spec.resource_at ts.1 resources_in)
+    (list_fits Spec.resource_at (λ _. Unit {0}) (λ k. HasNames (length ts.0) k 0) (resource_fits (length ts.0)) MAX_RESOURCES ts.1
     resources_in type.2)) in
     in_then IsWhole (held_of d) _ (λ held _.
     in_then IsWhole (systems_of rs.1 systems) _ (λ ss ss_is.
     let t = length ts.0 in
     let r = length rs.0 in
-    let system = IfOk-at_ok _ ss_is (within _ (step.Section key.Systems) (Spec.each_of 256 Spec.system_at rs.1 systems)
-    (list_fits Spec.system_at (SystemFits t r) (λ k. HasNames t r k) (λ m k e h. system_fits t r m k e h) 256 rs.1 systems
+    let system = IfOk-at_ok _ ss_is (within _ (step.Section key.Systems) (Spec.each_of MAX_SYSTEMS Spec.system_at rs.1 systems)
+    (list_fits Spec.system_at (SystemFits t r) (λ k. HasNames t r k) (λ m k e h. system_fits t r m k e h) MAX_SYSTEMS rs.1 systems
     resource.2)) in
     let n = length ss.0 in
     in_then IsWhole (rules_of ss.1 d) _ (λ us us_is.
-    let rule = IfOk-at_ok _ us_is (within _ (step.Section key.Rules) (Spec.each_of 1024 Spec.rule_at ss.1 rules_in)
+    let rule = IfOk-at_ok _ us_is (within _ (step.Section key.Rules) (Spec.each_of MAX_RULES Spec.rule_at ss.1 rules_in)
     (rules_fit t r n ss.1 rules_in system.2)) in
     in_then IsWhole (frames_of us.1 frames) _ (λ fs fs_is.
-    let frame = IfOk-at_ok _ fs_is (within _ (step.Section key.Frames) (Spec.each_of 10000 Spec.frame_at us.1 frames)
+    let frame = IfOk-at_ok _ fs_is (within _ (step.Section key.Frames) (Spec.each_of MAX_FRAMES Spec.frame_at us.1 frames)
     (frames_fit t r n us.1 frames rule.2)) in
     record {
       few_systems = system.1;

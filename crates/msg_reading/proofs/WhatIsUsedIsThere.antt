@@ -10,6 +10,8 @@ use Rattle.msg_order.specs.declared.rule.Rule.{Rule}
 use Rattle.msg_json.specs.Prelude.{Reading, elements, headed, in_nots, in_part, only_below, text_in, whole, ◌>>=◌}
 use Rattle.msg_text.specs.Prelude.{Text}
 use Rattle.msg_json.specs.declared.location.Step.TheVariants as step
+use Rattle.msg_scenario_data.specs.declared.limits.TheConstants.{MAX_RESOURCES, MAX_SYSTEMS, MAX_TYPES}
+use Rattle.msg_reading.specs.declared.limits.TheConstants.{MOST_NESTED}
 use Rattle.msg_reading.specs.ScenarioFormat as Spec
 use Rattle.msg_reading.specs.Prelude.{Declared, resource_number, system_number, type_number}
 use Rattle.msg_reading.proofs.FitsOfReadings.{either, in_then, of_found, within}
@@ -70,15 +72,15 @@ module _ (T R n : ℕ) (names : Declared) (of : HasNames T R n names) where
 
   named_type : (name : Text) → IfOk (Spec.type_named names name) IsType
   named_type name = of_found IsType (type_number names name) _ (λ t h.
-      rw of.types at (position-Some (bytes_eq name) names.types t [] (below_there _ 64 t h)).0)
+      rw of.types at (position-Some (bytes_eq name) names.types t [] (below_there _ MAX_TYPES t h)).0)
 
   named_resource : (name : Text) → IfOk (Spec.resource_named names name) IsResource
   named_resource name = of_found IsResource (resource_number names name) _ (λ r h.
-      rw of.resources at (position-Some (bytes_eq name) names.resources r [] (below_there _ 64 r h)).0)
+      rw of.resources at (position-Some (bytes_eq name) names.resources r [] (below_there _ MAX_RESOURCES r h)).0)
 
   named_system : (name : Text) → IfOk (Spec.system_named names name) (λ k. k < n)
   named_system name = of_found (λ k. k < n) (system_number names name) _ (λ k h.
-      rw of.systems at (position-Some (bytes_eq name) names.systems k [] (below_there _ 256 k h)).0)
+      rw of.systems at (position-Some (bytes_eq name) names.systems k [] (below_there _ MAX_SYSTEMS k h)).0)
 
   here_system : (m : ℕ) (name : Text) (k : ℕ) → in_part m (Spec.system_named names name) ≡ Ok k → k < n
   here_system m name k is =
@@ -195,8 +197,8 @@ module _ (T R n : ℕ) (names : Declared) (of : HasNames T R n names) where
 
   pub condition_fits : (d : Data) → IfOk (Spec.condition_of names d) (ConditionFits T R)
   condition_fits d =
-      let nots = Spec.nots_round 128 d in
-      let inside = Spec.inside_nots 128 d in
+      let nots = Spec.nots_round MOST_NESTED d in
+      let inside = Spec.inside_nots MOST_NESTED d in
       in_then (ConditionFits T R) (Spec.probe_in names nots inside) _ (λ probe is. IfOk-at_ok ProbeFits is
       (in_then ProbeFits (in_nots nots (headed inside)) _ (λ h _. probe_fits nots h.0 h.1)))
 

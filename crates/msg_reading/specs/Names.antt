@@ -3,6 +3,7 @@ use Rattle.std.specs.Prelude.{ℕ, List, Option, position, option_and_then}
 use Rattle.std.specs.Str.{bytes_eq}
 use Rattle.msg_text.specs.Prelude.{Text}
 use Rattle.msg_json.specs.Prelude.{only_below}
+use Rattle.msg_scenario_data.specs.declared.limits.TheConstants.{MAX_RESOURCES, MAX_SYSTEMS, MAX_TYPES}
 
 -- the names that are declared so far, of three kinds
 pub record Declared : Type 0 where
@@ -14,14 +15,14 @@ pub record Declared : Type 0 where
 abbrev pub position_of : List Text → Text → Option ℕ
 position_of names name = position (bytes_eq name) names
 
--- the number of the type of this name, which is below 64
+-- the number of the type of this name, which is below `MAX_TYPES`
 abbrev pub type_number : Declared → Text → Option ℕ
-type_number names name = option_and_then (only_below 64) (position_of names.types name)
+type_number names name = option_and_then (only_below MAX_TYPES) (position_of names.types name)
 
--- the number of the resource of this name, which is below 64
+-- the number of the resource of this name, which is below `MAX_RESOURCES`
 abbrev pub resource_number : Declared → Text → Option ℕ
-resource_number names name = option_and_then (only_below 64) (position_of names.resources name)
+resource_number names name = option_and_then (only_below MAX_RESOURCES) (position_of names.resources name)
 
--- the number of the system of this name, which is below 256
+-- the number of the system of this name, which is below `MAX_SYSTEMS`
 abbrev pub system_number : Declared → Text → Option ℕ
-system_number names name = option_and_then (only_below 256) (position_of names.systems name)
+system_number names name = option_and_then (only_below MAX_SYSTEMS) (position_of names.systems name)

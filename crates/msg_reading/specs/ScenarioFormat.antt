@@ -11,6 +11,8 @@ use Rattle.msg_frames.specs.{declared.frame.Frame.Frame}
 use Rattle.msg_order.specs.declared.rule.Rule.{Rule}
 use Rattle.msg_json.specs.Prelude.{Reading, at_key, batch_of, elements, fails, found, headed, in_element, in_item, in_key, in_nots, in_part, in_section, key_text, known_keys, limit, list_up_to, not_negative, number_of, numbers_of, only_below, text_in, wanted, whole, ◌>>=◌}
 use Rattle.msg_text.specs.Prelude.{Text}
+use Rattle.msg_scenario_data.specs.declared.limits.TheConstants.{LAST_JOIN, MAX_OPS, MAX_RESOURCES, MAX_SYSTEMS, MAX_TYPES}
+use Rattle.msg_reading.specs.declared.limits.TheConstants.{MAX_CONDITIONS, MAX_FRAMES, MAX_NOTS, MAX_POSTS, MAX_RULES, MOST_NESTED}
 use Rattle.msg_json.specs.declared.location.Key.{Key}
 use Rattle.msg_json.specs.declared.location.Key.TheVariants as key
 use Rattle.msg_json.specs.declared.reason.Reason.TheVariants as reason
@@ -243,9 +245,9 @@ abbrev pub nots_round : ℕ → Data → ℕ
 nots_round zero d = 0
 nots_round (suc n) d = elim (in_not d) [ None ↦ 0 | Some e ↦ nots_round n e + 1 ]
 
--- there are at most 16 `not`s
+-- there are at most `MAX_NOTS` of `not`
 abbrev pub few_nots : ℕ → Reading ⊤
-few_nots nots = wanted (nat_le nots 16) (reason.AtMost 16)
+few_nots nots = wanted (nat_le nots MAX_NOTS) (reason.AtMost MAX_NOTS)
 
 -- a probe of whether messages came: its part, the number of `not`s, and then the type
 abbrev pub on_message : Declared → ℕ → Data → Reading (Probe ℤ)
@@ -279,11 +281,11 @@ probe_with names nots head (d ∷ e ∷ f ∷ rest) = in_nots nots (fails reason
 abbrev pub probe_in : Declared → ℕ → Data → Reading (Probe ℤ)
 probe_in names nots d = in_nots nots (headed d) >>= λ h. probe_with names nots h.0 h.1
 
--- a condition: a probe, and the `not`s round it; no JSON text nests as deep as 128 of them
+-- a condition: a probe, and the `not`s round it; no JSON text nests `MOST_NESTED` deep
 abbrev pub condition_of : Declared → Data → Reading (Condition ℤ)
 condition_of names d =
-    let nots = nots_round 128 d in
-    probe_in names nots (inside_nots 128 d) >>= λ probe.
+    let nots = nots_round MOST_NESTED d in
+    probe_in names nots (inside_nots MOST_NESTED d) >>= λ probe.
     Ok (record { nots = nots; probe = probe })
 
 -- ---- keys that may be absent
@@ -329,10 +331,10 @@ kind_of d = found (kind_named (as_str (value_or key.Kind (string (codes "script"
 abbrev pub op_at : Declared → ℕ → Data → Reading (Op ℤ × Declared)
 op_at names n d = keeping names (in_item n (op_of names d))
 
--- the ops of a system of this kind: at most 64, and those of the kind
+-- the ops of a system of this kind: at most `MAX_OPS`, and those of the kind
 abbrev pub ops_of : Declared → Kind → Data → Reading (List (Op ℤ) × Declared)
 ops_of names kind d =
-    each_of 64 op_at names d >>= λ x.
+    each_of MAX_OPS op_at names d >>= λ x.
     wanted (fits_kind kind x.0) reason.NotOfKind >>= λ _.
     Ok x
 
@@ -340,18 +342,18 @@ ops_of names kind d =
 abbrev pub condition_at : Declared → ℕ → Data → Reading (Condition ℤ × Declared)
 condition_at names n d = keeping names (in_item n (condition_of names d))
 
--- the conditions of a system: at most 8, and none if there is no list of them
+-- the conditions of a system: at most `MAX_CONDITIONS`, and none if there is no list of them
 abbrev pub conditions_of : Declared → Data → Reading (List (Condition ℤ) × Declared)
-conditions_of names d = each_of 8 condition_at names (value_or key.If nothing d)
+conditions_of names d = each_of MAX_CONDITIONS condition_at names (value_or key.If nothing d)
 
 -- a number, if it isn't 0
 abbrev pub from_one : ℕ → Option ℕ
 from_one zero = None
 from_one (suc n) = Some (suc n)
 
--- the number of a frame to join with: from 1 to 10,000
+-- the number of a frame to join with: from 1 to `LAST_JOIN`
 abbrev pub join_number : Num → Reading ℕ
-join_number n = found (option_and_then from_one (option_and_then (only_below 10001)
+join_number n = found (option_and_then from_one (option_and_then (only_below (LAST_JOIN + 1))
     (option_and_then not_negative (as_i64 n)))) reason.Join
 
 -- the frame that a system joins with: the first, if none is named
@@ -417,9 +419,9 @@ post_of names d = two (elements d) >>= λ pair. type_and_value names 0 pair.0 pa
 abbrev pub post_at : Declared → ℕ → Data → Reading ((ℕ × ℤ) × Declared)
 post_at names n d = keeping names (in_item n (post_of names d))
 
--- a frame: at most 1,024 posts
+-- a frame: at most `MAX_POSTS` posts
 abbrev pub frame_of : Declared → Data → Reading (Frame ℤ × Declared)
-frame_of names d = each_of 1024 post_at names d >>= λ x. Ok (record { posts = x.0 }, x.1)
+frame_of names d = each_of MAX_POSTS post_at names d >>= λ x. Ok (record { posts = x.0 }, x.1)
 
 -- ---- the file
 
@@ -454,31 +456,31 @@ is_root_key key =
 abbrev pub no_names : Declared
 no_names = record { types = []; resources = []; systems = [] }
 
--- the types: at most 64
+-- the types: at most `MAX_TYPES`
 unfoldable pub types_of : Declared → Data → Reading (List (Text × ℕ) × Declared)
-types_of names d = in_section key.Types (each_of 64 type_at names d)
+types_of names d = in_section key.Types (each_of MAX_TYPES type_at names d)
 
--- the resources: at most 64
+-- the resources: at most `MAX_RESOURCES`
 unfoldable pub resources_of : Declared → Data → Reading (List (Text × ℤ) × Declared)
-resources_of names d =
-    in_section key.Resources (each_of 64 resource_at names (value_or key.Resources nothing d))
+resources_of names d = in_section key.Resources
+    (each_of MAX_RESOURCES resource_at names (value_or key.Resources nothing d))
 
 -- whether the world is held: it isn't, if nothing says so
 unfoldable pub held_of : Data → Reading Bool
 held_of d = in_section key.Held (found (as_bool (value_or key.Held (boolean false) d)) reason.Truth)
 
--- the systems: at most 256
+-- the systems: at most `MAX_SYSTEMS`
 unfoldable pub systems_of : Declared → Data → Reading (List SystemSpec × Declared)
-systems_of names d = in_section key.Systems (each_of 256 system_at names d)
+systems_of names d = in_section key.Systems (each_of MAX_SYSTEMS system_at names d)
 
--- the rules: at most 1,024
+-- the rules: at most `MAX_RULES`
 unfoldable pub rules_of : Declared → Data → Reading (List Rule × Declared)
 rules_of names d =
-    in_section key.Rules (each_of 1024 rule_at names (value_or key.Rules nothing d))
+    in_section key.Rules (each_of MAX_RULES rule_at names (value_or key.Rules nothing d))
 
--- the frames: at most 10,000
+-- the frames: at most `MAX_FRAMES`
 unfoldable pub frames_of : Declared → Data → Reading (List (Frame ℤ) × Declared)
-frames_of names d = in_section key.Frames (each_of 10000 frame_at names d)
+frames_of names d = in_section key.Frames (each_of MAX_FRAMES frame_at names d)
 
 -- the sections of a file one after another; those that it needs are given
 abbrev pub in_turn : Data → Data → Data → Data → Reading Scenario

@@ -41,8 +41,8 @@ fn probe_in(names: &Declarations, nots: u8, innermost: &Value) -> Result<Probe, 
 
 /// How many `not`s there are round a value, and what is inside.
 fn inside_nots(value: &Value) -> (u8, &Value)
-    ensures nots { result.0 ≡ Spec.nots_round 128 (view value.now) }
-    ensures inside { view result.1.now ≡ Spec.inside_nots 128 (view value.now) }
+    ensures nots { result.0 ≡ Spec.nots_round MOST_NESTED (view value.now) }
+    ensures inside { view result.1.now ≡ Spec.inside_nots MOST_NESTED (view value.now) }
 {
     let mut inside = value;
     for nots in 0..MOST_NESTED {
