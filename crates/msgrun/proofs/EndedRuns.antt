@@ -1,7 +1,8 @@
 -- What ends the program, by what a run of a scenario came to.
 use Rattle.std.proofs.Common.{◌≡◌, ◌⊎◌, inl, inr, refl, Result, Ok, Err, IfOk, OnErr}
 use Rattle.msg_files.specs.declared.report_fault.ReportFault.{ReportFault}
-use Rattle.msg_command.specs.{declared.fault.MainFault.MainFault, declared.fault.MainFault.TheVariants.Report}
+use Rattle.msg_command.specs.declared.fault.MainFault.{MainFault}
+use Rattle.msg_command.specs.declared.fault.MainFault.TheVariants.{Report}
 use Rattle.msgrun.specs.Prelude.{main_fault}
 
 -- what holds of the value that there is
