@@ -1,10 +1,10 @@
 -- The same systems after as many frames have one settled order; so the frames of a run have the orders that are planned.
 use Rattle.std.proofs.Common.{◌≡◌, ℕ, suc, ◌+◌, List, [], ◌∷◌, length, refl, ◌∙◌, arith, ℤ}
-use Rattle.msg_frames.specs.Prelude.{FramesKeepSystems, SameSystems, SameSystemsHaveSameAccesses, State, are_in_conflict, before_turns, frame, join_flags, member_needs, needs_conflict, run, turn_order_in}
+use Rattle.msg_frames.specs.Prelude.{SameSystems, State, are_in_conflict, before_turns, frame, join_flags, member_needs, needs_conflict, run, turn_order_in}
 use Rattle.msg_frames.specs.Frames.{settled_order, turn_order}
 use Rattle.msg_frames.specs.declared.frame.Frame.{Frame}
 use Rattle.msg_order.specs.Prelude.{settled}
-use Rattle.msg_frames.proofs.FramesInOrder.{in_that_order}
+use Rattle.msg_frames.proofs.{FramesInOrder.in_that_order, SystemsStay.frames_keep, SystemsStay.same_accesses}
 use Rattle.msg_scenario_data.specs.Prelude.{state_of}
 use Rattle.msg_scenario_data.specs.declared.scenario.Scenario.{Scenario}
 use Rattle.msg_plans.specs.Order.{batches_in, state_in, turns_in}
@@ -15,33 +15,33 @@ same_conflicts s u same =
     let needs : (i : ℕ) → member_needs (u.members i) ≡ member_needs (s.members i) = λ i. grind (arith, same.members i) in
     λ k i j. needs_conflict (needs i k) (needs j k)
 
-pub same_order : SameSystemsHaveSameAccesses i64_values → (s u : State i64_values) → SameSystems s u → u.frames ≡ s.frames
+pub same_order : (s u : State i64_values) → SameSystems s u → u.frames ≡ s.frames
     → (settled_order u ≡ settled_order s) × (join_flags u ≡ join_flags s)
 unfolding settled_order
-same_order law s u same frames =
-    let flags = (law s u same).1 frames in
+same_order s u same frames =
+    let flags = (same_accesses s u same).1 frames in
     let conflicts = same_conflicts s u same in (λ k. settled (conflicts k) (same.rules k) (flags k), flags)
 
 same_trans : (s u v : State i64_values) → SameSystems s u → SameSystems u v → SameSystems s v
 same_trans s u v first second = grind arith
 
 -- frames keep the systems, and count
-run_keeps : FramesKeepSystems i64_values → (fs : List (Frame ℤ)) (s : State i64_values)
+run_keeps : (fs : List (Frame ℤ)) (s : State i64_values)
     → SameSystems s (run fs s).state × ((run fs s).state.frames ≡ s.frames + length fs)
-run_keeps law [] s = (grind arith, omega arith)
-run_keeps law (f ∷ fs) s =
-    let rest = run_keeps law fs (frame f s).state in
-    let here = law (turn_order (before_turns f.posts s)) f s in
+run_keeps [] s = (grind arith, omega arith)
+run_keeps (f ∷ fs) s =
+    let rest = run_keeps fs (frame f s).state in
+    let here = frames_keep (turn_order (before_turns f.posts s)) f s in
     (same_trans s (frame f s).state (run (f ∷ fs) s).state here.after rest.0, omega (arith, here.counted, rest.1))
 
-pub as_planned : FramesKeepSystems i64_values → SameSystemsHaveSameAccesses i64_values → (s : Scenario) (before : List (Frame ℤ)) (f : Frame ℤ)
+pub as_planned : (s : Scenario) (before : List (Frame ℤ)) (f : Frame ℤ)
     → turn_order_in (frame f (run before (state_of s)).state).log ≡ turns_in s (suc (length before))
 unfolding turn_order batches_in
-as_planned keeps law s before f =
+as_planned s before f =
     let u : State i64_values = (run before (state_of s)).state in
-    let ran = run_keeps keeps before (state_of s) in
-    let here = keeps [] f u in
+    let ran = run_keeps before (state_of s) in
+    let here = frames_keep [] f u in
     let ready : State i64_values = before_turns f.posts u in
     let same : SameSystems (state_in s (suc (length before))) ready = grind (arith, ran.0, here.before) in
-    let order = same_order law (state_in s (suc (length before))) ready same (omega (arith, here.counted_before, ran.1)) in
+    let order = same_order (state_in s (suc (length before))) ready same (omega (arith, here.counted_before, ran.1)) in
     in_that_order f (turn_order ready) u _ refl ∙ rw (order.0, order.1) refl

@@ -6,9 +6,9 @@ use Rattle.std.proofs.lemmas.List.{map-id}
 use Rattle.msg_world.specs.Prelude.{HasPart, OfResource, OfType, Part, Registry, no_access, i64_values}
 use Rattle.msg_world.specs.declared.access.Access.{Access}
 use Rattle.msg_system.specs.Prelude.{IsAccessOf, Meaning, Needs, needs_any, new_asked, new_system, with_conditions}
-use Rattle.msg_order.specs.Prelude.{FewerSystemsMakeNoCycle, IsAcyclic, IsPlanOf, NameSystemsBelow, access_of, edges_of, rules_among}
+use Rattle.msg_order.specs.Prelude.{IsAcyclic, IsPlanOf, NameSystemsBelow, access_of, edges_of, rules_among}
 use Rattle.msg_order.specs.declared.rule.Rule.{Rule}
-use Rattle.msg_order.proofs.{PathTest.from_Path, PathTest.to_Path, SetPaths.all_rules}
+use Rattle.msg_order.proofs.{PathTest.from_Path, PathTest.to_Path, SetPaths.all_rules, SettledOrders.fewer_make_none}
 use Rattle.msg_frames.specs.Prelude.{AreAccessesOf, SameSystems, State, UsesParts, before_joining, has_begun, join_flags, member_needs, nobody, nowhere, waiting_member}
 use Rattle.msg_frames.specs.TurnLaws.{SameMember}
 use Rattle.msg_frames.specs.Frames.{Member}
@@ -88,10 +88,10 @@ flags_from k (x ∷ xs) (suc i) lt = flags_from k xs i (omega (arith, lt))
 
 -- ---- the rules
 
-pub none_joined : FewerSystemsMakeNoCycle → (n : ℕ) (rules : List Rule) → NameSystemsBelow n rules
+pub none_joined : (n : ℕ) (rules : List Rule) → NameSystemsBelow n rules
     → IsAcyclic (edges_of rules) → (joined : List Bool) → length joined ≡ n → IsAcyclic (rules_among joined rules)
-none_joined law n rules below none joined size =
-    law rules (take n (replicate n true)) joined
+none_joined n rules below none joined size =
+    fewer_make_none rules (take n (replicate n true)) joined
     (λ i has.
     let lt : i < n = grind (arith, cases_lt, false≢true, get_or_past) in
     get_or-take n (replicate n true) i false lt ∙ get_or-replicate n i true false lt)

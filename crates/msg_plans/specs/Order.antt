@@ -9,7 +9,8 @@ use Rattle.msg_frames.specs.Prelude.{State, join_flags, member_needs}
 use Rattle.msg_frames.specs.Frames.{settled_order}
 use Rattle.msg_scenario_data.specs.Prelude.{state_of}
 use Rattle.msg_scenario_data.specs.declared.scenario.Scenario.{Scenario}
-use Rattle.msg_plans.specs.{declared.cause.Cause.Cause, declared.planned.Use.Use, declared.planned.Use.TheVariants.Read, declared.planned.Use.TheVariants.Write, declared.planned.User.User}
+use Rattle.msg_plans.specs.{declared.cause.Cause.Cause, declared.planned.Use.Use, declared.planned.User.User}
+use Rattle.msg_plans.specs.declared.planned.Use.TheVariants.{Read, Write}
 use Rattle.msg_plans.specs.declared.cause.Cause.TheVariants as cause
 
 -- the state in which the turns of frame k are taken, as far as their order depends on it

@@ -6,7 +6,9 @@ use Rattle.msg_text.specs.Prelude.{Text}
 use Rattle.msg_scenario_data.specs.Prelude.{resource_name, system_name, type_name}
 use Rattle.msg_scenario_data.specs.declared.scenario.Scenario.{Scenario}
 use Rattle.msg_plans.specs.Order.{batches_in, causes, chain, has_rule, is_next, turns_in, users}
-use Rattle.msg_plans.specs.{declared.cause.Cause.Cause, declared.planned.Form.Form, declared.planned.Form.TheVariants.Dot, declared.planned.Form.TheVariants.Lines, declared.planned.Use.TheVariants.Read, declared.planned.Use.TheVariants.Write, declared.planned.User.User}
+use Rattle.msg_plans.specs.{declared.cause.Cause.Cause, declared.planned.Form.Form, declared.planned.User.User}
+use Rattle.msg_plans.specs.declared.planned.Form.TheVariants.{Dot, Lines}
+use Rattle.msg_plans.specs.declared.planned.Use.TheVariants.{Read, Write}
 use Rattle.msg_plans.specs.declared.cause.Cause.TheVariants as cause
 
 -- ---- parts of a line

@@ -9,7 +9,9 @@ use Rattle.msg_scenario_data.specs.Prelude.{resource_name, system_name, type_nam
 use Rattle.msg_scenario_data.specs.{declared.limits.TheConstants.LAST_JOIN, declared.scenario.Scenario.Scenario, declared.scenario.SystemSpec.SystemSpec}
 use Rattle.msg_order.specs.declared.rule.Rule.{Rule}
 use Rattle.msg_plans.specs.Order.{needs_in, precedes, turns_in, uses}
-use Rattle.msg_plans.specs.{declared.planned.Use.Use, declared.planned.Use.TheVariants.Read, declared.planned.Use.TheVariants.Write, declared.remarks.TypeRemark.TypeRemark, declared.remarks.TypeRemark.TheVariants.Half, declared.remarks.TypeRemark.TheVariants.Late, declared.remarks.TypeRemark.TheVariants.Skipped}
+use Rattle.msg_plans.specs.{declared.planned.Use.Use, declared.remarks.TypeRemark.TypeRemark}
+use Rattle.msg_plans.specs.declared.planned.Use.TheVariants.{Read, Write}
+use Rattle.msg_plans.specs.declared.remarks.TypeRemark.TheVariants.{Half, Late, Skipped}
 
 -- a frame in which every system has joined
 abbrev pub everybody : ℕ

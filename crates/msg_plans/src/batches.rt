@@ -1,6 +1,6 @@
 // Batches, and the longest chain through them.
 ghost use Rattle.std.specs.Prelude.{◌≡◌, ◌+◌, ◌<◌, ◌^◌, ◌++◌, IfOk, OnOk, codes, decimal, find, length};
-ghost use Rattle.msg_plans.specs.Prelude.{batch_end, batch_head, batch_text, batches_in, batches_text, chain, chain_text, link, member_text, members_text, precedes, quoted};
+ghost use Rattle.msg_plans.specs.Prelude as Spec;
 ghost use Rattle.msg_plans.specs.inner.Tables.{IsTableOf};
 
 use crate::planned::{Form, Planned};
@@ -16,7 +16,8 @@ pub(crate) fn add_quoted(
     scenario: &Scenario,
     system: u32,
 ) -> Result<(), NoMemory>
-    ensures appends { OnOk result (text.new.items ≡ text.old.items ++ quoted scenario.now system) }
+    ensures appends { OnOk result
+        (text.new.items ≡ text.old.items ++ Spec.quoted scenario.now system) }
 {
     text.extend_from_slice(b"\"")?;
     add_system(text, scenario, system)?;
@@ -31,7 +32,7 @@ fn add_member(
     system: u32,
 ) -> Result<(), NoMemory>
     ensures appends { OnOk result
-        (text.new.items ≡ text.old.items ++ member_text form scenario.now system) }
+        (text.new.items ≡ text.old.items ++ Spec.member_text form scenario.now system) }
 {
     text.extend_from_slice(b" ")?;
     match form {
@@ -52,7 +53,7 @@ fn add_members(
     systems: &[u32],
 ) -> Result<(), NoMemory>
     ensures appends { OnOk result
-        (text.new.items ≡ text.old.items ++ members_text form scenario.now systems.now) }
+        (text.new.items ≡ text.old.items ++ Spec.members_text form scenario.now systems.now) }
 {
     for system in systems {
         add_member(text, scenario, form, *system)?;
@@ -63,7 +64,7 @@ fn add_members(
 /// How a batch begins.
 fn add_batch_head(text: &mut Vec<u8>, form: Form, b: usize) -> Result<(), NoMemory>
     requires small { b + 1 < 2 ^ 64 }
-    ensures appends { OnOk result (text.new.items ≡ text.old.items ++ batch_head form b) }
+    ensures appends { OnOk result (text.new.items ≡ text.old.items ++ Spec.batch_head form b) }
 {
     match form {
         Form::Lines => {
@@ -75,7 +76,7 @@ fn add_batch_head(text: &mut Vec<u8>, form: Form, b: usize) -> Result<(), NoMemo
 }
 
 fn batch_end(form: Form) -> &'static [u8]
-    ensures end { result.now ≡ batch_end form }
+    ensures end { result.now ≡ Spec.batch_end form }
 {
     match form {
         Form::Lines => b"\n",
@@ -93,7 +94,7 @@ fn add_batch(
     requires table { IsTableOf scenario.now planned.now }
     requires batch { b < length planned.now.plan.batches }
     ensures appends { OnOk result
-        (text.new.items ≡ text.old.items ++ batch_text form scenario.now planned.now.frame b) }
+        (text.new.items ≡ text.old.items ++ Spec.batch_text form scenario.now planned.now.frame b) }
 {
     let batch = planned.batch(b);
     add_batch_head(text, form, b)?;
@@ -111,7 +112,7 @@ pub(crate) fn add_batches(
 ) -> Result<(), NoMemory>
     requires table { IsTableOf scenario.now planned.now }
     ensures appends { OnOk result
-        (text.new.items ≡ text.old.items ++ batches_text form scenario.now planned.now.frame) }
+        (text.new.items ≡ text.old.items ++ Spec.batches_text form scenario.now planned.now.frame) }
 {
     for b in 0..planned.plan.batches().len() {
         add_batch(text, scenario, planned, form, b)?;
@@ -124,7 +125,7 @@ pub(crate) fn add_batches(
 fn first_before(scenario: &Scenario, planned: &Planned, batch: &[u32], system: u32) -> Option<u32>
     requires table { IsTableOf scenario.now planned.now }
     ensures first { result
-        ≡ find (λ i. precedes scenario.now planned.now.frame i system) batch.now }
+        ≡ find (λ i. Spec.precedes scenario.now planned.now.frame i system) batch.now }
 {
     for i in batch {
         if planned.precedes(scenario, *i, system) {
@@ -137,7 +138,7 @@ fn first_before(scenario: &Scenario, planned: &Planned, batch: &[u32], system: u
 /// The first system of a batch that has to run before the first of a chain.
 fn link(scenario: &Scenario, planned: &Planned, batch: &[u32], chain: &[u32]) -> Option<u32>
     requires table { IsTableOf scenario.now planned.now }
-    ensures link { result ≡ link scenario.now planned.now.frame batch.now chain.now }
+    ensures link { result ≡ Spec.link scenario.now planned.now.frame batch.now chain.now }
 {
     match chain.first() {
         Some(next) => first_before(scenario, planned, batch, *next),
@@ -149,7 +150,8 @@ fn link(scenario: &Scenario, planned: &Planned, batch: &[u32], chain: &[u32]) ->
 fn chain(alloc: Global, scenario: &Scenario, planned: &Planned) -> Result<Vec<u32>, NoMemory>
     requires table { IsTableOf scenario.now planned.now }
     ensures chain { IfOk result (λ v. v.items
-        ≡ chain scenario.now planned.now.frame (batches_in scenario.now planned.now.frame)) }
+        ≡ Spec.chain scenario.now planned.now.frame
+        (Spec.batches_in scenario.now planned.now.frame)) }
 {
     let mut chain = Vec::new(alloc);
     let mut left = planned.plan.batches().len();
@@ -170,7 +172,7 @@ fn add_counted(
     systems: &[u32],
 ) -> Result<(), NoMemory>
     ensures appends { OnOk result (text.new.items ≡ text.old.items
-        ++ (head.now ++ members_text Form.Lines scenario.now systems.now
+        ++ (head.now ++ Spec.members_text Form.Lines scenario.now systems.now
         ++ codes " (" ++ decimal (length systems.now) ++ codes ")\n")) }
 {
     text.extend_from_slice(head)?;
@@ -187,8 +189,8 @@ pub(crate) fn add_chain(
 ) -> Result<(), NoMemory>
     requires table { IsTableOf scenario.now planned.now }
     ensures appends { OnOk result (text.new.items ≡ text.old.items
-        ++ chain_text scenario.now (chain scenario.now planned.now.frame
-        (batches_in scenario.now planned.now.frame))) }
+        ++ Spec.chain_text scenario.now (Spec.chain scenario.now planned.now.frame
+        (Spec.batches_in scenario.now planned.now.frame))) }
 {
     let chain = chain(*text.allocator(), scenario, planned)?;
     add_counted(text, b"longest chain:", scenario, &chain)

@@ -2,12 +2,8 @@
 //! run time.
 ghost use Rattle.msg_plans.specs.Prelude.{FramesRunAsPlanned};
 
-use msg_frames::laws::{frames_keep_the_systems, same_systems_have_same_accesses};
-
 /// Each frame of a scenario has its turns in the order that its plan tells.
+#[tactic(auto, using(crate::proofs::Orders::as_planned))]
 pub fn frames_run_as_planned()
     ensures law { FramesRunAsPlanned }
-{
-    frames_keep_the_systems::<i64>();
-    same_systems_have_same_accesses::<i64>();
-}
+{}

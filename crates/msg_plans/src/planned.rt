@@ -7,7 +7,6 @@ ghost use Rattle.msg_scenario_data.specs.Prelude.{IsRunnable};
 ghost use Rattle.msg_plans.specs.Prelude.{is_next, needs_in, precedes, turns_in, uses};
 ghost use Rattle.msg_plans.specs.inner.Tables.{AreAccesses, IsTableOf, joined_by, spec_needs};
 
-use msg_order::laws::fewer_systems_make_no_cycle;
 use msg_order::{Plan, PlanRefusal};
 use msg_scenario_data::{Scenario, SystemSpec};
 use msg_system::job_access;
@@ -84,7 +83,6 @@ fn plan_of(
     ensures plan { IfOk result (IsPlanOf accesses.now scenario.now.rules
         (joined_by scenario.now.systems frame)) }
 {
-    fewer_systems_make_no_cycle();
     let joined = joined_by(alloc, scenario.systems.as_slice(), frame)?;
     match Plan::build(alloc, accesses, scenario.rules.as_slice(), &joined) {
         Ok(plan) => Ok(plan),

@@ -1,7 +1,7 @@
 // What is remarked of a scenario that can be run.
 ghost use Rattle.std.specs.Prelude.{◌≡◌, ◌≤◌, ◌++◌, OnOk, codes, decimal, length};
 ghost use Rattle.msg_scenario_data.specs.Prelude.{IsRunnable, resource_name, system_name, type_name};
-ghost use Rattle.msg_plans.specs.Remarks.{absent_remark, absent_remarks, everybody, half_remark, has_post, has_user, is_posted, is_used, is_written, joins_text, late_for, late_line, late_remark, late_remarks, misses_text, remark, remarks_text, resources_remarks, rule_before, rule_text, since_text, skipped_remark, skipped_remarks, type_remark, types_remarks, unused_remark};
+ghost use Rattle.msg_plans.specs.Remarks as Spec;
 ghost use Rattle.msg_plans.specs.inner.Tables.{IsTableOf};
 
 use crate::planned::{Planned, Use, plan_frame};
@@ -24,21 +24,21 @@ enum TypeRemark {
 
 fn has_user(scenario: &Scenario, planned: &Planned, how: Use, t: TypeNo) -> bool
     requires table { IsTableOf scenario.now planned.now }
-    requires all { planned.now.frame ≡ everybody }
-    ensures user { result ≡ has_user how scenario.now t }
+    requires all { planned.now.frame ≡ Spec.everybody }
+    ensures user { result ≡ Spec.has_user how scenario.now t }
 {
     let mut turns = planned.turns.as_slice().iter();
     turns.any(|system| planned.uses(scenario, how, t, *system))
 }
 
 fn has_post(frame: &Frame, t: TypeNo) -> bool
-    ensures post { result ≡ has_post t frame.now }
+    ensures post { result ≡ Spec.has_post t frame.now }
 {
     frame.posts.as_slice().iter().any(|post| post.0 == t)
 }
 
 fn is_posted(scenario: &Scenario, t: TypeNo) -> bool
-    ensures posted { result ≡ is_posted scenario.now t }
+    ensures posted { result ≡ Spec.is_posted scenario.now t }
 {
     let mut frames = scenario.frames.as_slice().iter();
     frames.any(|frame| has_post(frame, t))
@@ -46,16 +46,16 @@ fn is_posted(scenario: &Scenario, t: TypeNo) -> bool
 
 fn is_written(scenario: &Scenario, planned: &Planned, t: TypeNo) -> bool
     requires table { IsTableOf scenario.now planned.now }
-    requires all { planned.now.frame ≡ everybody }
-    ensures written { result ≡ is_written scenario.now t }
+    requires all { planned.now.frame ≡ Spec.everybody }
+    ensures written { result ≡ Spec.is_written scenario.now t }
 {
     has_user(scenario, planned, Use::Write, t) || is_posted(scenario, t)
 }
 
 fn is_used(scenario: &Scenario, planned: &Planned, r: ResNo) -> bool
     requires table { IsTableOf scenario.now planned.now }
-    requires all { planned.now.frame ≡ everybody }
-    ensures used { result ≡ is_used scenario.now r }
+    requires all { planned.now.frame ≡ Spec.everybody }
+    ensures used { result ≡ Spec.is_used scenario.now r }
 {
     planned.turns.as_slice().iter().any(|system| {
         let access = planned.access(scenario, *system);
@@ -71,7 +71,7 @@ fn add_type_remark(
     is: &[u8],
 ) -> Result<(), NoMemory>
     ensures appends { OnOk result
-        (text.new.items ≡ text.old.items ++ remark (type_name scenario.now t) is.now) }
+        (text.new.items ≡ text.old.items ++ Spec.remark (type_name scenario.now t) is.now) }
 {
     text.extend_from_slice(b"remark: ")?;
     add_type(text, scenario, t)?;
@@ -86,7 +86,7 @@ fn add_resource_remark(
     is: &[u8],
 ) -> Result<(), NoMemory>
     ensures appends { OnOk result
-        (text.new.items ≡ text.old.items ++ remark (resource_name scenario.now r) is.now) }
+        (text.new.items ≡ text.old.items ++ Spec.remark (resource_name scenario.now r) is.now) }
 {
     text.extend_from_slice(b"remark: ")?;
     add_resource(text, scenario, r)?;
@@ -102,9 +102,9 @@ fn add_half(
     t: TypeNo,
 ) -> Result<(), NoMemory>
     requires table { IsTableOf scenario.now planned.now }
-    requires all { planned.now.frame ≡ everybody }
+    requires all { planned.now.frame ≡ Spec.everybody }
     ensures appends { OnOk result
-        (text.new.items ≡ text.old.items ++ half_remark how scenario.now t) }
+        (text.new.items ≡ text.old.items ++ Spec.half_remark how scenario.now t) }
 {
     let written = is_written(scenario, planned, t);
     let read = has_user(scenario, planned, Use::Read, t);
@@ -126,9 +126,9 @@ fn add_unused_one(
     r: ResNo,
 ) -> Result<(), NoMemory>
     requires table { IsTableOf scenario.now planned.now }
-    requires all { planned.now.frame ≡ everybody }
+    requires all { planned.now.frame ≡ Spec.everybody }
     ensures appends { OnOk result
-        (text.new.items ≡ text.old.items ++ unused_remark scenario.now r) }
+        (text.new.items ≡ text.old.items ++ Spec.unused_remark scenario.now r) }
 {
     if is_used(scenario, planned, r) {
         Ok(())
@@ -141,10 +141,10 @@ fn add_unused_one(
 #[tactic(auto, using(crate::proofs::Steps::text_more), unfolding(crate::specs::Remarks::resources_remarks))]
 fn add_unused(text: &mut Vec<u8>, scenario: &Scenario, planned: &Planned) -> Result<(), NoMemory>
     requires table { IsTableOf scenario.now planned.now }
-    requires all { planned.now.frame ≡ everybody }
+    requires all { planned.now.frame ≡ Spec.everybody }
     requires few { length scenario.now.resources ≤ MAX_RESOURCES }
     ensures appends { OnOk result
-        (text.new.items ≡ text.old.items ++ resources_remarks scenario.now) }
+        (text.new.items ≡ text.old.items ++ Spec.resources_remarks scenario.now) }
 {
     for r in 0..scenario.resources.as_slice().len() {
         let Some(r) = ResNo::new(r as u32) else {
@@ -175,7 +175,7 @@ fn add_counts(
 /// The frame that a system joins with, and how many there are.
 #[tactic(auto, unfolding(crate::specs::Remarks::joins_text))]
 fn add_joins(text: &mut Vec<u8>, join: u64, frames: u64) -> Result<(), NoMemory>
-    ensures appends { OnOk result (text.new.items ≡ text.old.items ++ joins_text join frames) }
+    ensures appends { OnOk result (text.new.items ≡ text.old.items ++ Spec.joins_text join frames) }
 {
     add_counts(
         text,
@@ -193,7 +193,7 @@ fn add_absent_one(
     system: &SystemSpec,
 ) -> Result<(), NoMemory>
     ensures appends { OnOk result
-        (text.new.items ≡ text.old.items ++ absent_remark scenario.now system.now) }
+        (text.new.items ≡ text.old.items ++ Spec.absent_remark scenario.now system.now) }
 {
     let frames = scenario.frames.as_slice().len() as u64;
     let join = u64::from(system.place.join);
@@ -208,7 +208,8 @@ fn add_absent_one(
 /// Remarks on the systems that join after the last frame.
 #[tactic(auto, unfolding(crate::specs::Remarks::absent_remarks))]
 fn add_absent(text: &mut Vec<u8>, scenario: &Scenario) -> Result<(), NoMemory>
-    ensures appends { OnOk result (text.new.items ≡ text.old.items ++ absent_remarks scenario.now) }
+    ensures appends { OnOk result
+        (text.new.items ≡ text.old.items ++ Spec.absent_remarks scenario.now) }
 {
     for system in scenario.systems.as_slice() {
         add_absent_one(text, scenario, system)?;
@@ -220,8 +221,8 @@ fn add_absent(text: &mut Vec<u8>, scenario: &Scenario) -> Result<(), NoMemory>
 #[tactic(auto, using(crate::proofs::Steps::find_steps))]
 fn late_for(scenario: &Scenario, planned: &Planned, system: u32, t: TypeNo) -> Option<u32>
     requires table { IsTableOf scenario.now planned.now }
-    requires all { planned.now.frame ≡ everybody }
-    ensures first { result ≡ late_for scenario.now system t }
+    requires all { planned.now.frame ≡ Spec.everybody }
+    ensures first { result ≡ Spec.late_for scenario.now system t }
 {
     for writer in planned.turns.as_slice() {
         if planned.uses(scenario, Use::Write, t, *writer)
@@ -236,7 +237,7 @@ fn late_for(scenario: &Scenario, planned: &Planned, system: u32, t: TypeNo) -> O
 /// The first rule that puts a system before another.
 #[tactic(auto, using(crate::proofs::Steps::range_steps))]
 fn rule_before(scenario: &Scenario, system: u32, later: u32) -> Option<usize>
-    ensures first { result ≡ rule_before scenario.now system later }
+    ensures first { result ≡ Spec.rule_before scenario.now system later }
 {
     let rules = scenario.rules.as_slice();
     for k in 0..rules.len() {
@@ -249,7 +250,7 @@ fn rule_before(scenario: &Scenario, system: u32, later: u32) -> Option<usize>
 
 /// A rule by its place in the file.
 fn add_rule(text: &mut Vec<u8>, rule: Option<usize>) -> Result<(), NoMemory>
-    ensures appends { OnOk result (text.new.items ≡ text.old.items ++ rule_text rule) }
+    ensures appends { OnOk result (text.new.items ≡ text.old.items ++ Spec.rule_text rule) }
 {
     match rule {
         Some(k) => {
@@ -270,7 +271,7 @@ fn add_before(
 ) -> Result<(), NoMemory>
     ensures appends { OnOk result (text.new.items ≡ text.old.items
         ++ (head.now ++ system_name scenario.now later
-        ++ rule_text (rule_before scenario.now system later) ++ codes "\n")) }
+        ++ Spec.rule_text (Spec.rule_before scenario.now system later) ++ codes "\n")) }
 {
     text.extend_from_slice(head)?;
     add_system(text, scenario, later)?;
@@ -287,7 +288,7 @@ fn add_since(
     writer: u32,
 ) -> Result<(), NoMemory>
     ensures appends { OnOk result
-        (text.new.items ≡ text.old.items ++ since_text scenario.now system writer) }
+        (text.new.items ≡ text.old.items ++ Spec.since_text scenario.now system writer) }
 {
     let head = b" a frame late, since it runs before ";
     add_before(text, head, scenario, system, writer)
@@ -302,7 +303,7 @@ fn add_late_line(
     writer: u32,
 ) -> Result<(), NoMemory>
     ensures appends { OnOk result
-        (text.new.items ≡ text.old.items ++ late_line scenario.now system t writer) }
+        (text.new.items ≡ text.old.items ++ Spec.late_line scenario.now system t writer) }
 {
     text.extend_from_slice(b"remark: ")?;
     add_system(text, scenario, system)?;
@@ -319,9 +320,9 @@ fn add_late_one(
     t: TypeNo,
 ) -> Result<(), NoMemory>
     requires table { IsTableOf scenario.now planned.now }
-    requires all { planned.now.frame ≡ everybody }
+    requires all { planned.now.frame ≡ Spec.everybody }
     ensures appends { OnOk result
-        (text.new.items ≡ text.old.items ++ late_remark scenario.now system t) }
+        (text.new.items ≡ text.old.items ++ Spec.late_remark scenario.now system t) }
 {
     if !planned.uses(scenario, Use::Read, t, system) {
         return Ok(());
@@ -335,7 +336,8 @@ fn add_late_one(
 /// What a system that skips a turn may miss.
 #[tactic(auto, unfolding(crate::specs::Remarks::misses_text))]
 fn add_misses(text: &mut Vec<u8>, scenario: &Scenario, t: TypeNo) -> Result<(), NoMemory>
-    ensures appends { OnOk result (text.new.items ≡ text.old.items ++ misses_text scenario.now t) }
+    ensures appends { OnOk result
+        (text.new.items ≡ text.old.items ++ Spec.misses_text scenario.now t) }
 {
     text.extend_from_slice(b" may skip its turns, and so miss messages of ")?;
     add_type(text, scenario, t)?;
@@ -349,7 +351,7 @@ fn add_skipped_one(
     t: TypeNo,
 ) -> Result<(), NoMemory>
     ensures appends { OnOk result
-        (text.new.items ≡ text.old.items ++ skipped_remark scenario.now system.now t) }
+        (text.new.items ≡ text.old.items ++ Spec.skipped_remark scenario.now system.now t) }
 {
     let has_conditions = !system.place.conditions.as_slice().is_empty();
     if !(has_conditions && system.program.access().reads_type(t)) {
@@ -369,9 +371,9 @@ fn add_of_type(
     t: TypeNo,
 ) -> Result<(), NoMemory>
     requires table { IsTableOf scenario.now planned.now }
-    requires all { planned.now.frame ≡ everybody }
+    requires all { planned.now.frame ≡ Spec.everybody }
     ensures appends { OnOk result
-        (text.new.items ≡ text.old.items ++ type_remark of scenario.now t) }
+        (text.new.items ≡ text.old.items ++ Spec.type_remark of scenario.now t) }
 {
     match of {
         TypeRemark::Half(how) => add_half(text, scenario, planned, how, t),
@@ -392,10 +394,10 @@ fn add_of_types(
     of: TypeRemark,
 ) -> Result<(), NoMemory>
     requires table { IsTableOf scenario.now planned.now }
-    requires all { planned.now.frame ≡ everybody }
+    requires all { planned.now.frame ≡ Spec.everybody }
     requires few { length scenario.now.types ≤ MAX_TYPES }
     ensures appends { OnOk result
-        (text.new.items ≡ text.old.items ++ types_remarks of scenario.now) }
+        (text.new.items ≡ text.old.items ++ Spec.types_remarks of scenario.now) }
 {
     for t in 0..scenario.types.as_slice().len() {
         let Some(t) = TypeNo::new(t as u32) else {
@@ -410,9 +412,10 @@ fn add_of_types(
 #[tactic(auto, unfolding(crate::specs::Remarks::late_remarks))]
 fn add_late(text: &mut Vec<u8>, scenario: &Scenario, planned: &Planned) -> Result<(), NoMemory>
     requires table { IsTableOf scenario.now planned.now }
-    requires all { planned.now.frame ≡ everybody }
+    requires all { planned.now.frame ≡ Spec.everybody }
     requires few { length scenario.now.types ≤ MAX_TYPES }
-    ensures appends { OnOk result (text.new.items ≡ text.old.items ++ late_remarks scenario.now) }
+    ensures appends { OnOk result
+        (text.new.items ≡ text.old.items ++ Spec.late_remarks scenario.now) }
 {
     for system in planned.turns.as_slice() {
         add_of_types(text, scenario, planned, TypeRemark::Late(*system))?;
@@ -424,11 +427,11 @@ fn add_late(text: &mut Vec<u8>, scenario: &Scenario, planned: &Planned) -> Resul
 #[tactic(auto, using(crate::proofs::Steps::text_more), unfolding(crate::specs::Remarks::skipped_remarks))]
 fn add_skipped(text: &mut Vec<u8>, scenario: &Scenario, planned: &Planned) -> Result<(), NoMemory>
     requires table { IsTableOf scenario.now planned.now }
-    requires all { planned.now.frame ≡ everybody }
+    requires all { planned.now.frame ≡ Spec.everybody }
     requires few { length scenario.now.types ≤ MAX_TYPES }
     requires systems { length scenario.now.systems ≤ MAX_SYSTEMS }
     ensures appends { OnOk result
-        (text.new.items ≡ text.old.items ++ skipped_remarks scenario.now) }
+        (text.new.items ≡ text.old.items ++ Spec.skipped_remarks scenario.now) }
 {
     for i in 0..scenario.systems.as_slice().len() {
         add_of_types(text, scenario, planned, TypeRemark::Skipped(i as u32))?;
@@ -442,7 +445,8 @@ fn add_skipped(text: &mut Vec<u8>, scenario: &Scenario, planned: &Planned) -> Re
 /// those that may skip a turn, and so miss messages.
 pub fn add_remarks(text: &mut Vec<u8>, scenario: &Scenario) -> Result<(), NoMemory>
     requires runnable { IsRunnable scenario.now }
-    ensures appends { OnOk result (text.new.items ≡ text.old.items ++ remarks_text scenario.now) }
+    ensures appends { OnOk result
+        (text.new.items ≡ text.old.items ++ Spec.remarks_text scenario.now) }
 {
     let planned = plan_frame(*text.allocator(), scenario, LAST_JOIN)?;
     add_of_types(text, scenario, &planned, TypeRemark::Half(Use::Read))?;

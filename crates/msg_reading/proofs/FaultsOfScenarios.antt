@@ -1,5 +1,5 @@
 -- The faults of a scenario.
-use Rattle.std.proofs.Common.{◌≡◌, ◌⊎◌, ℕ, refl, inl, inr, Ok}
+use Rattle.std.proofs.Common.{◌≡◌, ◌⊎◌, ℕ, refl, inr, Ok}
 use Rattle.serde_json.specs.Data.{Data}
 use Rattle.msg_order.specs.Prelude.{IsLowestOnCycle, edges_of}
 use Rattle.msg_json.specs.declared.fault.Fault.{Fault}

@@ -2,5 +2,4 @@ pub mod Making
 pub mod Prelude
 pub mod ReportText
 pub mod Reported
-pub mod Ran
 pub mod inner

@@ -4,9 +4,12 @@ use Rattle.std.specs.Prelude.{ℕ, ℤ, ◌+◌, ◌==◌, List, [], ◌∷◌, 
 use Rattle.std.specs.{Fmt.signed_decimal, List.enumerate_from, Option.option_map_or}
 use Rattle.msg_buffer.specs.declared.instance.Written.{Written}
 use Rattle.msg_world.specs.{declared.record.TheConstants.HOST, declared.record.Record.Record}
-use Rattle.msg_system.specs.{declared.op.Op.Op, declared.op.Op.TheVariants.Write, declared.op.Op.TheVariants.Batch, declared.op.Op.TheVariants.Read, declared.op.Op.TheVariants.Len, declared.op.Op.TheVariants.Missed, declared.op.Op.TheVariants.Clear, declared.op.Op.TheVariants.Forward, declared.op.Op.TheVariants.Sum, declared.op.Op.TheVariants.Get, declared.op.Op.TheVariants.Set, declared.op.Op.TheVariants.Add, declared.op.Op.TheVariants.Drain, declared.op.Op.TheVariants.Signal, declared.reply.Took.Took, declared.reply.Reply.Reply}
+use Rattle.msg_system.specs.{declared.op.Op.Op, declared.reply.Took.Took, declared.reply.Reply.Reply}
+use Rattle.msg_system.specs.declared.op.Op.TheVariants as op
 use Rattle.msg_system.specs.declared.reply.Reply.TheVariants as reply
-use Rattle.msg_frames.specs.{declared.account.Account.Account, declared.frame.Frame.Frame, declared.log.Log.Log, declared.log.Turn.Turn, declared.log.Outcome.Outcome, declared.log.Outcome.TheVariants.Skipped, declared.log.Outcome.TheVariants.Ran}
+use Rattle.msg_frames.specs.{declared.account.Account.Account, declared.frame.Frame.Frame, declared.log.Log.Log, declared.log.Turn.Turn}
+use Rattle.msg_frames.specs.declared.log.Outcome.{Outcome}
+use Rattle.msg_frames.specs.declared.log.Outcome.TheVariants.{Ran, Skipped}
 use Rattle.msg_text.specs.Prelude.{Text}
 use Rattle.msg_scenario_data.specs.Prelude.{resource_name, system_name, type_name}
 use Rattle.msg_scenario_data.specs.{declared.scenario.Scenario.Scenario, declared.scenario.SystemSpec.SystemSpec}
@@ -51,19 +54,19 @@ written_text (Some numbers) = numbers_text numbers
 
 -- an op by its head, and by what it works on
 abbrev pub op_text : Scenario → Op ℤ → Text
-op_text s (Write t value) = codes "write " ++ type_name s t
-op_text s (Batch t values) = codes "batch " ++ type_name s t
-op_text s (Read t limit) = codes "read " ++ type_name s t
-op_text s (Len t) = codes "len " ++ type_name s t
-op_text s (Missed t) = codes "missed " ++ type_name s t
-op_text s (Clear t) = codes "clear " ++ type_name s t
-op_text s (Forward t u) = codes "forward " ++ type_name s t ++ codes " " ++ type_name s u
-op_text s (Sum t r) = codes "sum " ++ type_name s t ++ codes " " ++ resource_name s r
-op_text s (Get r) = codes "get " ++ resource_name s r
-op_text s (Set r value) = codes "set " ++ resource_name s r
-op_text s (Add r value) = codes "add " ++ resource_name s r
-op_text s (Drain t) = codes "drain " ++ type_name s t
-op_text s Signal = codes "signal"
+op_text s (op.Write t value) = codes "write " ++ type_name s t
+op_text s (op.Batch t values) = codes "batch " ++ type_name s t
+op_text s (op.Read t limit) = codes "read " ++ type_name s t
+op_text s (op.Len t) = codes "len " ++ type_name s t
+op_text s (op.Missed t) = codes "missed " ++ type_name s t
+op_text s (op.Clear t) = codes "clear " ++ type_name s t
+op_text s (op.Forward t u) = codes "forward " ++ type_name s t ++ codes " " ++ type_name s u
+op_text s (op.Sum t r) = codes "sum " ++ type_name s t ++ codes " " ++ resource_name s r
+op_text s (op.Get r) = codes "get " ++ resource_name s r
+op_text s (op.Set r value) = codes "set " ++ resource_name s r
+op_text s (op.Add r value) = codes "add " ++ resource_name s r
+op_text s (op.Drain t) = codes "drain " ++ type_name s t
+op_text s op.Signal = codes "signal"
 
 -- what it was answered, as that follows it on the line
 abbrev pub reply_text : Scenario → Reply ℤ → Text
@@ -98,11 +101,11 @@ posts_text s posts answers = flat_map (λ p. post_line s p.0.0 p.1) (zip posts a
 
 -- how the line of an op begins, of the system with this name
 abbrev pub op_start : Scenario → Text → Op ℤ → Text
-op_start s name op = name ++ codes " " ++ op_text s op
+op_start s name this = name ++ codes " " ++ op_text s this
 
 -- the line of an op of the system with this name
 abbrev pub op_line : Scenario → Text → Op ℤ → Reply ℤ → Text
-op_line s name op answer = answered_line s (op_start s name op) answer
+op_line s name this answer = answered_line s (op_start s name this) answer
 
 -- a line for each op
 abbrev pub ops_text : Scenario → Text → List (Op ℤ) → List (Reply ℤ) → Text

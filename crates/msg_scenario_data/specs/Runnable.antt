@@ -6,8 +6,10 @@ use Rattle.msg_order.specs.Prelude.{IsAcyclic, NameSystemsBelow, edges_of}
 use Rattle.msg_system.specs.Prelude.{HasClash, Meaning, job_needs, needs_any, new_system, program_needs}
 use Rattle.msg_frames.specs.Prelude.{State, first_state}
 use Rattle.msg_frames.specs.{declared.frame.Frame.Frame, declared.place.Place.Place}
-use Rattle.msg_system.specs.{declared.op.Op.Op, declared.op.Op.TheVariants.Forward, declared.op.Op.TheVariants.Sum}
-use Rattle.msg_scenario_data.specs.{declared.kind.Kind.Kind, declared.kind.Kind.TheVariants.Script, declared.kind.Kind.TheVariants.Relay, declared.kind.Kind.TheVariants.Tally, declared.limits.TheConstants.LAST_JOIN, declared.limits.TheConstants.MAX_OPS, declared.limits.TheConstants.MAX_RESOURCES, declared.limits.TheConstants.MAX_SYSTEMS, declared.limits.TheConstants.MAX_TYPES, declared.scenario.Scenario.Scenario, declared.scenario.SystemSpec.SystemSpec}
+use Rattle.msg_system.specs.declared.op.Op.{Op}
+use Rattle.msg_system.specs.declared.op.Op.TheVariants.{Forward, Sum}
+use Rattle.msg_scenario_data.specs.{declared.kind.Kind.Kind, declared.limits.TheConstants.LAST_JOIN, declared.limits.TheConstants.MAX_OPS, declared.limits.TheConstants.MAX_RESOURCES, declared.limits.TheConstants.MAX_SYSTEMS, declared.limits.TheConstants.MAX_TYPES, declared.scenario.Scenario.Scenario, declared.scenario.SystemSpec.SystemSpec}
+use Rattle.msg_scenario_data.specs.declared.kind.Kind.TheVariants.{Relay, Script, Tally}
 
 -- ---- the first state
 

@@ -13,7 +13,8 @@ use Rattle.msg_reading.specs.Prelude.{HasFault, IsReadAs, scenario_of}
 use Rattle.msg_scenario_data.specs.declared.scenario.Scenario.{Scenario}
 use Rattle.msg_plans.specs.Prelude.{remarks_text, unfit_text}
 use Rattle.msg_command.specs.Prelude.{refusal_line}
-use Rattle.msg_command.specs.{declared.fault.MainFault.MainFault, declared.fault.MainFault.TheVariants.Built, declared.fault.MainFault.TheVariants.Told}
+use Rattle.msg_command.specs.declared.fault.MainFault.{MainFault}
+use Rattle.msg_command.specs.declared.fault.MainFault.TheVariants.{Built, Told}
 
 -- how many systems, types and resources a scenario has
 unfoldable pub parts_counts : Scenario → Text

@@ -2,7 +2,8 @@
 use Rattle.std.specs.Prelude.{ℕ, Result, Ok, Err}
 use Rattle.msg_text.specs.declared.report_fault.ReportFault.{ReportFault}
 use Rattle.msg_command.specs.Prelude.{status_of}
-use Rattle.msg_command.specs.{declared.fault.MainFault.MainFault, declared.fault.MainFault.TheVariants.Built, declared.fault.MainFault.TheVariants.Report}
+use Rattle.msg_command.specs.declared.fault.MainFault.{MainFault}
+use Rattle.msg_command.specs.declared.fault.MainFault.TheVariants.{Built, Report}
 
 -- the fault that ends the program, by what a run of a scenario came to
 abbrev pub main_fault : {E : Type 0} → Result (Result (Unit {0}) ReportFault) E

@@ -1,9 +1,10 @@
 // From the bytes of a file to what is put: what the program does between its input and its output.
-ghost use Rattle.std.specs.Prelude.{◌≡◌, ◌⊎◌, OnErr, OnOk};
+ghost use Rattle.std.specs.Prelude.{◌≡◌, ◌⊎◌, Err, OnErr, OnOk};
 ghost use Rattle.std.specs.Io.KnownBytes.{Appends};
 ghost use Rattle.msg_text.specs.Prelude.{AppendsPrefix};
 ghost use Rattle.msg_files.specs.Prelude.{calls_text};
-ghost use Rattle.msg_reports.specs.Prelude.{HasPrinted, IsReported};
+ghost use Rattle.msg_text.specs.declared.report_fault.ReportFault.{ReportFault as FaultView};
+ghost use Rattle.msg_reports.specs.Prelude.{IsReported, LeavesReport};
 ghost use Rattle.msg_scenario.specs.FromBytes.{AreOfCalls, IsOfScenario};
 
 use crate::boxes::{as_main_fault, run_in_boxes};
@@ -43,7 +44,8 @@ pub(crate) fn report_bytes<R: Threads + Sync, S: Sink>(
     ensures ok { OnOk result (IsOfScenario bytes.now (λ scenario.
         IsReported scenario (S.contents sink.old) (S.contents sink.new))) }
     ensures front { OnErr result ((sink.new ≡ sink.old) ⊎ IsOfScenario bytes.now (λ scenario.
-        HasPrinted scenario (S.contents sink.old) (S.contents sink.new))) }
+        (fault : FaultView) × (result ≡ Err (MainFault.Report fault))
+        × LeavesReport S.contents S.failures scenario (Err fault) sink.old sink.new)) }
 {
     let scenario = read_scenario(alloc, bytes)?;
     as_main_fault(run_in_boxes(rt, alloc, &scenario, workers, sink))

@@ -1,9 +1,7 @@
 // A scenario, run to its end by systems in boxes.
-ghost use Rattle.std.specs.Prelude.{◌≡◌, ◌≢◌, ◌⊎◌, Ok, Err, IfOk, OnErr, OnOk};
-ghost use Rattle.msg_world.specs.declared.run_fault.RunFault.TheVariants.{BadOrder, NoMemory as NoRoom, Spoiled};
-ghost use Rattle.msg_text.specs.Prelude.{one_failure_more};
+ghost use Rattle.std.specs.Prelude.{◌≡◌, IfOk, OnErr};
 ghost use Rattle.msg_scenario_data.specs.Prelude.{IsRunnable};
-ghost use Rattle.msg_reports.specs.Prelude.{HasPrinted, IsReported, PrintedFrames, PrintedSome};
+ghost use Rattle.msg_reports.specs.Prelude.{LeavesReport};
 ghost use Rattle.msgrun.specs.Prelude.{main_fault};
 
 use crate::building::{relay_of, scripted_of, tally_of};
@@ -32,22 +30,9 @@ pub(crate) fn run_in_boxes<R: Threads + Sync, S: Sink>(
     requires runnable { IsRunnable scenario.now }
 
     // Whatever the workers: the text is that of one thread.
-    ensures ok { IfOk result (λ reported. OnOk reported
-        (IsReported scenario.now (S.contents sink.old) (S.contents sink.new))) }
-    ensures prefix { IfOk result (λ reported. OnErr reported
-        (HasPrinted scenario.now (S.contents sink.old) (S.contents sink.new))) }
+    ensures leaves { IfOk result (λ came.
+        LeavesReport S.contents S.failures scenario.now came sink.old sink.new) }
     ensures no_engine { OnErr result (sink.new ≡ sink.old) }
-    ensures run { result ≡ Ok (Err (ReportFault.Run NoRoom))
-        → PrintedFrames scenario.now (S.contents sink.old) (S.contents sink.new) }
-    ensures not_spoiled { result ≢ Ok (Err (ReportFault.Run Spoiled)) }
-    ensures no_bad_order { result ≢ Ok (Err (ReportFault.Run BadOrder)) }
-    ensures stopped { (result ≡ Ok (Err ReportFault.Write))
-        ⊎ (result ≡ Ok (Err ReportFault.NoMemory))
-        → PrintedSome scenario.now (S.contents sink.old) (S.contents sink.new) }
-    ensures write { result ≡ Ok (Err ReportFault.Write)
-        → S.failures sink.new ≡ one_failure_more (S.failures sink.old) }
-    ensures quiet { result ≢ Ok (Err ReportFault.Write)
-        → S.failures sink.new ≡ S.failures sink.old }
 {
     let mut systems: Vec<Box<dyn System>> = Vec::new(alloc);
     let specs = scenario.systems.as_slice();

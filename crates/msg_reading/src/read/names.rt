@@ -1,6 +1,7 @@
 // The names that a file declares.
 ghost use Rattle.std.specs.Prelude.{◌≡◌, ◌≤◌, ◌∷◌, ◌++◌, [], OnOk, option_and_then};
-ghost use Rattle.msg_reading.specs.{Names.position_of, ScenarioFormat.good_name, ScenarioFormat.new_name, ScenarioFormat.no_names, ScenarioFormat.resource_named, ScenarioFormat.system_named, ScenarioFormat.type_named, ScenarioFormat.with_system};
+ghost use Rattle.msg_reading.specs.Names.{position_of};
+ghost use Rattle.msg_reading.specs.ScenarioFormat as Spec;
 ghost use Rattle.msg_json.specs.Prelude.{Reads, only_below};
 
 use crate::{Fault, Name};
@@ -13,7 +14,7 @@ use std::marker::Model;
 
 /// The name with this text.
 fn good_name(alloc: Global, text: &str) -> Result<Name, Fault>
-    ensures name { Reads (good_name text.now) result }
+    ensures name { Reads (Spec.good_name text.now) result }
 {
     match Name::new(alloc, text) {
         Ok(name) => Ok(name),
@@ -67,7 +68,7 @@ impl NameSpace {
 
     /// A new name, which goes last.
     fn declare(&mut self, alloc: Global, name: &str) -> Result<Name, Fault>
-        ensures name { Reads (new_name self.old name.now) result }
+        ensures name { Reads (Spec.new_name self.old name.now) result }
         ensures declares { OnOk result (self.new ≡ self.old ++ name.now ∷ []) }
     {
         let made = good_name(alloc, name)?;
@@ -100,7 +101,7 @@ impl Model for Declarations {
 impl Declarations {
     /// No names.
     pub fn new(alloc: Global) -> Declarations
-        ensures empty { result ≡ no_names }
+        ensures empty { result ≡ Spec.no_names }
     {
         Declarations {
             types: NameSpace::new(alloc),
@@ -111,7 +112,7 @@ impl Declarations {
 
     /// The type of this name.
     pub fn type_no(&self, name: &str) -> Result<TypeNo, Fault>
-        ensures named { result ≡ type_named self.now name.now }
+        ensures named { result ≡ Spec.type_named self.now name.now }
     {
         let place = self.types.place_below(name, MAX_TYPES);
         place
@@ -121,7 +122,7 @@ impl Declarations {
 
     /// The resource of this name.
     pub fn res_no(&self, name: &str) -> Result<ResNo, Fault>
-        ensures named { result ≡ resource_named self.now name.now }
+        ensures named { result ≡ Spec.resource_named self.now name.now }
     {
         let place = self.resources.place_below(name, MAX_RESOURCES);
         place
@@ -131,7 +132,7 @@ impl Declarations {
 
     /// The number of the system of this name.
     pub fn system_no(&self, name: &str) -> Result<u32, Fault>
-        ensures named { result ≡ system_named self.now name.now }
+        ensures named { result ≡ Spec.system_named self.now name.now }
     {
         let place = self.systems.place_below(name, MAX_SYSTEMS);
         place.ok_or(Fault::here(Reason::NoSystem))
@@ -139,7 +140,7 @@ impl Declarations {
 
     /// Names the next type.
     pub fn declare_type(&mut self, alloc: Global, name: &str) -> Result<Name, Fault>
-        ensures name { Reads (new_name self.old.types name.now) result }
+        ensures name { Reads (Spec.new_name self.old.types name.now) result }
         ensures declares { OnOk result
             (self.new ≡ record self.old { types = self.old.types ++ name.now ∷ [] }) }
     {
@@ -148,7 +149,7 @@ impl Declarations {
 
     /// Names the next resource, as `declare_type` does a type.
     pub fn declare_resource(&mut self, alloc: Global, name: &str) -> Result<Name, Fault>
-        ensures name { Reads (new_name self.old.resources name.now) result }
+        ensures name { Reads (Spec.new_name self.old.resources name.now) result }
         ensures declares { OnOk result
             (self.new ≡ record self.old { resources = self.old.resources ++ name.now ∷ [] }) }
     {
@@ -157,8 +158,8 @@ impl Declarations {
 
     /// Names the next system, as `declare_type` does a type.
     pub fn declare_system(&mut self, alloc: Global, name: &str) -> Result<Name, Fault>
-        ensures name { Reads (new_name self.old.systems name.now) result }
-        ensures declares { OnOk result (self.new ≡ with_system self.old name.now) }
+        ensures name { Reads (Spec.new_name self.old.systems name.now) result }
+        ensures declares { OnOk result (self.new ≡ Spec.with_system self.old name.now) }
     {
         self.systems.declare(alloc, name)
     }

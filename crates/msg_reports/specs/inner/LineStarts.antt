@@ -2,7 +2,8 @@
 use Rattle.std.specs.Prelude.{◌≡◌, ◌++◌, List, [], codes, flat_map, map, slice_get, zip, ℤ}
 use Rattle.std.specs.Option.{option_map_or}
 use Rattle.msg_text.specs.Prelude.{Text}
-use Rattle.msg_frames.specs.{declared.log.Outcome.Outcome, declared.log.Outcome.TheVariants.Skipped, declared.log.Outcome.TheVariants.Ran, declared.log.Turn.Turn}
+use Rattle.msg_frames.specs.declared.log.{Outcome.Outcome, Turn.Turn}
+use Rattle.msg_frames.specs.declared.log.Outcome.TheVariants.{Ran, Skipped}
 use Rattle.msg_scenario_data.specs.{declared.scenario.Scenario.Scenario, declared.scenario.SystemSpec.SystemSpec}
 use Rattle.msg_reports.specs.{declared.reports.lines.SystemLines.SystemLines, ReportText.answered_line, ReportText.op_start}
 

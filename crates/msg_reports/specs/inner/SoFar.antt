@@ -11,9 +11,11 @@ use Rattle.msg_scenario_data.specs.declared.scenario.Scenario.{Scenario}
 use Rattle.msg_reports.specs.ReportText.{frames_text}
 use Rattle.msg_world.specs.Prelude.{i64_values}
 
-module _ {X : Type 0} (meaning : X → Meaning ℤ) (s : Scenario) where
-  -- after the first k frames: they were run, and their text was put
-  pub record ReportSoFar (k : ℕ) (before now : Option (List ℕ)) (e : EngineOf X ℤ) : Type 0 where
+module _ {S : Type 0} (contents : S → Option (List ℕ)) (failures : S → ℕ)
+    {X : Type 0} (meaning : X → Meaning ℤ) (s : Scenario) (first : EngineOf X ℤ) where
+  -- after the first k frames: they were run, their text was put, and no put failed
+  pub record ReportSoFar (k : ℕ) (old now : S) (e : EngineOf X ℤ) : Type 0 where
+    pub begun : EngineStands meaning first (state_of s)
     pub logs : List (Log ℤ)
     pub state : State i64_values
     pub as_many : length logs ≡ k
@@ -21,7 +23,8 @@ module _ {X : Type 0} (meaning : X → Meaning ℤ) (s : Scenario) where
         × (state ≡ (run (take k s.frames) (state_of s)).state)
     pub frames : state.frames ≡ k
     pub types : state.types ≡ length s.types
-    pub printed : Appends before now (frames_text s 1 s.frames logs)
+    pub printed : Appends (contents old) (contents now) (frames_text s 1 s.frames logs)
+    pub quiet : failures now ≡ failures old
     pub stands : EngineStands meaning e state
     pub counted : frame_number e ≡ min k (2 ^ 32 - 1)
     pub alive : ¬ IsSpoiled e

@@ -1,7 +1,7 @@
 // A reply at the end of a text.
 ghost use Rattle.std.specs.Prelude.{◌≡◌, ◌+◌, ◌++◌, [], IsOk, OnOk, codes, decimal};
 ghost use Rattle.std.specs.Fmt.{signed_decimal};
-ghost use Rattle.msg_reports.specs.Prelude.{item_text, items_text, more_items, numbers_text, reply_text, took_text, written_text};
+ghost use Rattle.msg_reports.specs.Prelude as Spec;
 
 use crate::reports::names::add_writer;
 use msg_buffer::{NoMemory, Written};
@@ -13,7 +13,7 @@ use msg_world::Record;
 /// What an op was answered, as that follows the op on its line.
 pub fn add_reply(text: &mut Vec<u8>, scenario: &Scenario, reply: &Reply) -> Result<(), NoMemory>
     ensures appends { OnOk result
-        (text.new.items ≡ text.old.items ++ reply_text scenario.now reply.now) }
+        (text.new.items ≡ text.old.items ++ Spec.reply_text scenario.now reply.now) }
 {
     match reply {
         Reply::Wrote(numbers) => add_numbers(text, b" ", *numbers),
@@ -45,7 +45,8 @@ fn add_forwarded(
     wrote: Option<Written>,
 ) -> Result<(), NoMemory>
     ensures { OnOk result (text.new.items ≡ text.old.items
-        ++ (codes " " ++ took_text scenario.now took.now ++ codes "; " ++ written_text wrote)) }
+        ++ (codes " " ++ Spec.took_text scenario.now took.now
+        ++ codes "; " ++ Spec.written_text wrote)) }
 {
     add_took(text, scenario, took)?;
     match wrote {
@@ -61,7 +62,8 @@ fn add_summed(
     value: i64,
 ) -> Result<(), NoMemory>
     ensures { OnOk result (text.new.items ≡ text.old.items
-        ++ (codes " " ++ took_text scenario.now took.now ++ codes "; " ++ signed_decimal value)) }
+        ++ (codes " " ++ Spec.took_text scenario.now took.now
+        ++ codes "; " ++ signed_decimal value)) }
 {
     add_took(text, scenario, took)?;
     add_after(text, b"; ", value)
@@ -82,7 +84,7 @@ fn add_drained(
     items: &[Record],
 ) -> Result<(), NoMemory>
     ensures { OnOk result (text.new.items ≡ text.old.items
-        ++ (codes ": " ++ items_text scenario.now first items.now)) }
+        ++ (codes ": " ++ Spec.items_text scenario.now first items.now)) }
 {
     text.extend_from_slice(b":")?;
     add_items(text, scenario, first, items)
@@ -90,7 +92,8 @@ fn add_drained(
 
 /// The numbers that were written, after a head.
 fn add_numbers(text: &mut Vec<u8>, head: &[u8], numbers: Written) -> Result<(), NoMemory>
-    ensures { OnOk result (text.new.items ≡ text.old.items ++ (head.now ++ numbers_text numbers)) }
+    ensures { OnOk result
+        (text.new.items ≡ text.old.items ++ (head.now ++ Spec.numbers_text numbers)) }
 {
     add_count(text, head, numbers.first)?;
     add_count(text, b"+", numbers.n)
@@ -98,7 +101,7 @@ fn add_numbers(text: &mut Vec<u8>, head: &[u8], numbers: Written) -> Result<(), 
 
 fn add_took(text: &mut Vec<u8>, scenario: &Scenario, took: &Took) -> Result<(), NoMemory>
     ensures { OnOk result
-        (text.new.items ≡ text.old.items ++ (codes " " ++ took_text scenario.now took.now)) }
+        (text.new.items ≡ text.old.items ++ (codes " " ++ Spec.took_text scenario.now took.now)) }
 {
     add_missed(text, took.missed)?;
     add_items(text, scenario, took.first, took.items.as_slice())
@@ -126,7 +129,7 @@ fn add_items(
 ) -> Result<(), NoMemory>
     ensures { OnOk result
         (text.new.items ≡ text.old.items
-        ++ (codes " " ++ items_text scenario.now first items.now)) }
+        ++ (codes " " ++ Spec.items_text scenario.now first items.now)) }
 {
     match items {
         [] => text.extend_from_slice(b" none"),
@@ -141,7 +144,7 @@ fn add_more(
     items: &[Record],
 ) -> Result<(), NoMemory>
     ensures appends { OnOk result
-        (text.new.items ≡ text.old.items ++ more_items scenario.now first items.now) }
+        (text.new.items ≡ text.old.items ++ Spec.more_items scenario.now first items.now) }
     ensures no_memory { items.now ≡ [] → IsOk result }
 {
     let first = u128::from(first);
@@ -159,7 +162,8 @@ fn add_item(
     item: Record,
 ) -> Result<(), NoMemory>
     ensures { OnOk result
-        (text.new.items ≡ text.old.items ++ (codes " " ++ item_text scenario.now number item)) }
+        (text.new.items ≡ text.old.items
+        ++ (codes " " ++ Spec.item_text scenario.now number item)) }
 {
     add_pair(text, number, item.value)?;
     add_writer(text, scenario, item.writer)

@@ -1,16 +1,14 @@
 // The report of a scenario: frame by frame, and then the readers.
-ghost use Rattle.std.specs.Prelude.{◌≡◌, ◌≢◌, ◌⊎◌, ◌+◌, ◌<◌, ℕ, All, Err, List, OnOk, OnErr, Option, length};
+ghost use Rattle.std.specs.Prelude.{◌+◌, ◌<◌, ℤ, All, OnErr, OnOk, length};
+ghost use Rattle.msg_exec.specs.declared.engine.EngineOf.{EngineOf as EngineView};
 ghost use Rattle.msg_exec.specs.Prelude.{EngineStands};
-ghost use Rattle.msg_world.specs.declared.run_fault.RunFault.TheVariants.{BadOrder, NoMemory, Spoiled};
-ghost use Rattle.msg_reports.specs.Prelude.{HasPrinted, HasReported, HasRunOut, HasStopped};
+ghost use Rattle.msg_reports.specs.Prelude.{LeavesEngine, LeavesReport};
 ghost use Rattle.msg_scenario_data.specs.Prelude.{PostsAreToTypes, state_of};
-ghost use Rattle.msg_text.specs.Prelude.{one_failure_more};
 ghost use Rattle.msg_reports.specs.{inner.LineStarts.AreLines, inner.SoFar.ReportSoFar};
 
 use crate::reports::lines::{SystemLines, make_lines};
 use crate::reports::put::{put_accounts, put_frame};
 use msg_exec::engine_laws::engines_stand;
-use msg_exec::laws::frames_keep_the_systems;
 use msg_exec::{EngineOf, Gate, Workers};
 use msg_scenario_data::Scenario;
 use msg_system::SystemOf;
@@ -30,33 +28,22 @@ fn report_frame<R: Threads + Sync, X: SystemOf<Value = i64> + Send, S: Sink, G: 
     text: &mut Vec<u8>,
     sink: &mut S,
 ) -> Result<(), ReportFault>
-    requires so_far { (before : Option (List ℕ))
-        × ReportSoFar X.meaning scenario.now reported before (S.contents sink.old) engine.old }
+    requires so_far { (old : S) × (first : EngineView X ℤ) × ReportSoFar S.contents S.failures
+        X.meaning scenario.now first reported old sink.old engine.old }
     requires lines { AreLines scenario.now lines.now }
     requires next { reported < length scenario.now.frames }
     requires posts { All (PostsAreToTypes scenario.now) scenario.now.frames }
-    ensures ok { OnOk result ((before : Option (List ℕ))
-        → ReportSoFar X.meaning scenario.now reported before (S.contents sink.old) engine.old
-        → ReportSoFar X.meaning scenario.now (reported + 1) before
-        (S.contents sink.new) engine.new) }
-    ensures prefix { OnErr result ((before : Option (List ℕ))
-        → ReportSoFar X.meaning scenario.now reported before (S.contents sink.old) engine.old
-        → HasPrinted scenario.now before (S.contents sink.new)) }
-    ensures run { result ≡ Err (ReportFault.Run NoMemory) → (before : Option (List ℕ))
-        → ReportSoFar X.meaning scenario.now reported before (S.contents sink.old) engine.old
-        → HasRunOut X.meaning scenario.now before (S.contents sink.new) engine.new }
-    ensures not_spoiled { result ≢ Err (ReportFault.Run Spoiled) }
-    ensures no_bad_order { result ≢ Err (ReportFault.Run BadOrder) }
-    ensures stopped { (result ≡ Err ReportFault.Write) ⊎ (result ≡ Err ReportFault.NoMemory)
-        → (before : Option (List ℕ))
-        → ReportSoFar X.meaning scenario.now reported before (S.contents sink.old) engine.old
-        → HasStopped X.meaning scenario.now before (S.contents sink.new) engine.new }
-    ensures write { result ≡ Err ReportFault.Write
-        → S.failures sink.new ≡ one_failure_more (S.failures sink.old) }
-    ensures quiet { result ≢ Err ReportFault.Write → S.failures sink.new ≡ S.failures sink.old }
+    ensures ok { OnOk result ((old : S) (first : EngineView X ℤ)
+        → ReportSoFar S.contents S.failures
+        X.meaning scenario.now first reported old sink.old engine.old
+        → ReportSoFar S.contents S.failures
+        X.meaning scenario.now first (reported + 1) old sink.new engine.new) }
+    ensures leaves { OnErr result ((old : S) (first : EngineView X ℤ)
+        → ReportSoFar S.contents S.failures
+        X.meaning scenario.now first reported old sink.old engine.old
+        → (left : LeavesReport S.contents S.failures scenario.now result old sink.new)
+        × LeavesEngine X.meaning left first engine.new) }
 {
-    engines_stand::<X>();
-    frames_keep_the_systems::<i64>();
     let frame = &scenario.frames.as_slice()[reported];
     let log = match engine.run_frame(rt, frame, workers, gate) {
         Ok(log) => log,
@@ -96,22 +83,9 @@ pub fn report<R: Threads + Sync, X: SystemOf<Value = i64> + Send, S: Sink, G: Ga
 
     // Whatever the workers and the gate: the text is that of one thread, and each reader was given
     // every message once.
-    ensures ok { OnOk result (HasReported X.meaning scenario.now
-        (S.contents sink.old) (S.contents sink.new) engine.new) }
-    ensures prefix { OnErr result
-        (HasPrinted scenario.now (S.contents sink.old) (S.contents sink.new)) }
-    ensures run { result ≡ Err (ReportFault.Run NoMemory) → HasRunOut X.meaning scenario.now
-        (S.contents sink.old) (S.contents sink.new) engine.new }
-    ensures not_spoiled { result ≢ Err (ReportFault.Run Spoiled) }
-    ensures no_bad_order { result ≢ Err (ReportFault.Run BadOrder) }
-
-    // The report ended after a whole frame or before the first one, not in the middle of a frame.
-    ensures stopped { (result ≡ Err ReportFault.Write) ⊎ (result ≡ Err ReportFault.NoMemory)
-        → HasStopped X.meaning scenario.now
-        (S.contents sink.old) (S.contents sink.new) engine.new }
-    ensures write { result ≡ Err ReportFault.Write
-        → S.failures sink.new ≡ one_failure_more (S.failures sink.old) }
-    ensures quiet { result ≢ Err ReportFault.Write → S.failures sink.new ≡ S.failures sink.old }
+    ensures leaves { (left : LeavesReport S.contents S.failures
+        scenario.now result sink.old sink.new)
+        × LeavesEngine X.meaning left engine.old engine.new }
 {
     engines_stand::<X>();
     let lines = make_lines(alloc, scenario)?;

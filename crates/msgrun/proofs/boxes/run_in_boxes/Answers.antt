@@ -1,3 +1,4 @@
+use Rattle.msgrun.proofs.EndedRuns.{if_ok_by}
 use Rattle.msgrun.proofs.boxes.run_in_boxes.Goals as goal
 
 pub loop-spec-preserved : goal.loop-spec-preserved
@@ -7,8 +8,5 @@ loop-spec-preserved g c = record {
 }
 
 -- what the run by an engine left, without the engine
-pub returns-clause-run : goal.returns-clause-run
-returns-clause-run g c same = (c.run_scenario.ensures.run same).has_run_out.printed
-
-pub returns-clause-stopped : goal.returns-clause-stopped
-returns-clause-stopped g c cause = (c.run_scenario.ensures.stopped cause).has_stopped.printed
+pub returns-clause-leaves : goal.returns-clause-leaves
+returns-clause-leaves g c = if_ok_by c.run_scenario.result _ (λ came is. (rw is at c.run_scenario.ensures.leaves).0)
