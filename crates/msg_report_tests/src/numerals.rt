@@ -1,5 +1,5 @@
 // Numbers in decimal: of each length up to the greatest, and the least.
-use msg_files::numerals::{add_number, add_value};
+use msg_text::numerals::{add_number, add_value};
 use std::panic::Expect;
 
 const NUMBERS: [(u64, &str); 9] = [

@@ -1,7 +1,9 @@
 // The line and the status of each fault, and the text that it shows itself as.
 use crate::narrow::Narrow;
 use msg_command::{InputFault, MainFault, WordFault, print_fault};
-use msg_files::{MemorySink, PutFault, Refusal, ReportFault, RunFault};
+use msg_json::Refusal;
+use msg_text::{MemorySink, PutFault, ReportFault};
+use msg_world::RunFault;
 use std::panic::Expect;
 use std::process::Abort;
 
