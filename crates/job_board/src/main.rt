@@ -4,7 +4,7 @@
 ghost use Rattle.std.specs.Prelude.{◌≡◌, ◌*◌, ◌<◌, ◌≤◌, IfOk, length, map};
 ghost use Rattle.msg_board.specs.Prelude.{HasEnded, IsIdle};
 
-use msg_board::{Board, NoMemory, Pass, Work};
+use msg_board::{Board, MAX_JOBS, MAX_PASSES, NoMemory, Pass, Work};
 use std::alloc::Global;
 use std::thread;
 use std::thread::Threads;
@@ -39,8 +39,8 @@ fn squares<R: Threads + Sync>(
     numbers: Vec<u32>,
     threads: u32,
 ) -> Result<Vec<u64>, NoMemory>
-    requires few { length numbers.items ≤ 256 }
-    requires threads { (0 < threads) × (threads ≤ 64) }
+    requires few { length numbers.items ≤ MAX_JOBS }
+    requires threads { (0 < threads) × (threads ≤ MAX_PASSES) }
     ensures squares { IfOk result
         (λ all. all.items ≡ map (λ number. number * number) numbers.items) }
 {

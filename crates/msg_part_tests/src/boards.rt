@@ -5,7 +5,7 @@ ghost use Rattle.msg_board.specs.Prelude.{IsIdle, HasEnded};
 mod boxes;
 mod out_of_memory;
 
-use msg_board::{Board, NoMemory, Pass, Work};
+use msg_board::{Board, MAX_JOBS, MAX_PASSES, NoMemory, Pass, Work};
 use std::alloc::Global;
 use std::panic::Expect;
 use std::process::Abort;
@@ -53,8 +53,8 @@ fn run_jobs<R: Threads + Sync, W: Runs + Send>(
     jobs: Vec<W::Job>,
     passes: u32,
 ) -> Result<Vec<W::Done>, NoMemory>
-    requires jobs { length jobs.items ≤ 256 }
-    requires passes { (0 < passes) × (passes ≤ 64) }
+    requires jobs { length jobs.items ≤ MAX_JOBS }
+    requires passes { (0 < passes) × (passes ≤ MAX_PASSES) }
 {
     let (board, passes) = Board::<W>::new(alloc, jobs, passes)?;
     let shared = &board;
@@ -70,12 +70,12 @@ fn run_jobs<R: Threads + Sync, W: Runs + Send>(
 /// the jobs' numbers, in the order of the jobs.
 #[test]
 fn threads_draw_jobs(rt: HostRuntime) {
-    for (n, passes) in [(100, 2), (256, 64), (1, 3)] {
+    for (n, passes) in [(100, 2), (MAX_JOBS as u32, MAX_PASSES), (1, 3)] {
         let mut jobs = Vec::new(rt.alloc());
         for i in 0..n {
             jobs.push(i).expect(&rt, "a job");
         }
-        assert!(rt; jobs.len() <= 256);
+        assert!(rt; jobs.len() <= MAX_JOBS);
         let results = run_jobs::<HostRuntime, AddOne>(&rt, rt.alloc(), jobs, passes);
         let results = results.expect(&rt, "results");
         assert_eq!(rt; results.len(), n as usize);

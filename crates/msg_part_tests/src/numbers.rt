@@ -1,11 +1,11 @@
 //! Types and resources by their numbers, and accesses to types.
 ghost use Rattle.std.specs.Prelude.{◌<◌};
 
-use msg_world::{Access, ResNo, TypeNo};
+use msg_world::{Access, MAX_RESOURCES, MAX_TYPES, ResNo, TypeNo};
 
 /// The type of this number.
 pub fn type_no(number: u32) -> TypeNo
-    requires below { number < 64 }
+    requires below { number < MAX_TYPES }
 {
     match TypeNo::new(number) {
         Some(t) => t,
@@ -15,7 +15,7 @@ pub fn type_no(number: u32) -> TypeNo
 
 /// The resource of this number.
 pub fn res_no(number: u32) -> ResNo
-    requires below { number < 64 }
+    requires below { number < MAX_RESOURCES }
 {
     match ResNo::new(number) {
         Some(r) => r,

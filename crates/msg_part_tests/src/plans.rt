@@ -3,7 +3,7 @@ mod out_of_memory;
 
 use crate::numbers::of_types as uses;
 use msg_order::{Plan, PlanRefusal, Rule, lowest_on_cycle};
-use msg_world::Access;
+use msg_world::{Access, MAX_SYSTEMS};
 use std::alloc::Global;
 use std::panic::Expect;
 
@@ -109,14 +109,22 @@ fn what_has_not_joined_has_no_effect(rt: HostRuntime) {
 
 #[test]
 fn many_systems(rt: HostRuntime) {
-    let apart = Plan::build(rt.alloc(), &[uses(0, 1); 256], &[], &[true; 256]).expect(
-        &rt, "a plan",
-    );
-    assert_eq!(rt; apart.batches().len(), 256);
-    assert!(rt; apart.precedes(0, 255));
-    let together = Plan::build(rt.alloc(), &[uses(1, 0); 256], &[], &[true; 256]).expect(
-        &rt, "a plan",
-    );
+    let apart = Plan::build(
+        rt.alloc(),
+        &[uses(0, 1); MAX_SYSTEMS],
+        &[],
+        &[true; MAX_SYSTEMS],
+    )
+    .expect(&rt, "a plan");
+    assert_eq!(rt; apart.batches().len(), MAX_SYSTEMS);
+    assert!(rt; apart.precedes(0, MAX_SYSTEMS as u32 - 1));
+    let together = Plan::build(
+        rt.alloc(),
+        &[uses(1, 0); MAX_SYSTEMS],
+        &[],
+        &[true; MAX_SYSTEMS],
+    )
+    .expect(&rt, "a plan");
     assert_eq!(rt; together.batches().len(), 1);
-    assert!(rt; !together.precedes(0, 255));
+    assert!(rt; !together.precedes(0, MAX_SYSTEMS as u32 - 1));
 }

@@ -2,7 +2,7 @@
 ghost use Rattle.std.specs.Prelude.{◌≡◌, ◌/◌, ◌≤◌, ℕ, length};
 
 use super::{Runs, run_jobs};
-use msg_board::{NoMemory, Work};
+use msg_board::{MAX_JOBS, NoMemory, Work};
 use std::alloc::Global;
 use std::marker::PhantomData;
 use std::panic::Expect;
@@ -85,7 +85,7 @@ fn values<R: Threads + Sync, T: Tool>(
     base: &u64,
     tools: Vec<T>,
 ) -> Result<Vec<u64>, NoMemory>
-    requires { length tools.items ≤ 256 }
+    requires { length tools.items ≤ MAX_JOBS }
 {
     let mut jobs = Vec::new(alloc);
     for tool in tools {

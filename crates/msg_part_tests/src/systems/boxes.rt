@@ -3,7 +3,8 @@ ghost use Rattle.std.specs.Prelude.{◌≤◌, length};
 
 use crate::numbers::{res_no, type_no};
 use msg_system::{
-    Items, Numbered, Op, Program, Relay, Reply, Scripted, Start, System, Tally, open_loans_cover,
+    Items, MAX_OPS, Numbered, Op, Program, Relay, Reply, Scripted, Start, System, Tally,
+    open_loans_cover,
 };
 use msg_world::laws::{lent_parts_are_a_loan, lent_parts_may_come_home};
 use msg_world::{Lent, World};
@@ -13,7 +14,7 @@ use std::process::Abort;
 
 /// A script of these ops.
 fn script(ops: Vec<Op>) -> Scripted
-    requires few { length ops.items ≤ 64 }
+    requires few { length ops.items ≤ MAX_OPS }
 {
     let program = Program {
         ops: Items::from_vec(ops),
