@@ -1,17 +1,20 @@
-// Each limit, met by a frame that succeeds: 64 types and 64 resources, each written; 64 ops; 256
-// systems, of which the last writes; 1,024 rules; 8 conditions, each with 16 nots; 1,024 values in
-// a batch, 1,024 posts and 100,000; 10,000 frames, with the last of which a system joins, and a
-// million; 64 workers; an order of 300; and a read of the greatest limit.
+// Each limit, met by a frame that succeeds: all types and all resources, each written; all ops of a
+// turn; all systems, of which the last writes; 1,024 rules; 8 conditions, each with 16 nots; 1,024
+// values in a batch, 1,024 posts and 100,000; frames up to the last that a system may join with, and
+// a million; all workers; an order longer than there can be systems; and a read of the greatest
+// limit.
 ghost use Rattle.msg_exec.specs.Prelude.{IsEngine};
 ghost use Rattle.msg_world.specs.Prelude.{i64_values};
 
 use crate::expecting::{by, expect_frame, posted, read, replies_of, wrote};
 use crate::making::{engine_of, frame_of, quiet, readers, replay, run_frame, run_frames, script};
-use msg_exec::{EngineBuilder, EngineOf, Frame, Items, Log, NoGate, Outcome, RunFault};
+use msg_exec::{
+    EngineBuilder, EngineOf, Frame, Items, LAST_JOIN, Log, MAX_WORKERS, NoGate, Outcome, RunFault,
+};
 use msg_order::Rule;
 use msg_part_tests::numbers::{res_no, type_no};
-use msg_system::{Condition, Op, Probe, Reply, Scripted, Start, SystemOf};
-use msg_world::{Record, TypeNo, World};
+use msg_system::{Condition, MAX_OPS, Op, Probe, Reply, Scripted, Start, SystemOf};
+use msg_world::{MAX_RESOURCES, MAX_SYSTEMS, MAX_TYPES, Record, TypeNo, World};
 use std::alloc::Global;
 use std::panic::Expect;
 use std::process::Abort;
@@ -31,12 +34,12 @@ fn a_read_of_the_greatest_limit(rt: HostRuntime) {
     expect_frame(&rt, &mut engine, &quiet(alloc), 1, &[], &steps);
 }
 
-/// An engine of a script that writes each of 64 types, and of one that sets each of 64 resources.
+/// An engine of a script that writes each type that may be, and of one that sets each resource.
 fn writers_of_all(rt: &impl Abort, alloc: Global) -> EngineOf<Scripted>
     ensures engine { IsEngine i64_values ⟦<Scripted as SystemOf>⟧.meaning result }
 {
     let (mut writes, mut sets) = (Vec::new(alloc), Vec::new(alloc));
-    for number in 0..64u32 {
+    for number in 0..MAX_TYPES as u32 {
         let value = number as i64 + 100;
         writes
             .push(Op::Write(type_no(number), value))
@@ -51,13 +54,13 @@ fn writers_of_all(rt: &impl Abort, alloc: Global) -> EngineOf<Scripted>
             .add_system(script, Vec::new(alloc), 1)
             .expect(rt, "a system");
     }
-    let world = World::new(alloc, &[1; 64], &[7; 64]).expect(rt, "a world");
+    let world = World::new(alloc, &[1; MAX_TYPES], &[7; MAX_RESOURCES]).expect(rt, "a world");
     systems.build(world).expect(rt, "an engine")
 }
 
 /// Each type and each resource has what was written to it.
 fn expect_all_written(rt: &impl Abort, world: &World) {
-    for number in 0..64u32 {
+    for number in 0..MAX_TYPES as u32 {
         let value = number as i64 + 100;
         let Some(messages) = world.messages(type_no(number)) else {
             panic!(rt; "type {number} is home")
@@ -74,29 +77,29 @@ fn expect_all_written(rt: &impl Abort, world: &World) {
     }
 }
 
-/// 64 types and 64 resources, by 64 ops each, side by side.
+/// All types and all resources, by `MAX_OPS` ops each, side by side.
 #[test]
 fn types_resources_and_ops(rt: HostRuntime) {
     let mut engine = writers_of_all(&rt, rt.alloc());
     let log = run_frame(&rt, &mut engine, &quiet(rt.alloc()), 2, &NoGate);
     let log = log.expect(&rt, "a frame");
-    assert_eq!(rt; replies_of(&rt, &log, 0).len(), 64);
-    assert_eq!(rt; replies_of(&rt, &log, 1).len(), 64);
+    assert_eq!(rt; replies_of(&rt, &log, 0).len(), MAX_OPS);
+    assert_eq!(rt; replies_of(&rt, &log, 1).len(), MAX_OPS);
     match engine.world() {
         Some(world) => expect_all_written(&rt, world),
         None => panic!(rt; "a world"),
     }
 }
 
-/// 256 readers side by side on 64 workers; each reads the post.
+/// As many readers as may be, side by side on as many workers as may be; each reads the post.
 #[test]
 fn systems_on_64_workers(rt: HostRuntime) {
     let (alloc, t) = (rt.alloc(), type_no(0));
-    let mut engine = readers(&rt, alloc, 256);
+    let mut engine = readers(&rt, alloc, MAX_SYSTEMS as u32);
     let frame = frame_of(&rt, alloc, &[(t, 5)]);
-    let log = run_frame(&rt, &mut engine, &frame, 64, &NoGate).expect(&rt, "a frame");
-    assert_eq!(rt; log.turns.as_slice().len(), 256);
-    for place in 0..256 {
+    let log = run_frame(&rt, &mut engine, &frame, MAX_WORKERS, &NoGate).expect(&rt, "a frame");
+    assert_eq!(rt; log.turns.as_slice().len(), MAX_SYSTEMS);
+    for place in 0..MAX_SYSTEMS {
         expect_took(&rt, replies_of(&rt, &log, place), posted(5));
     }
 }
@@ -110,11 +113,11 @@ fn expect_took(rt: &impl Abort, replies: &[Reply], record: Record) {
     assert_eq!(rt; took.items.as_slice(), [record].as_slice());
 }
 
-/// 1,024 rules, by which each of 256 systems runs after those with a greater number.
+/// 1,024 rules, by which each of `MAX_SYSTEMS` systems runs after those with a greater number.
 fn rules_backwards(rt: &impl Abort, alloc: Global) -> Vec<Rule> {
     let mut rules = Vec::new(alloc);
     for distance in 1..=5u32 {
-        for later in 0..256 - distance {
+        for later in 0..MAX_SYSTEMS as u32 - distance {
             if rules.len() < 1024 {
                 rules
                     .push(Rule::after(later, later + distance))
@@ -125,12 +128,12 @@ fn rules_backwards(rt: &impl Abort, alloc: Global) -> Vec<Rule> {
     rules
 }
 
-/// An engine of 256 systems and 1,024 rules. The last system writes, and the others read.
+/// An engine of `MAX_SYSTEMS` systems and 1,024 rules. The last system writes, and the others read.
 fn backwards(rt: &impl Abort, alloc: Global) -> EngineOf<Scripted>
     ensures engine { IsEngine i64_values ⟦<Scripted as SystemOf>⟧.meaning result }
 {
     let (t, mut ops) = (type_no(0), Vec::new(alloc));
-    for _reader in 0..255u32 {
+    for _reader in 1..MAX_SYSTEMS {
         ops.push(Op::Read(t, None)).expect(rt, "an op");
     }
     ops.push(Op::Write(t, 5)).expect(rt, "an op");
@@ -143,15 +146,24 @@ fn backwards(rt: &impl Abort, alloc: Global) -> EngineOf<Scripted>
 #[test]
 fn systems_and_rules(rt: HostRuntime) {
     let mut engine = backwards(&rt, rt.alloc());
-    let log = run_frame(&rt, &mut engine, &quiet(rt.alloc()), 64, &NoGate);
+    let log = run_frame(&rt, &mut engine, &quiet(rt.alloc()), MAX_WORKERS, &NoGate);
     let log = log.expect(&rt, "a frame");
-    assert_eq!(rt; log.turns.as_slice().len(), 256);
-    for (turn, system) in log.turns.as_slice().iter().zip((0..256).rev()) {
+    assert_eq!(rt; log.turns.as_slice().len(), MAX_SYSTEMS);
+    for (turn, system) in log
+        .turns
+        .as_slice()
+        .iter()
+        .zip((0..MAX_SYSTEMS as u32).rev())
+    {
         assert_eq!(rt; turn.system, system);
     }
     assert!(rt; matches!(replies_of(&rt, &log, 0), [Reply::Wrote(_)]));
-    for place in 1..256 {
-        expect_took(&rt, replies_of(&rt, &log, place), by(255, 5));
+    for place in 1..MAX_SYSTEMS {
+        expect_took(
+            &rt,
+            replies_of(&rt, &log, place),
+            by(MAX_SYSTEMS as u32 - 1, 5),
+        );
     }
 }
 
@@ -274,7 +286,7 @@ fn last_joining(rt: &impl Abort, alloc: Global) -> EngineOf<Scripted>
 {
     let reader = script(rt, alloc, &[Op::Read(type_no(0), None)], Start::Current);
     let mut systems = EngineBuilder::new(alloc);
-    let added = systems.add_system(reader.expect(rt, "a script"), Vec::new(alloc), 10_000);
+    let added = systems.add_system(reader.expect(rt, "a script"), Vec::new(alloc), LAST_JOIN);
     added.expect(rt, "a system");
     let world = World::new(alloc, &[10], &[]).expect(rt, "a world");
     systems.build(world).expect(rt, "an engine")
@@ -330,12 +342,12 @@ fn a_million_frames(rt: HostRuntime) {
     assert_eq!(rt; engine.frames_run(), 1_000_001);
 }
 
-/// 10,000 frames, with the last of which a system joins, and one more.
+/// Frames up to the last that a system may join with, with which one joins, and one more.
 #[test]
 fn frames_and_a_join(rt: HostRuntime) {
     let (alloc, t) = (rt.alloc(), type_no(0));
     let mut engine = last_joining(&rt, alloc);
-    expect_frames(&rt, alloc, &mut engine, 10_000);
+    expect_frames(&rt, alloc, &mut engine, LAST_JOIN);
     let frame = frame_of(&rt, alloc, &[(t, 5)]);
     expect_frame(
         &rt,
@@ -345,5 +357,5 @@ fn frames_and_a_join(rt: HostRuntime) {
         &[0],
         &[read(0, 0, &[posted(5)])],
     );
-    assert_eq!(rt; engine.frames_run(), 10_001);
+    assert_eq!(rt; engine.frames_run(), LAST_JOIN + 1);
 }

@@ -7,8 +7,8 @@ use msg_buffer::NoMemory;
 use msg_exec::{BuildError, EngineBuilder, EngineOf, Frame, Gate, Log, RunFault, Workers};
 use msg_order::Rule;
 use msg_part_tests::numbers::type_no;
-use msg_system::{Items, Op, Program, Scripted, Start, SystemOf};
-use msg_world::{TypeNo, Value, World};
+use msg_system::{Items, MAX_OPS, Op, Program, Scripted, Start, SystemOf};
+use msg_world::{MAX_TYPES, TypeNo, Value, World};
 use std::alloc::Global;
 use std::panic::Expect;
 use std::process::Abort;
@@ -29,7 +29,7 @@ pub fn script<V: Value>(
         copies.push(op.copy(alloc)?)?;
     }
     let ops = Items::from_vec(copies);
-    assert!(rt; ops.as_slice().len() <= 64);
+    assert!(rt; ops.as_slice().len() <= MAX_OPS);
     Ok(Scripted::new(Program { ops, start }, 0))
 }
 
@@ -62,7 +62,7 @@ pub fn engine_of(
     ensures engine { IfOk result (IsEngine i64_values ⟦<Scripted as SystemOf>⟧.meaning) }
 {
     let systems = scripts(rt, alloc, ops, rules)?;
-    assert!(rt; limits.len() <= 64);
+    assert!(rt; limits.len() <= MAX_TYPES);
     systems.build(World::new(alloc, limits, &[])?)
 }
 
