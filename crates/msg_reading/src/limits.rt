@@ -9,8 +9,10 @@ pub(crate) const MAX_NOTS: u8 = 16;
 /// How many `not`s are looked through at most. No JSON text that is read nests as deep.
 pub(crate) const MOST_NESTED: u8 = 128;
 
+/// How many rules a scenario may have.
 pub(crate) const MAX_RULES: usize = 1024;
 
+/// How many frames a scenario may have.
 pub(crate) const MAX_FRAMES: usize = 10_000;
 
 /// How many posts a frame may have.

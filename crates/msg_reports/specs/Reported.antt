@@ -40,7 +40,7 @@ module _ {S : Type 0} (contents : S → Option (List ℕ)) (failures : S → ℕ
     -- the state that they left
     pub state : State i64_values
     pub is_run : HasRunFirst s logs state
-    -- if nothing failed, these are all frames, and the sink took the report
+    -- if nothing failed, all frames were run, and the sink took the report
     pub ok : OnOk came (IsReported s (contents old) (contents new))
     -- after any fault it took a front of their text, which has the readers' lines after all frames
     pub prefix : OnErr came
