@@ -4,7 +4,7 @@ use Rattle.msg_buffer.specs.declared.instance.Instance.{Instance}
 use Rattle.msg_buffer.specs.Prelude.{History, missed, unread}
 use Rattle.damage_and_score.specs.{declared.damage.Damage.Damage, declared.damage.Hero.Hero, declared.damage.Hero.TheVariants.Archer, declared.damage.Hero.TheVariants.Mage, declared.sight.Sight.Sight}
 
--- the points of a hit, where this hero dealt it
+-- the points of a hit, if this hero dealt it
 abbrev pub points_by : Hero → Hero → ℕ → ℕ
 points_by Archer Archer points = points
 points_by Archer Mage points = 0

@@ -9,7 +9,7 @@ use Rattle.msg_world.specs.Prelude.{i64_values}
 abbrev pub health_after : ℤ → List (Reply ℤ) → ℤ
 health_after health replies = sum_onto i64_values health (brought (slice_get replies 0))
 
--- A fighter reads its blows where it hasn't fallen, and then deals one, or says that it fell. A
+-- A fighter reads its blows if it hasn't fallen, and then deals one, or says that it fell. A
 -- referee adds up the falls.
 abbrev pub next_deed : Role → List (Reply ℤ) → Option (Op ℤ)
 next_deed (Fighter f) replies =

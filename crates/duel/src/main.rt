@@ -2,7 +2,7 @@
 //! and run on four workers.
 #![tactic(auto)]
 
-ghost use Rattle.std.specs.Prelude.{OnOk};
+ghost use Rattle.std.specs.Prelude.{◌<◌, OnOk};
 ghost use Rattle.msg_exec.specs.Prelude.{IsEngine};
 ghost use Rattle.msg_exec.specs.Hosts.{HasRunLoop};
 ghost use Rattle.msg_world.specs.Prelude.{i64_values};
@@ -17,6 +17,7 @@ use msg_system::{BehaviorSystem, Condition, Probe, SystemOf};
 use msg_world::{ResNo, TypeNo, World};
 use role::{Fighter, Role};
 use std::alloc::Global;
+use std::io::Print;
 use std::thread::Threads;
 
 /// How many fighters there are. They are the first systems, and the referee is the one after them.
@@ -33,27 +34,40 @@ fn fallen() -> ResNo {
     ResNo::new(0).unwrap()
 }
 
-/// Fighters in a ring, and a referee. Each fighter takes turns until two have fallen. A rule puts
-/// the referee before the fighters, though it is added after them. The messages of type i are the
-/// blows to fighter i, and those of the type after these are the falls.
+/// Adds the fighter of this number, who takes turns until two have fallen, and a rule that puts
+/// the referee before it.
+fn add_fighter(
+    ring: &mut EngineBuilder<BehaviorSystem<Role>>,
+    alloc: Global,
+    number: u32,
+    falls: TypeNo,
+) -> anyhow::Result<()>
+    requires there { number < 3 }
+{
+    let until_two_fell = Condition {
+        nots: 1,
+        probe: Probe::ResourceEquals(fallen(), 2),
+    };
+    let conditions = vec![in alloc; until_two_fell]?;
+    let fighter = Fighter {
+        blows: TypeNo::new(number).unwrap(),
+        rival: TypeNo::new((number + 1) % FIGHTERS).unwrap(),
+        falls,
+        health: HEALTH,
+    };
+    let join = if number + 1 == FIGHTERS { LATE } else { 1 };
+    ring.add_system(Role::Fighter(fighter).system(alloc), conditions, join)?;
+    ring.add_rule(Rule::before(FIGHTERS, number))?;
+    Ok(())
+}
+
+/// Fighters in a ring, and a referee, who is added after them. The messages of type i are the blows
+/// to fighter i, and those of the type after these are the falls.
 fn ring(alloc: Global) -> anyhow::Result<EngineBuilder<BehaviorSystem<Role>>> {
     let falls = TypeNo::new(FIGHTERS).unwrap();
     let mut ring = EngineBuilder::new(alloc);
     for number in 0..FIGHTERS {
-        let fighter = Fighter {
-            blows: TypeNo::new(number).unwrap(),
-            rival: TypeNo::new((number + 1) % FIGHTERS).unwrap(),
-            falls,
-            health: HEALTH,
-        };
-        let until_two_fell = Condition {
-            nots: 1,
-            probe: Probe::ResourceEquals(fallen(), 2),
-        };
-        let join = if number + 1 == FIGHTERS { LATE } else { 1 };
-        let conditions = vec![in alloc; until_two_fell]?;
-        ring.add_system(Role::Fighter(fighter).system(alloc), conditions, join)?;
-        ring.add_rule(Rule::before(FIGHTERS, number))?;
+        add_fighter(&mut ring, alloc, number, falls)?;
     }
     let referee = Role::Referee(falls, fallen()).system(alloc);
     ring.add_system(referee, Vec::new(alloc), 1)?;
@@ -79,11 +93,8 @@ fn fight<R: Threads + Sync>(
     Ok(())
 }
 
-fn main(rt: HostRuntime) -> anyhow::Result<()> {
-    let (alloc, workers) = (rt.alloc(), Workers::new(4).unwrap());
-    let mut engine = ring(alloc)?.build(World::new(alloc, &[100; 4], &[0])?)?;
-    let mut audience = Audience { falls: 2 };
-    fight(&rt, &mut engine, &mut audience, 100, workers)?;
+/// Prints what each fighter got, and how many fell.
+fn tell<R: Print>(rt: &R, engine: &EngineOf<BehaviorSystem<Role>>) -> anyhow::Result<()> {
     println!(rt; "the fight took {} frames", engine.frames_run())?;
     for account in engine.accounts()? {
         println!(rt;
@@ -95,4 +106,12 @@ fn main(rt: HostRuntime) -> anyhow::Result<()> {
         println!(rt; "{count} of {FIGHTERS} fighters fell")?;
     }
     Ok(())
+}
+
+fn main(rt: HostRuntime) -> anyhow::Result<()> {
+    let (alloc, workers) = (rt.alloc(), Workers::new(4).unwrap());
+    let mut engine = ring(alloc)?.build(World::new(alloc, &[100; 4], &[0])?)?;
+    let mut audience = Audience { falls: 2 };
+    fight(&rt, &mut engine, &mut audience, 100, workers)?;
+    tell(&rt, &engine)
 }

@@ -11,7 +11,7 @@ mod poster;
 mod reader;
 
 use anyhow::{Context, bail};
-use msg_exec::{EngineBuilder, Workers};
+use msg_exec::{EngineBuilder, EngineOf, Workers};
 use msg_system::{
     Access, BehaviorSystem, Condition, Items, NoMemory, Numbered, Op, Probe, Program, Scripted,
     Start, SystemOf,
@@ -62,15 +62,12 @@ fn op_of(kind: &str, own: TypeNo, shared: TypeNo, r: ResNo) -> anyhow::Result<Op
     })
 }
 
-/// Runs frames of these systems, and prints what was done.
-fn bench<R: Threads + AllocGlobal + Print + Sync, S: Numbered + SystemOf<Value = i64> + Send>(
+/// Prints what was done.
+fn tell<R: Print, S: SystemOf<Value = i64>>(
     rt: &R,
-    systems: EngineBuilder<S>,
-    mut poster: Poster,
+    engine: &EngineOf<S>,
+    turns: u64,
 ) -> anyhow::Result<()> {
-    let world = World::new(rt.alloc(), &[1_000_000; 64], &[0])?;
-    let mut engine = systems.build(world)?;
-    engine.run_loop(rt, &mut poster, u64::MAX, Workers::new(1).unwrap())?;
     let mut written: u64 = 0;
     for t in 0..SYSTEMS {
         let messages = engine
@@ -82,11 +79,68 @@ fn bench<R: Threads + AllocGlobal + Print + Sync, S: Numbered + SystemOf<Value =
     for account in engine.accounts()? {
         read = read.saturating_add(account.got);
     }
-    println!(rt;
-        "{} turns, {written} messages written and {read} read",
-        poster.turns
-    )?;
+    println!(rt; "{turns} turns, {written} messages written and {read} read")?;
     Ok(())
+}
+
+/// Runs frames of these systems, and prints what was done.
+fn bench<R: Threads + AllocGlobal + Print + Sync, S: Numbered + SystemOf<Value = i64> + Send>(
+    rt: &R,
+    systems: EngineBuilder<S>,
+    mut poster: Poster,
+) -> anyhow::Result<()> {
+    let world = World::new(rt.alloc(), &[1_000_000; 64], &[0])?;
+    let mut engine = systems.build(world)?;
+    engine.run_loop(rt, &mut poster, u64::MAX, Workers::new(1).unwrap())?;
+    tell(rt, &engine, poster.turns)
+}
+
+/// Systems that decide to read.
+fn readers(alloc: Global, from: TypeNo) -> anyhow::Result<EngineBuilder<BehaviorSystem<Reading>>> {
+    let mut systems = EngineBuilder::new(alloc);
+    for _ in 0..SYSTEMS {
+        systems.add_system(reading(alloc, from), Vec::new(alloc), 1)?;
+    }
+    Ok(systems)
+}
+
+/// The conditions of a script of this kind.
+fn conditions_of(alloc: Global, kind: &str, r: ResNo) -> Result<Vec<Condition>, NoMemory> {
+    let mut conditions = Vec::new(alloc);
+    if kind == "skipped" {
+        let probe = Probe::ResourceEquals(r, 1);
+        conditions.push(Condition { nots: 0, probe })?;
+    }
+    Ok(conditions)
+}
+
+/// Adds a script of this kind.
+fn add_script(
+    systems: &mut EngineBuilder<Scripted>,
+    alloc: Global,
+    kind: &str,
+    own: TypeNo,
+    shared: TypeNo,
+    r: ResNo,
+) -> anyhow::Result<()> {
+    let system = script(alloc, op_of(kind, own, shared, r)?)?;
+    systems.add_system(system, conditions_of(alloc, kind, r)?, 1)?;
+    Ok(())
+}
+
+/// Scripts of this kind, each with a type of its own.
+fn scripts(
+    alloc: Global,
+    kind: &str,
+    shared: TypeNo,
+    r: ResNo,
+) -> anyhow::Result<EngineBuilder<Scripted>> {
+    let mut systems = EngineBuilder::new(alloc);
+    for t in 0..SYSTEMS {
+        let own = TypeNo::new(t).context("a type")?;
+        add_script(&mut systems, alloc, kind, own, shared, r)?;
+    }
+    Ok(systems)
 }
 
 /// Runs that many frames of systems of this kind.
@@ -108,24 +162,10 @@ fn run<R: Threads + AllocGlobal + Print + Sync>(
         turns: 0,
     };
     if kind == "decide" {
-        let mut systems = EngineBuilder::new(alloc);
-        for _ in 0..SYSTEMS {
-            systems.add_system(reading(alloc, shared), Vec::new(alloc), 1)?;
-        }
-        return bench(rt, systems, poster);
+        bench(rt, readers(alloc, shared)?, poster)
+    } else {
+        bench(rt, scripts(alloc, kind, shared, r)?, poster)
     }
-    let mut systems = EngineBuilder::new(alloc);
-    for t in 0..SYSTEMS {
-        let own = TypeNo::new(t).context("a type")?;
-        let system = script(alloc, op_of(kind, own, shared, r)?)?;
-        let mut conditions = Vec::new(alloc);
-        if kind == "skipped" {
-            let probe = Probe::ResourceEquals(r, 1);
-            conditions.push(Condition { nots: 0, probe })?;
-        }
-        systems.add_system(system, conditions, 1)?;
-    }
-    bench(rt, systems, poster)
 }
 
 fn main(rt: HostRuntime) -> anyhow::Result<()> {

@@ -19,7 +19,7 @@ impl Host for Poster {
 
     ghost use Rattle.std.specs.Prelude.{◌≡◌, ◌↔◌, IsNone};
 
-    // It ends the loop where no frame is left.
+    // It ends the loop if no frame is left.
     ghost gives = { λ old last frame new. IsNone frame ↔ (old.left ≡ 0) };
 
     fn next(&mut self, alloc: Global, last: Option<&Log>) -> Result<Option<Frame>, NoMemory> {

@@ -22,11 +22,11 @@ module _ {J D : Type 0} (lawful : J → D → Type 0) (jobs : List J) (passes : 
   abbrev Lawful : St → Type 0
   Lawful = Holds lawful jobs passes
 
-  -- 1 where the view holds k
+  -- 1 if the view holds k
   abbrev holds_one : ℕ → View J → ℕ
   holds_one k v = one_if (is_held k v.held)
 
-  -- the law is kept where word i becomes n, view v becomes w, and no slot but i changes
+  -- the law is kept if word i becomes n, view v becomes w, and no slot but i changes
   moved : (s : St) (r : Lawful s) (i n id : ℕ) (v w : View J) (homes : List (maybe.Option (Slot J D)))
       → i < length jobs → get_elem? s.views id ≡ some v
       → n ≤ 2 → (get_or s.words i 0 ≢ 0 → n ≢ 0) → length homes ≡ length s.homes

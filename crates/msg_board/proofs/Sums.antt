@@ -18,7 +18,7 @@ module _ {A : Type 0} (g : A → ℕ) where
   pub term_le : (l : List A) (j : ℕ) (v : A) → get_elem? l j ≡ some v → g v ≤ sum_by g l
   term_le l j v e = let at = read_at l j v e in omega (arith, get_or-le-sum_by g l j v at.0, ap g at.1)
 
-  -- nor are two terms together, where z counts 0
+  -- nor are two terms together, if z counts 0
   pub terms_le : (z : A) → g z ≡ 0 → (l : List A) (j k : ℕ) (v u : A) → k ≢ j → get_elem? l j ≡ some v
       → get_elem? l k ≡ some u → g v + g u ≤ sum_by g l
   terms_le z none l j k v u n e d =
@@ -29,14 +29,14 @@ module _ {A : Type 0} (g : A → ℕ) where
   sum_by-zeros [] z = refl
   sum_by-zeros (x ∷ xs) z = omega (arith, z 0 x refl, sum_by-zeros xs (λ k u e. z (suc k) u e), sum_by-cons g x xs)
 
-  -- where every other term is 0, the sum is one term
+  -- if every other term is 0, the sum is one term
   pub sole : (z : A) → g z ≡ 0 → (l : List A) (j : ℕ) (v : A) → get_elem? l j ≡ some v
       → ((k : ℕ) (u : A) → k ≢ j → get_elem? l k ≡ some u → g u ≡ 0) → sum_by g l ≡ g v
   sole z none l j v e others =
       let rest = sum_by-zeros (set l j z) (changed (λ u. g u ≡ 0) l j z none others) in
       omega (arith, sum_by-set_at l j v z e, none)
 
--- 1 where a test is true, as `count_by` adds it
+-- 1 if a test is true, as `count_by` adds it
 abbrev pub one_if : Bool → ℕ
 one_if b = cond b 1 0
 

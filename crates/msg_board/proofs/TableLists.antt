@@ -45,7 +45,7 @@ joined P [] a last others (suc k) b e = absurd (some-ne-none b (sym e))
 joined P (x ∷ xs) a last others zero b e = others 0 b e
 joined P (x ∷ xs) a last others (suc k) b e = joined (λ n. P (suc n)) xs a last (λ n c. others (suc n) c) k b e
 
--- where the places below i are false, and place i is set to false, so are those below i + 1
+-- if the places below i are false, and place i is set to false, so are those below i + 1
 pub false_below : (l now : List Bool) (i : ℕ) → now ≡ set l i false
     → ((k : ℕ) → k < i → get_or l k false ≡ false) → (k : ℕ) → k < i + 1 → get_or now k false ≡ false
 false_below l now i is below k h =

@@ -137,7 +137,7 @@ module _ {J D : Type 0} where
   DrawsJob k before after = (j : J) × (get_elem? before.0.jobs k ≡ some j)
       × (after ≡ (with_job k before.0, (k, Job j) ∷ []))
 
-  -- A step with the operand 1 on the pass's next word. Where it finds 0, the pass draws that
+  -- A step with the operand 1 on the pass's next word. If it finds 0, the pass draws that
   -- number, and else it has only tried the word. A step doesn't say which kind it is. That it is a
   -- `fetch_max` is said by the code of `try_next`
   pub record Drawing (step : Step (Slot J D)) (before : Standing J D) (found : ℕ)

@@ -9,7 +9,7 @@ use std::marker::Model;
 
 /// The place of one reader: the number of the first message that it wasn't given yet; 0 by default.
 ///
-/// A cursor may be used on any buffer. Where its place is past the buffer's count it finds nothing
+/// A cursor may be used on any buffer. If its place is past the buffer's count it finds nothing
 /// and keeps its place, until it is cleared.
 ///
 /// ```

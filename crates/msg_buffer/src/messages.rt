@@ -158,7 +158,7 @@ impl<M, A: Allocator> Messages<M, A> {
         ensures number { IfOk result (λ id. (h : History M) → StandsFor self.old h
             → id.0 ≡ count h) }
 
-        // Where no number is left it is refused for that, and else it fits or memory is refused.
+        // If no number is left it is refused for that, and else it fits or memory is refused.
         ensures room { OnOk result ((h : History M) → StandsFor self.old h
             → count h + 1 ≤ h.limit) }
         ensures spent { IfErr result (λ e. (h : History M) → StandsFor self.old h
@@ -198,7 +198,7 @@ impl<M, A: Allocator> Messages<M, A> {
             → w.first ≡ count h) }
         ensures number { IfOk result (λ w. w.n ≡ length items.now) }
 
-        // Where too few numbers are left it is refused for that, and else all items fit or memory
+        // If too few numbers are left it is refused for that, and else all items fit or memory
         // is refused. An empty list of items always fits.
         ensures room { OnOk result ((h : History M) → StandsFor self.old h
             → count h + length items.now ≤ h.limit) }
@@ -232,7 +232,7 @@ impl<M: Drop, A: Allocator> Messages<M, A> {
             → w.first ≡ count h) }
         ensures number { IfOk result (λ w. w.n ≡ length batch.items) }
 
-        // Where too few numbers are left it is refused for that, and else all messages fit or
+        // If too few numbers are left it is refused for that, and else all messages fit or
         // memory is refused. An empty batch always fits.
         ensures room { OnOk result ((h : History M) → StandsFor self.old h
             → count h + length batch.items ≤ h.limit) }
@@ -283,7 +283,7 @@ impl<M: Drop, A: Allocator + Copy> Messages<M, A> {
             → StandsFor self.new (clear h)) }
         ensures err { OnErr result (self.new ≡ self.old) }
 
-        // Where nothing is kept it asks for no memory.
+        // If nothing is kept it asks for no memory.
         ensures refused { OnErr result ((h : History M) → StandsFor self.old h
             → 0 < length (present h)) }
     {

@@ -31,7 +31,7 @@ without_keeps id (r ∷ rs) all = grind (arith, without_keeps id rs)
 
 -- ---- uses
 
--- what passes leaves rows that have values, where those before it had
+-- what passes leaves rows that have values, if those before it had
 abbrev Keeps : Bool → List Row → List Row → Type 0
 Keeps passes before after = passes ≡ true → have_values before ≡ true → have_values after ≡ true
 
@@ -62,7 +62,7 @@ set_valued a set least again [] rows passes all =
 set_valued a set least again (v ∷ vs) rows passes all =
     rw set (with_values_keeps a.id _ CommandLine (v ∷ vs) (without a.id rows) refl (without_keeps a.id rows all))
 
--- a flag, for which something stands where it has no value
+-- a flag, for which something stands if it has no value
 flag_valued : (a : Rule) → action_of a ≡ SetTrue → some_of a.missing ≡ true → Valued a
 flag_valued a set some again [] rows passes all =
     rw set (with_values_keeps a.id _ CommandLine a.missing (without a.id rows) some (without_keeps a.id rows all))

@@ -39,7 +39,7 @@ flag_goes_on : (word : Text) (w : Walk) (h : Held) (step : Step) → is_flag ste
     → isnt_help (after_step top.rules word w h step).stopped ≡ true
 flag_goes_on word w h step is none = grind arith
 
--- what a word is, after `--` or before, where it names this subcommand or none
+-- what a word is, after `--` or before, if it names this subcommand or none
 abbrev met : Bool → Option Text → Walk → Text → Held × Step
 met past name w word =
     if past then (w.held, value) else subcommand_or_other top.rules name w.waiting w.position word w.held
@@ -77,7 +77,7 @@ walk_stops (word ∷ rest) w passes so_far =
     let parts = and_parts (turn_passes top names w word) _ passes in
     walk_stops rest (walked top.rules names w word) parts.1 (turn_stops w word parts.0 so_far)
 
--- where a name isn't `help`, the test with the two texts swapped is false too
+-- if a name isn't `help`, the test with the two texts swapped is false too
 help_named : (name : Text) → not (bytes_eq name (codes "help")) ≡ true → bytes_eq (codes "help") name ≡ false
 help_named name isnt = grind (arith, bytes_eq-Decides (codes "help") name, bytes_eq-Decides name (codes "help"))
 

@@ -46,13 +46,13 @@ frame_asked rows = option_and_then (number_in 10000) (first_of (codes "frame") r
 abbrev pub dot_asked : List Row → Bool
 dot_asked rows = option_map_or (λ t. bytes_eq t (codes "true")) (first_of (codes "dot") rows) false
 
--- a run of FILE on so many workers, where there are both
+-- a run of FILE on so many workers, if there are both
 abbrev pub run_asked : Option Text → Option ℕ → Option Request
 run_asked (Some file) (Some workers) = Some (run file workers)
 run_asked (Some file) None = None
 run_asked None workers = None
 
--- the plan of such a frame of FILE, where there are both
+-- the plan of such a frame of FILE, if there are both
 abbrev pub plan_asked : Option Text → Option ℕ → Bool → Option Request
 plan_asked (Some file) (Some frame) dot = Some (plan file frame dot)
 plan_asked (Some file) None dot = None
@@ -91,8 +91,8 @@ AsksForNone words = HasNoNumber (codes "run") (codes "workers") 64 words
 abbrev pub IsShown : ErrorKind → Type 0
 IsShown k = (k ≡ kind.DisplayHelp) ⊎ (k ≡ kind.DisplayVersion)
 
--- The fault of words in which clap finds these kinds of errors. It is help only where one of them
--- asks for that or for the version. It is bad words only where there is none, or one of another
+-- The fault of words in which clap finds these kinds of errors. It is help only if one of them
+-- asks for that or for the version. It is bad words only if there is none, or one of another
 -- kind. It may always be want of memory.
 abbrev pub IsToldOf : Kinds → WordFault → Type 0
 IsToldOf kinds (word.Help text) = (k : ErrorKind) × IsAmong k kinds × IsShown k

@@ -8,7 +8,7 @@ use Rattle.clap.specs.{Words.App, Words.Rule, Words.Text, Words.new_app, Words.n
 abbrev pub file_rule : Rule
 file_rule = record (new_rule (codes "FILE")) { required = true; action = Some Set }
 
--- --workers N, which is 1 where it doesn't stand there
+-- --workers N, which is 1 if it doesn't stand there
 abbrev pub workers_rule : Rule
 workers_rule = record (new_rule (codes "workers")) {
   long = Some (codes "workers");
@@ -21,7 +21,7 @@ workers_rule = record (new_rule (codes "workers")) {
 abbrev pub dot_rule : Rule
 dot_rule = record (new_rule (codes "dot")) { long = Some (codes "dot"); action = Some SetTrue }
 
--- --frame K, which is 1 where it doesn't stand there
+-- --frame K, which is 1 if it doesn't stand there
 abbrev pub frame_rule : Rule
 frame_rule = record (new_rule (codes "frame")) {
   long = Some (codes "frame");

@@ -2,7 +2,7 @@
 use Rattle.std.specs.Prelude.{◌≡◌, ℕ, ◌<◌, ◌≤◌, List, length, Option, IfSome}
 use Rattle.std.specs.Io.KnownBytes.{Consumes}
 
--- where the reader tells the bytes that it has left, these are all of them
+-- if the reader tells the bytes that it has left, these are all of them
 abbrev pub IsAllOf : Option (List ℕ) → List ℕ → Type 0
 IsAllOf left bytes = IfSome left (λ known. bytes ≡ known)
 

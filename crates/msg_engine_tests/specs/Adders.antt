@@ -9,7 +9,7 @@ use Rattle.msg_world.specs.Prelude.{i64_values}
 abbrev pub total_after : ℤ → List (Reply ℤ) → ℤ
 total_after total replies = sum_onto i64_values total (brought (slice_get replies 0))
 
--- it reads, and writes its total where anything came
+-- it reads, and writes its total if anything came
 abbrev pub next_addition : Adder → List (Reply ℤ) → Option (Op ℤ)
 next_addition a replies =
     if length replies == 0 then Some (Read a.from None)

@@ -23,6 +23,6 @@ abbrev pub pair_state : List (Condition ℤ) → State i64_values
 pair_state conditions = first_state (numbered_from 0 pair_systems) (pair_places conditions) [] 1
     (new_world i64_values (100 ∷ []) [])
 
--- the one where the reader waits for a message
+-- the one in which the reader waits for a message
 abbrev pub waking_state : State i64_values
 waking_state = pair_state (record { nots = 0; probe = OnMessage 0 } ∷ [])

@@ -3,7 +3,7 @@ use msg_system::{Behavior, NoMemory, Op, Reply, added_up, brought};
 use msg_world::TypeNo;
 use std::alloc::Global;
 
-/// Adds what it reads to a total, which it writes in the same turn where anything came.
+/// Adds what it reads to a total, which it writes in the same turn if anything came.
 #[derive(Drop)]
 pub struct Adder {
     pub from: TypeNo,

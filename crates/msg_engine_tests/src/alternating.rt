@@ -1,11 +1,13 @@
 // Systems that decide by their memory: each on 1, 2, 7 and 64 workers.
+ghost use Rattle.std.specs.Prelude.{◌<◌};
 ghost use Rattle.msg_exec.specs.Prelude.{IsEngine};
 ghost use Rattle.msg_world.specs.Prelude.{i64_values};
 
 use crate::expecting::replies_of;
-use crate::making::{NUMBERS, frame_of, quiet, replay, run_frame};
-use msg_exec::{EngineBuilder, EngineOf, Frame, Log, NoGate, Outcome};
+use crate::making::{NUMBERS, add, engine_over, frame_of, quiet, replay, run_frame};
+use msg_exec::{EngineBuilder, EngineOf, Frame, Log, NoGate, Outcome, Turn};
 use msg_part_tests::numbers::type_no;
+use msg_part_tests::outcome::expect_eq;
 use msg_system::{
     Access, Behavior, BehaviorSystem, Condition, NoMemory, Op, Probe, Reply, Start, SystemOf,
 };
@@ -67,24 +69,30 @@ fn engine_of_two(
         ⟦<BehaviorSystem<Alternating> as SystemOf>⟧.meaning result }
 {
     let mut systems = EngineBuilder::new(alloc);
-    for (here, there) in [(type_no(0), type_no(1)), (type_no(2), type_no(3))] {
-        let access = Access::none().with_write_type(here).with_write_type(there);
-        let behavior = Alternating {
-            here,
-            there,
-            writes,
-        };
-        let system = BehaviorSystem::new(alloc, behavior, access, Start::Zero, 0);
+    for here in [0, 2] {
+        let system = system_of(alloc, here, writes);
         let conditions = Vec::from_slice(alloc, conditions).expect(rt, "conditions");
-        let added = systems.add_system(system, conditions, join);
-        added.expect(rt, "a system");
+        add(rt, &mut systems, system, conditions, join);
     }
-    let world = World::new(alloc, &[200; 5], &[]).expect(rt, "a world");
-    systems.build(world).expect(rt, "an engine")
+    engine_over(rt, alloc, systems, &[200; 5], &[])
+}
+
+/// One of them, over the type of this number and the next one.
+fn system_of(alloc: Global, here: u32, writes: u64) -> BehaviorSystem<Alternating>
+    requires below { here < 63 }
+{
+    let (here, there) = (type_no(here), type_no(here + 1));
+    let access = Access::none().with_write_type(here).with_write_type(there);
+    let behavior = Alternating {
+        here,
+        there,
+        writes,
+    };
+    BehaviorSystem::new(alloc, behavior, access, Start::Zero, 0)
 }
 
 /// What a system wrote in a frame: how many messages to its first type, and how many to its
-/// second; None where it was skipped.
+/// second; None if it was skipped.
 type Wrote = Option<(usize, usize)>;
 
 /// How many messages of this type were written in this frame.
@@ -103,21 +111,30 @@ fn expect_wrote<S: SystemOf<Value = i64>>(
     wrote: Wrote,
 ) {
     for turn in log.turns.as_slice() {
-        match (&turn.outcome, wrote) {
-            (Outcome::Ran(replies), Some((first, second))) => {
-                assert_eq!(rt; replies.as_slice().len(), first.max(second))
-            }
-            (Outcome::Skipped, None) => {}
-            _other => panic!(rt; "skipped or not"),
-        }
+        expect_turn(rt, turn, wrote);
     }
     let Some(world) = engine.world() else {
         panic!(rt; "no world");
     };
-    for (here, there) in [(type_no(0), type_no(1)), (type_no(2), type_no(3))] {
-        let both = (written(rt, world, here), written(rt, world, there));
-        assert_eq!(rt; both, wrote.unwrap_or((0, 0)));
+    expect_written(rt, world, (type_no(0), type_no(1)), wrote);
+    expect_written(rt, world, (type_no(2), type_no(3)), wrote);
+}
+
+/// The turn was skipped, or each op of it wrote one of these messages.
+fn expect_turn(rt: &impl Abort, turn: &Turn, wrote: Wrote) {
+    match (&turn.outcome, wrote) {
+        (Outcome::Ran(replies), Some((first, second))) => {
+            expect_eq(rt, &replies.as_slice().len(), &first.max(second))
+        }
+        (Outcome::Skipped, None) => {}
+        _other => panic!(rt; "skipped or not"),
     }
+}
+
+/// These messages were written to the two types of a system.
+fn expect_written(rt: &impl Abort, world: &World, types: (TypeNo, TypeNo), wrote: Wrote) {
+    let both = (written(rt, world, types.0), written(rt, world, types.1));
+    expect_eq(rt, &both, &wrote.unwrap_or((0, 0)));
 }
 
 /// Runs a frame on `number` workers, or replays it with system 1 before system 0. Each system
@@ -243,10 +260,8 @@ fn engine_of_one(
     };
     let system = BehaviorSystem::new(alloc, behavior, access, Start::Zero, 0);
     let mut systems = EngineBuilder::new(alloc);
-    let added = systems.add_system(system, Vec::new(alloc), 1);
-    added.expect(rt, "a system");
-    let world = World::new(alloc, &[limit; 2], &[]).expect(rt, "a world");
-    systems.build(world).expect(rt, "an engine")
+    add(rt, &mut systems, system, Vec::new(alloc), 1);
+    engine_over(rt, alloc, systems, &[limit; 2], &[])
 }
 
 /// Runs a frame in which it writes `wrote` messages, and then is told so often that numbers are
@@ -263,10 +278,14 @@ fn expect_spent<R: Threads + Sync + Abort, S: SystemOf<Value = i64> + Send>(
     ensures engine { IsEngine i64_values S.meaning engine.new }
 {
     let log = run_frame(rt, engine, &quiet(alloc), number, &NoGate).expect(rt, "a frame");
-    let replies = replies_of(rt, &log, 0);
-    assert_eq!(rt; replies.len(), wrote as usize + spent as usize);
+    expect_replies(rt, replies_of(rt, &log, 0), wrote, spent);
+}
+
+/// Of so many replies the first tell of writes, and the others that numbers are spent.
+fn expect_replies(rt: &impl Abort, replies: &[Reply], wrote: u32, spent: u32) {
+    expect_eq(rt, &replies.len(), &(wrote as usize + spent as usize));
     for (k, reply) in replies.iter().enumerate() {
-        assert_eq!(rt; matches!(reply, Reply::Spent), k >= wrote as usize);
+        expect_eq(rt, &matches!(reply, Reply::Spent), &(k >= wrote as usize));
     }
 }
 

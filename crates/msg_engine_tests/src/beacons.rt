@@ -3,14 +3,15 @@ ghost use Rattle.msg_exec.specs.Prelude.{IsEngine};
 ghost use Rattle.msg_world.specs.Prelude.{i64_values};
 
 use crate::expecting::{expect_frame, wrote};
-use crate::making::{NUMBERS, quiet};
+use crate::making::{NUMBERS, add, engine_over, quiet};
 use crate::prefaced::{Before, Prefaced};
 use msg_exec::{EngineBuilder, EngineOf};
 use msg_part_tests::numbers::type_no;
+use msg_part_tests::outcome::expect_eq;
 use msg_system::{
     Access, Cursors, NoMemory, Numbered, Op, Reply, Start, SystemOf, one_op_is_a_turn,
 };
-use msg_world::{Counts, Lent, Taken, TypeNo, World};
+use msg_world::{Counts, Lent, Taken, TypeNo};
 use std::alloc::Global;
 use std::panic::Expect;
 use std::process::Abort;
@@ -81,19 +82,22 @@ fn two_beacons(rt: &impl Abort, alloc: Global, runs: &Arc<AtomicU64>) -> EngineO
     ensures engine { IsEngine i64_values ⟦<Prefaced<Beacon> as SystemOf>⟧.meaning result }
 {
     let mut systems = EngineBuilder::new(alloc);
-    for to in [type_no(0), type_no(1)] {
-        let system = Beacon {
-            to,
-            value: 5,
-            writer: 0,
-            cursors: Cursors::new(),
-        };
-        let before = Before::Count(Arc::try_clone(runs).expect(rt, "a count"));
-        let added = systems.add_system(Prefaced { system, before }, Vec::new(alloc), 1);
-        added.expect(rt, "a system");
-    }
-    let world = World::new(alloc, &[10, 10], &[]).expect(rt, "a world");
-    systems.build(world).expect(rt, "an engine")
+    let (one, other) = (counted(rt, type_no(0), runs), counted(rt, type_no(1), runs));
+    add(rt, &mut systems, one, Vec::new(alloc), 1);
+    add(rt, &mut systems, other, Vec::new(alloc), 1);
+    engine_over(rt, alloc, systems, &[10, 10], &[])
+}
+
+/// A beacon to this type, whose runs are counted.
+fn counted(rt: &impl Abort, to: TypeNo, runs: &Arc<AtomicU64>) -> Prefaced<Beacon> {
+    let system = Beacon {
+        to,
+        value: 5,
+        writer: 0,
+        cursors: Cursors::new(),
+    };
+    let before = Before::Count(Arc::try_clone(runs).expect(rt, "a count"));
+    Prefaced { system, before }
 }
 
 fn expect_beacons<R: Threads + Sync + Abort>(rt: &R, alloc: Global, number: u32) {
@@ -103,7 +107,7 @@ fn expect_beacons<R: Threads + Sync + Abort>(rt: &R, alloc: Global, number: u32)
     expect_frame(rt, &mut engine, &frame, number, &[], &steps);
     let steps = [wrote(0, 1), wrote(1, 1)];
     expect_frame(rt, &mut engine, &frame, number, &[], &steps);
-    assert_eq!(rt; runs.load(Ordering::SeqCst), 4);
+    expect_eq(rt, &runs.load(Ordering::SeqCst), &4);
 }
 
 #[test]

@@ -3,10 +3,11 @@ ghost use Rattle.msg_exec.specs.Prelude.{IsEngine};
 ghost use Rattle.msg_world.specs.Prelude.{i64_values};
 
 use crate::expecting::{expect_frame, posted, read};
-use crate::making::{engine_of, quiet, script};
-use msg_exec::{BuildError, BuildRefusal, EngineBuilder, EngineOf, Workers};
+use crate::making::{add, engine_of, quiet, reader};
+use msg_exec::{Account, BuildError, BuildRefusal, EngineBuilder, EngineOf, Workers};
 use msg_order::Rule;
 use msg_part_tests::numbers::type_no;
+use msg_part_tests::outcome::{expect_eq, expect_text};
 use msg_system::{Op, Scripted, Start, SystemOf};
 use msg_world::World;
 use std::alloc::Global;
@@ -20,11 +21,10 @@ fn readers_after_a_post(rt: &impl Abort, alloc: Global) -> EngineOf<Scripted>
 {
     let t = type_no(0);
     let mut systems = EngineBuilder::new(alloc);
-    for start_at in [Start::Zero, Start::Current] {
-        let reader = script(rt, alloc, &[Op::Read(t, None)], start_at).expect(rt, "a script");
-        let added = systems.add_system(reader, Vec::new(alloc), 1);
-        added.expect(rt, "a system");
-    }
+    let from_zero = reader(rt, alloc, Start::Zero);
+    add(rt, &mut systems, from_zero, Vec::new(alloc), 1);
+    let from_count = reader(rt, alloc, Start::Current);
+    add(rt, &mut systems, from_count, Vec::new(alloc), 1);
     let mut world = World::new(alloc, &[10], &[]).expect(rt, "a world");
     assert!(rt; world.messages(t).is_some());
     assert!(rt; world.post(t, 5).is_ok());
@@ -39,10 +39,15 @@ fn starts_in_a_world_with_a_message(rt: HostRuntime) {
     let steps = [read(0, 0, &five), read(1, 1, &[])];
     expect_frame(&rt, &mut engine, &quiet(rt.alloc()), 1, &[], &steps);
     let accounts = engine.accounts().expect(&rt, "accounts");
-    let [zero, current] = accounts.as_slice() else {
+    expect_starts(&rt, accounts.as_slice());
+}
+
+/// The first reader started at 0, and the second at 1.
+fn expect_starts(rt: &impl Abort, accounts: &[Account]) {
+    let [zero, current] = accounts else {
         panic!(rt; "two readers")
     };
-    assert_eq!(rt; (zero.start, current.start), (Some(0), Some(1)));
+    expect_eq(rt, &(zero.start, current.start), &(Some(0), Some(1)));
 }
 
 /// No engine is made of these scripts under these rules, and it is said why.
@@ -51,7 +56,7 @@ fn expect_refused(rt: &impl Abort, alloc: Global, ops: &[Op], rules: &[Rule], wa
         panic!(rt; "not {want}")
     };
     let refused = format!(in alloc; "{refused:?}").expect(rt, "a text");
-    assert_eq!(rt; refused.as_str(), want);
+    expect_eq(rt, &refused.as_str(), &want);
 }
 
 /// A clash comes before a cycle, and of rules that go round the lowest system is named.
@@ -68,51 +73,46 @@ fn refused_engines(rt: HostRuntime) {
     let later = [Op::Read(t, None), Op::Forward(t, t)];
     let (own, next) = ([Rule::before(0, 0)], [Rule::before(1, 1)]);
     let around = [Rule::before(0, 1), Rule::before(1, 0)];
-    for (ops, rules, want) in [
-        (&clash[..], &own[..], "Refused(Clash(0))"),
-        (&alone[..], &own[..], "Refused(Cycle(0))"),
-        (&waiting[..], &around[..], "Refused(Cycle(0))"),
-        (&waiting[..], &next[..], "Refused(Cycle(1))"),
-        (&waiting[..], &[Rule::before(3, 3)][..], "Refused(Cycle(3))"),
-        (&later[..], &own[..], "Refused(Clash(1))"),
-    ] {
-        expect_refused(&rt, alloc, ops, rules, want);
-    }
+    expect_refused(&rt, alloc, &clash, &own, "Refused(Clash(0))");
+    expect_refused(&rt, alloc, &alone, &own, "Refused(Cycle(0))");
+    expect_refused(&rt, alloc, &waiting, &around, "Refused(Cycle(0))");
+    expect_refused(&rt, alloc, &waiting, &next, "Refused(Cycle(1))");
+    let last = [Rule::before(3, 3)];
+    expect_refused(&rt, alloc, &waiting, &last, "Refused(Cycle(3))");
+    expect_refused(&rt, alloc, &later, &own, "Refused(Clash(1))");
 }
 
 #[test]
 fn refusals_say_why(rt: HostRuntime) {
-    let (clash, cycle) = (BuildRefusal::Clash(1), BuildRefusal::Cycle(2));
-    let refused = BuildRefusal::NoMemory;
-    let texts = format!(in rt.alloc(); "{clash}; {cycle}; {refused}").expect(&rt, "a text");
-    assert_eq!(rt;
-        texts.as_str(),
-        "system 1 reads and writes one type or resource; the rules go round in a circle through \
-         system 2; want of memory"
-    );
+    let clash = "system 1 reads and writes one type or resource";
+    expect_text(&rt, &BuildRefusal::Clash(1), clash);
+    let cycle = "the rules go round in a circle through system 2";
+    expect_text(&rt, &BuildRefusal::Cycle(2), cycle);
+    expect_text(&rt, &BuildRefusal::NoMemory, "want of memory");
 }
 
 #[test]
 fn builders_say_why(rt: HostRuntime) {
-    let rule = BuildError::UnknownSystem(Rule::before(3, 9));
+    let full = "there are 256 systems, and an engine has no more";
+    expect_text(&rt, &BuildError::Full, full);
+    let join = "a system can't join with frame 0, but with one from 1 to 10000";
+    expect_text(&rt, &BuildError::BadJoin(0), join);
+    let misfit = "system 7 or a condition of it reads or writes what the world hasn't got";
+    expect_text(&rt, &BuildError::Misfit(7), misfit);
+    let unknown = BuildError::UnknownSystem(Rule::before(3, 9));
+    expect_text(
+        &rt,
+        &unknown,
+        "no system 3, or no system 9, which a rule names",
+    );
     let refused = BuildError::Refused(BuildRefusal::NoMemory);
-    let (full, join, misfit) = (
-        BuildError::Full,
-        BuildError::BadJoin(0),
-        BuildError::Misfit(7),
-    );
-    let texts = format!(in rt.alloc(); "{full}; {join}; {misfit}; {rule}; {refused}");
-    assert_eq!(rt;
-        texts.expect(&rt, "texts").as_str(),
-        "there are 256 systems, and an engine has no more; a system can't join with frame 0, but \
-         with one from 1 to 10000; system 7 or a condition of it reads or writes what the world \
-         hasn't got; no system 3, or no system 9, which a rule names; want of memory"
-    );
+    expect_text(&rt, &refused, "want of memory");
 }
 
 #[test]
 fn numbers_of_workers(rt: HostRuntime) {
     for (number, is_there) in [(0, false), (1, true), (64, true), (65, false)] {
-        assert_eq!(rt; Workers::new(number).is_some(), is_there, "{number}");
+        let found = Workers::new(number).is_some();
+        expect_eq(&rt, &(number, found), &(number, is_there));
     }
 }

@@ -3,10 +3,11 @@ ghost use Rattle.msg_exec.specs.Prelude.{IsEngine};
 ghost use Rattle.msg_world.specs.Prelude.{i64_values};
 
 use crate::expecting::{Step, by, expect_frame, posted, read, replies_of, wrote};
-use crate::making::{NUMBERS, engine_of, frame_of, quiet, run_frame, script};
+use crate::making::{NUMBERS, add, engine_of, frame_of, quiet, run_frame, scripted};
 use msg_exec::{EngineBuilder, EngineOf, NoGate};
 use msg_order::Rule;
 use msg_part_tests::numbers::{res_no, type_no};
+use msg_part_tests::outcome::expect_eq;
 use msg_system::{Items, Op, Reply, Scripted, Start, SystemOf};
 use msg_world::World;
 use std::alloc::Global;
@@ -47,14 +48,28 @@ fn expect_two_writers<R: Threads + Sync + Abort>(rt: &R, alloc: Global, number: 
     let ops = [Op::Write(t, 1), Op::Batch(t, two), Op::Read(t, None)];
     let engine = engine_of(rt, alloc, &[20], &ops, &[]);
     let mut engine = engine.expect(rt, "an engine");
-    let all = [posted(9), by(0, 1), by(1, 2), by(1, 3)];
-    let steps = [wrote(0, 1), wrote_two(2), read(2, 0, &all)];
-    let frame = frame_of(rt, alloc, &[(t, 9)]);
-    expect_frame(rt, &mut engine, &frame, number, &[0], &steps);
-    let all = [posted(8), by(0, 1), by(1, 2), by(1, 3)];
-    let steps = [wrote(0, 5), wrote_two(6), read(2, 4, &all)];
-    let frame = frame_of(rt, alloc, &[(t, 8)]);
-    expect_frame(rt, &mut engine, &frame, number, &[4], &steps);
+    expect_four(rt, alloc, &mut engine, number, 9, 0);
+    expect_four(rt, alloc, &mut engine, number, 8, 4);
+}
+
+/// Runs a frame with a post of this value, which gets the number `first`. Both writers write after
+/// it, and all four messages are read.
+fn expect_four<R: Threads + Sync + Abort, S: SystemOf<Value = i64> + Send>(
+    rt: &R,
+    alloc: Global,
+    engine: &mut EngineOf<S>,
+    number: u32,
+    value: i64,
+    first: u64,
+)
+    requires engine { IsEngine i64_values S.meaning engine.old }
+    ensures engine { IsEngine i64_values S.meaning engine.new }
+{
+    let all = [posted(value), by(0, 1), by(1, 2), by(1, 3)];
+    let (one, two) = (first.saturating_add(1), first.saturating_add(2));
+    let steps = [wrote(0, one), wrote_two(two), read(2, first, &all)];
+    let frame = frame_of(rt, alloc, &[(type_no(0), value)]);
+    expect_frame(rt, engine, &frame, number, &[first], &steps);
 }
 
 #[test]
@@ -92,10 +107,9 @@ fn signalling(rt: &impl Abort, alloc: Global) -> EngineOf<Scripted>
     ensures engine { IsEngine i64_values ⟦<Scripted as SystemOf>⟧.meaning result }
 {
     let ops = [Op::Write(type_no(0), 5), Op::Set(res_no(0), 8), Op::Signal];
-    let script = script(rt, alloc, &ops, Start::Zero).expect(rt, "a script");
     let mut systems = EngineBuilder::new(alloc);
-    let added = systems.add_system(script, Vec::new(alloc), 1);
-    added.expect(rt, "a system");
+    let script = scripted(rt, alloc, &ops, Start::Zero);
+    add(rt, &mut systems, script, Vec::new(alloc), 1);
     let mut world = World::new(alloc, &[10], &[7]).expect(rt, "a world");
     world.set_held();
     systems.build(world).expect(rt, "an engine")
@@ -115,18 +129,28 @@ fn expect_signal<R: Threads + Sync + Abort, S: SystemOf<Value = i64> + Send>(
     ensures engine { IsEngine i64_values S.meaning engine.new }
 {
     let log = run_frame(rt, engine, &quiet(alloc), number, &NoGate).expect(rt, "a frame");
-    let [Reply::Wrote(wrote), Reply::Value(8), Reply::Signalled] = replies_of(rt, &log, 0) else {
+    expect_signalled(rt, replies_of(rt, &log, 0), first);
+    match engine.world() {
+        Some(world) => expect_set(rt, world, oldest),
+        None => panic!(rt; "a world"),
+    }
+}
+
+/// It wrote the message of this number, set the resource and signalled.
+fn expect_signalled(rt: &impl Abort, replies: &[Reply], first: u64) {
+    let [Reply::Wrote(wrote), Reply::Value(8), Reply::Signalled] = replies else {
         panic!(rt; "a write, a value and a signal")
     };
-    assert_eq!(rt; (wrote.first, wrote.n), (first, 1));
-    let Some(world) = engine.world() else {
-        panic!(rt; "a world")
-    };
-    assert_eq!(rt; world.resource(res_no(0)), Some(8));
+    expect_eq(rt, &(wrote.first, wrote.n), &(first, 1));
+}
+
+/// The resource was set, and the oldest message has this number.
+fn expect_set(rt: &impl Abort, world: &World, oldest: u64) {
+    expect_eq(rt, &world.resource(res_no(0)), &Some(8));
     let Some(messages) = world.messages(type_no(0)) else {
         panic!(rt; "type 0 is home")
     };
-    assert_eq!(rt; messages.oldest(), oldest);
+    expect_eq(rt, &messages.oldest(), &oldest);
 }
 
 /// The first frame makes no update, and each later one does: so the third drops the message of the

@@ -3,11 +3,13 @@ ghost use Rattle.msg_exec.specs.Prelude.{IsEngine};
 ghost use Rattle.msg_world.specs.Prelude.{i64_values};
 
 use crate::adders::Adder;
-use crate::making::{NUMBERS, frame_of, run_frame};
+use crate::expecting::by;
+use crate::making::{NUMBERS, add, engine_over, frame_of, run_frame};
 use msg_exec::{EngineBuilder, EngineOf, NoGate};
 use msg_part_tests::numbers::type_no;
+use msg_part_tests::outcome::expect_eq;
 use msg_system::{Access, BehaviorSystem, Start, SystemOf};
-use msg_world::{Record, TypeNo, World};
+use msg_world::{TypeNo, World};
 use std::alloc::Global;
 use std::panic::Expect;
 use std::process::Abort;
@@ -28,14 +30,21 @@ fn expect_frame_writes<R: Threads + Sync + Abort>(
 {
     let frame = frame_of(rt, alloc, posts);
     run_frame(rt, engine, &frame, number, &NoGate).expect(rt, "a frame");
-    let Some(messages) = engine.world().and_then(|w| w.messages(type_no(1))) else {
+    match engine.world() {
+        Some(world) => expect_written(rt, world, values),
+        None => panic!(rt; "no world"),
+    }
+}
+
+/// Just these values were written to the second type in this frame.
+fn expect_written(rt: &impl Abort, world: &World, values: &[i64]) {
+    let Some(messages) = world.messages(type_no(1)) else {
         panic!(rt; "no messages");
     };
     let written = messages.current();
-    assert_eq!(rt; written.len(), values.len());
+    expect_eq(rt, &written.len(), &values.len());
     for (instance, value) in written.iter().zip(values) {
-        let value = *value;
-        assert_eq!(rt; instance.message, Record { writer: 0, value });
+        expect_eq(rt, &instance.message, &by(0, *value));
     }
 }
 
@@ -48,10 +57,8 @@ fn engine_of_one(rt: &impl Abort, alloc: Global) -> EngineOf<BehaviorSystem<Adde
     let adder = Adder { from, to, total: 0 };
     let adder = BehaviorSystem::new(alloc, adder, access, Start::Zero, 0);
     let mut systems = EngineBuilder::new(alloc);
-    let added = systems.add_system(adder, Vec::new(alloc), 1);
-    added.expect(rt, "a system");
-    let world = World::new(alloc, &[10, 10], &[]).expect(rt, "a world");
-    systems.build(world).expect(rt, "an engine")
+    add(rt, &mut systems, adder, Vec::new(alloc), 1);
+    engine_over(rt, alloc, systems, &[10, 10], &[])
 }
 
 fn expect_sums<R: Threads + Sync + Abort>(rt: &R, alloc: Global, number: u32) {

@@ -5,6 +5,7 @@ ghost use Rattle.msg_world.specs.Prelude.{i64_values};
 use crate::making::{replay, run_frame};
 use msg_buffer::Written;
 use msg_exec::{EngineOf, Frame, Log, NoGate, Outcome, Turn};
+use msg_part_tests::outcome::expect_eq;
 use msg_system::{Reply, SystemOf};
 use msg_world::{HOST, Record};
 use std::panic::Expect;
@@ -67,17 +68,25 @@ fn is_step(turn: &Turn, step: Step<'_>) -> bool {
     came && turn.system == step.system
 }
 
-/// The posts got these numbers, and the turns came to these steps.
-pub fn expect_log(rt: &impl Abort, log: &Log, posts: &[u64], steps: &[Step<'_>]) {
-    let (replies, turns) = (log.posts.as_slice(), log.turns.as_slice());
-    assert!(rt; replies.len() == posts.len() && turns.len() == steps.len());
+fn expect_posts(rt: &impl Abort, replies: &[Reply], posts: &[u64]) {
+    expect_eq(rt, &replies.len(), &posts.len());
     for (reply, first) in replies.iter().zip(posts) {
         let first = *first;
         assert!(rt; matches!(reply, Reply::Wrote(w) if *w == Written { first, n: 1 }));
     }
+}
+
+fn expect_steps(rt: &impl Abort, turns: &[Turn], steps: &[Step<'_>]) {
+    expect_eq(rt, &turns.len(), &steps.len());
     for (turn, step) in turns.iter().zip(steps) {
         assert!(rt; is_step(turn, *step), "{turn:?}");
     }
+}
+
+/// The posts got these numbers, and the turns came to these steps.
+pub fn expect_log(rt: &impl Abort, log: &Log, posts: &[u64], steps: &[Step<'_>]) {
+    expect_posts(rt, log.posts.as_slice(), posts);
+    expect_steps(rt, log.turns.as_slice(), steps);
 }
 
 /// The replies of the turn at this place in the log.

@@ -1,20 +1,25 @@
 // On which threads the jobs of a batch run, and when the gate is called.
+ghost use Rattle.msg_exec.specs.Prelude.{IsEngine};
+ghost use Rattle.msg_world.specs.Prelude.{i64_values};
+
 use crate::expecting::{expect_log, posted, read};
 use crate::gates::{FirstGate, HoldGate, MeetGate, NotingGate, OneByOne};
 use crate::making::{frame_of, quiet, readers, run_frame, run_frames};
 use crate::prefaced::{add_counts, noting_engine, prefaced_readers};
-use msg_exec::Log;
+use msg_exec::{EngineOf, Frame, Gate, Log};
 use msg_part_tests::numbers::type_no;
-use msg_system::{Op, Start};
+use msg_part_tests::outcome::expect_eq;
+use msg_system::{Op, Start, SystemOf};
 use std::alloc::Global;
 use std::panic::Expect;
 use std::process::Abort;
+use std::slice;
 use std::sync::Arc;
 use std::sync::atomic::{AtomicU64, Ordering};
 use std::thread::Threads;
 
 /// How many readers there are, on how many workers they run, and which of them the gate holds until
-/// it was called for all readers. Where it holds all, each worker has a thread and a number of its
+/// it was called for all readers. If it holds all, each worker has a thread and a number of its
 /// own.
 const ROWS: [(u32, u32, [bool; 5]); 7] = [
     (3, 2, [true, false, false, false, false]),
@@ -29,7 +34,13 @@ const ROWS: [(u32, u32, [bool; 5]); 7] = [
 /// Each of the readers read this message, and none before it in its frame.
 fn expect_reads(rt: &impl Abort, log: &Log, number: u32, first: u64, value: i64) {
     let records = [posted(value)];
-    let all = [0, 1, 2, 3, 4].map(|i| read(i, first, &records));
+    let all = [
+        read(0, first, &records),
+        read(1, first, &records),
+        read(2, first, &records),
+        read(3, first, &records),
+        read(4, first, &records),
+    ];
     assert!(rt; number <= 5);
     expect_log(rt, log, &[first], &all[..number as usize]);
 }
@@ -52,11 +63,27 @@ fn expect_row<R: Threads + Sync + Abort>(
     gate.expect_met(rt, number as u64);
     expect_reads(rt, &log, number, 0, 5);
     let gate = HoldGate::new(workers, held, number as u64);
-    let (frames, mut logs) = ([frame_of(rt, alloc, &[(t, 6)])], Vec::new(alloc));
-    let ran = run_frames(rt, &mut engine, &frames, workers, &gate, &mut logs);
-    ran.expect(rt, "frames");
+    let frame = frame_of(rt, alloc, &[(t, 6)]);
+    let log = run_one(rt, alloc, &mut engine, &frame, workers, &gate);
     gate.expect_met(rt, number as u64);
-    expect_reads(rt, &logs.pop().expect(rt, "a log"), number, 1, 6);
+    expect_reads(rt, &log, number, 1, 6);
+}
+
+/// Runs a frame by `run_frames`.
+fn run_one<R: Threads + Sync + Abort, S: SystemOf<Value = i64> + Send, G: Gate>(
+    rt: &R,
+    alloc: Global,
+    engine: &mut EngineOf<S>,
+    frame: &Frame,
+    workers: u32,
+    gate: &G,
+) -> Log
+    requires engine { IsEngine i64_values S.meaning engine.old }
+{
+    let mut logs = Vec::new(alloc);
+    let ran = run_frames(rt, engine, slice::from_ref(frame), workers, gate, &mut logs);
+    ran.expect(rt, "frames");
+    logs.pop().expect(rt, "a log")
 }
 
 #[test]
@@ -66,7 +93,7 @@ fn readers_run_side_by_side(rt: HostRuntime) {
     }
 }
 
-/// One worker takes a hundred jobs one by one. One job needs one worker where 64 may run.
+/// One worker takes a hundred jobs one by one. One job needs one worker if 64 may run.
 #[test]
 fn one_worker_takes_them_one_by_one(rt: HostRuntime) {
     for (number, workers) in [(100, 1), (1, 64)] {
@@ -88,7 +115,7 @@ fn expect_gate_first<R: Threads + Sync + Abort>(rt: &R, alloc: Global, workers: 
     let log = run_frame(rt, &mut engine, &quiet(alloc), workers, &gate);
     log.expect(rt, "a frame");
     gate.expect_first(rt, 5);
-    assert_eq!(rt; runs.load(Ordering::SeqCst), 5);
+    expect_eq(rt, &runs.load(Ordering::SeqCst), &5);
 }
 
 #[test]
@@ -124,5 +151,5 @@ fn the_gate_is_called_before_the_system_runs(rt: HostRuntime) {
     let log = run_frame(&rt, &mut engine, &quiet(alloc), 2, &gate);
     log.expect(&rt, "a frame");
     // The gate notes 9, and system i notes i + 1: gate, system 0, gate, system 1.
-    assert_eq!(rt; noted.load(Ordering::SeqCst), 9192);
+    expect_eq(&rt, &noted.load(Ordering::SeqCst), &9192);
 }

@@ -1,6 +1,7 @@
 // Gates that see which threads run the jobs of a batch.
 use crate::prefaced::note;
 use msg_exec::Gate;
+use msg_part_tests::outcome::expect_eq;
 use std::process::Abort;
 use std::sync::atomic::{AtomicU64, Ordering};
 use std::thread::yield_now;
@@ -18,18 +19,30 @@ pub struct HoldGate {
     clashes: AtomicU64,
 }
 
+fn zero() -> AtomicU64 {
+    AtomicU64::new(0)
+}
+
+fn count(calls: &AtomicU64) {
+    calls.fetch_add(1, Ordering::SeqCst);
+}
+
+/// So many calls were counted.
+fn expect_count(rt: &impl Abort, calls: &AtomicU64, number: u64) {
+    expect_eq(rt, &calls.load(Ordering::SeqCst), &number);
+}
+
 impl HoldGate {
     /// For at most five systems.
     pub fn new(workers: u32, held: [bool; 5], awaited: u64) -> HoldGate {
-        let none = || AtomicU64::new(0);
         HoldGate {
             workers,
             held,
             awaited,
-            came: none(),
-            limits_met: none(),
-            busy: [none(), none(), none(), none(), none()],
-            clashes: none(),
+            came: zero(),
+            limits_met: zero(),
+            busy: [zero(), zero(), zero(), zero(), zero()],
+            clashes: zero(),
         }
     }
 
@@ -40,7 +53,7 @@ impl HoldGate {
         let clashes = self.clashes.load(Ordering::SeqCst);
         let came = self.came.load(Ordering::SeqCst);
         let held = self.held;
-        assert_eq!(rt; (limits_met, clashes, came), (0, 0, calls), "{held:?} held");
+        expect_eq(rt, &(held, limits_met, clashes, came), &(held, 0, 0, calls));
     }
 
     fn hold(&self) {
@@ -49,21 +62,21 @@ impl HoldGate {
                 return;
             }
         }
-        self.limits_met.fetch_add(1, Ordering::SeqCst);
+        count(&self.limits_met);
     }
 }
 
 impl Gate for HoldGate {
     fn pass(&self, worker: u32, system: u32) {
         if worker > 4 || worker >= self.workers || system > 4 {
-            self.clashes.fetch_add(1, Ordering::SeqCst);
+            count(&self.clashes);
             return;
         }
         let busy = &self.busy[worker as usize];
         if busy.swap(1, Ordering::SeqCst) != 0 {
-            self.clashes.fetch_add(1, Ordering::SeqCst);
+            count(&self.clashes);
         }
-        self.came.fetch_add(1, Ordering::SeqCst);
+        count(&self.came);
         if self.held[system as usize] {
             self.hold();
         }
@@ -81,15 +94,15 @@ pub struct OneByOne {
 impl OneByOne {
     pub fn new() -> OneByOne {
         OneByOne {
-            calls: AtomicU64::new(0),
-            others: AtomicU64::new(0),
+            calls: zero(),
+            others: zero(),
         }
     }
 
     /// It was called `calls` times, each time for worker 0 and the next system.
     pub fn expect_calls(&self, rt: &impl Abort, calls: u64) {
-        assert_eq!(rt; self.calls.load(Ordering::SeqCst), calls);
-        assert_eq!(rt; self.others.load(Ordering::SeqCst), 0);
+        expect_count(rt, &self.calls, calls);
+        expect_count(rt, &self.others, 0);
     }
 }
 
@@ -97,7 +110,7 @@ impl Gate for OneByOne {
     fn pass(&self, worker: u32, system: u32) {
         let before = self.calls.fetch_add(1, Ordering::SeqCst);
         if worker != 0 || system as u64 != before {
-            self.others.fetch_add(1, Ordering::SeqCst);
+            count(&self.others);
         }
     }
 }
@@ -115,21 +128,21 @@ impl MeetGate {
     pub fn new(awaited: u64) -> MeetGate {
         MeetGate {
             awaited,
-            came: AtomicU64::new(0),
-            alone: AtomicU64::new(0),
+            came: zero(),
+            alone: zero(),
         }
     }
 
     /// `calls` calls came and no more, and each saw all that it awaited.
     pub fn expect_met(&self, rt: &impl Abort, calls: u64) {
-        assert_eq!(rt; self.came.load(Ordering::SeqCst), calls);
-        assert_eq!(rt; self.alone.load(Ordering::SeqCst), 0);
+        expect_count(rt, &self.came, calls);
+        expect_count(rt, &self.alone, 0);
     }
 }
 
 impl Gate for MeetGate {
     fn pass(&self, _worker: u32, _system: u32) {
-        self.came.fetch_add(1, Ordering::SeqCst);
+        count(&self.came);
         for _ in 0..2_000_000u64 {
             let (came, alone) = (&self.came, &self.alone);
             if came.load(Ordering::SeqCst) >= self.awaited || alone.load(Ordering::SeqCst) > 0 {
@@ -137,7 +150,7 @@ impl Gate for MeetGate {
             }
             yield_now();
         }
-        self.alone.fetch_add(1, Ordering::SeqCst);
+        count(&self.alone);
     }
 }
 
@@ -153,15 +166,15 @@ impl<'a> FirstGate<'a> {
     pub fn new(runs: &'a AtomicU64) -> FirstGate<'a> {
         FirstGate {
             runs,
-            calls: AtomicU64::new(0),
-            late: AtomicU64::new(0),
+            calls: zero(),
+            late: zero(),
         }
     }
 
     /// It was called `calls` times, each time before the run that it was called for.
     pub fn expect_first(&self, rt: &impl Abort, calls: u64) {
-        assert_eq!(rt; self.calls.load(Ordering::SeqCst), calls);
-        assert_eq!(rt; self.late.load(Ordering::SeqCst), 0);
+        expect_count(rt, &self.calls, calls);
+        expect_count(rt, &self.late, 0);
     }
 }
 
@@ -169,7 +182,7 @@ impl Gate for FirstGate<'_> {
     fn pass(&self, _worker: u32, _system: u32) {
         let runs = self.runs.load(Ordering::SeqCst);
         if runs > self.calls.fetch_add(1, Ordering::SeqCst) {
-            self.late.fetch_add(1, Ordering::SeqCst);
+            count(&self.late);
         }
     }
 }

@@ -3,12 +3,12 @@ ghost use Rattle.msg_exec.specs.Prelude.{IsEngine};
 ghost use Rattle.msg_world.specs.Prelude.{i64_values};
 
 use crate::expecting::{posted, replies_of};
-use crate::making::{NUMBERS, frame_of, run_frames};
+use crate::making::{NUMBERS, add, engine_over, frame_of, run_frames};
 use msg_buffer::Written;
 use msg_exec::{EngineBuilder, EngineOf, Log, NoGate};
 use msg_part_tests::numbers::{res_no, type_no};
+use msg_part_tests::outcome::expect_eq;
 use msg_system::{Numbered, Relay, Reply, Start, SystemOf, Tally, Took};
-use msg_world::World;
 use std::alloc::Global;
 use std::panic::Expect;
 use std::process::Abort;
@@ -23,10 +23,8 @@ fn engine_of_late<S: Numbered + SystemOf<Value = i64>>(
     ensures engine { IsEngine i64_values S.meaning result }
 {
     let mut systems = EngineBuilder::new(alloc);
-    let added = systems.add_system(system, Vec::new(alloc), 3);
-    added.expect(rt, "a system");
-    let world = World::new(alloc, &[10, 10], &[7]).expect(rt, "a world");
-    systems.build(world).expect(rt, "an engine")
+    add(rt, &mut systems, system, Vec::new(alloc), 3);
+    engine_over(rt, alloc, systems, &[10, 10], &[7])
 }
 
 /// Runs three frames, of which each posts a message, and gives the log of the third.
@@ -39,18 +37,26 @@ fn third_log<R: Threads + Sync + Abort, S: SystemOf<Value = i64> + Send>(
     requires engine { IsEngine i64_values S.meaning engine.old }
 {
     let t = type_no(0);
-    let frames = [1, 2, 3].map(|value| frame_of(rt, alloc, &[(t, value)]));
+    let frames = [
+        frame_of(rt, alloc, &[(t, 1)]),
+        frame_of(rt, alloc, &[(t, 2)]),
+        frame_of(rt, alloc, &[(t, 3)]),
+    ];
     let mut logs = Vec::new(alloc);
     let ran = run_frames(rt, engine, &frames, number, &NoGate, &mut logs);
     ran.expect(rt, "frames");
-    assert_eq!(rt; logs.len(), 3);
+    expect_eq(rt, &logs.len(), &3);
     logs.pop().expect(rt, "a log")
 }
 
 /// The first message was missed, and the two others were read.
 fn expect_took(rt: &impl Abort, took: &Took) {
-    assert_eq!(rt; (took.missed, took.first), (1, 1));
-    assert_eq!(rt; took.items.as_slice(), [posted(2), posted(3)].as_slice());
+    expect_eq(rt, &(took.missed, took.first), &(1, 1));
+    expect_eq(
+        rt,
+        &took.items.as_slice(),
+        &[posted(2), posted(3)].as_slice(),
+    );
 }
 
 fn expect_forwarded<R: Threads + Sync + Abort>(rt: &R, alloc: Global, number: u32) {
@@ -61,7 +67,7 @@ fn expect_forwarded<R: Threads + Sync + Abort>(rt: &R, alloc: Global, number: u3
         panic!(rt; "a forward")
     };
     expect_took(rt, took);
-    assert_eq!(rt; *wrote, Some(Written { first: 0, n: 2 }));
+    expect_eq(rt, wrote, &Some(Written { first: 0, n: 2 }));
 }
 
 fn expect_summed<R: Threads + Sync + Abort>(rt: &R, alloc: Global, number: u32) {
@@ -72,7 +78,7 @@ fn expect_summed<R: Threads + Sync + Abort>(rt: &R, alloc: Global, number: u32) 
         panic!(rt; "a sum")
     };
     expect_took(rt, took);
-    assert_eq!(rt; *value, 12);
+    expect_eq(rt, value, &12);
 }
 
 #[test]

@@ -3,30 +3,48 @@
 // values in a batch, 1,024 posts and 100,000; frames up to the last that a system may join with, and
 // a million; all workers; an order longer than there can be systems; and a read of the greatest
 // limit.
+ghost use Rattle.std.specs.Prelude.{◌<◌};
 ghost use Rattle.msg_exec.specs.Prelude.{IsEngine};
 ghost use Rattle.msg_world.specs.Prelude.{i64_values};
 
 use crate::expecting::{by, expect_frame, posted, read, replies_of, wrote};
-use crate::making::{engine_of, frame_of, quiet, readers, replay, run_frame, run_frames, script};
+use crate::making::{
+    add, engine_of, engine_over, frame_of, quiet, reader, readers, replay, run_frame, run_frames,
+    scripted,
+};
 use msg_exec::{
     EngineBuilder, EngineOf, Frame, Items, LAST_JOIN, Log, MAX_WORKERS, NoGate, Outcome, RunFault,
+    Turn,
 };
 use msg_order::Rule;
 use msg_part_tests::numbers::{res_no, type_no};
+use msg_part_tests::outcome::expect_eq;
 use msg_system::{Condition, MAX_OPS, Op, Probe, Reply, Scripted, Start, SystemOf};
-use msg_world::{MAX_RESOURCES, MAX_SYSTEMS, MAX_TYPES, Record, TypeNo, World};
+use msg_world::{MAX_RESOURCES, MAX_SYSTEMS, MAX_TYPES, Record, World};
 use std::alloc::Global;
 use std::panic::Expect;
 use std::process::Abort;
 use std::thread::Threads;
 
+/// Three systems that read with no limit, with none to read, and with one.
+fn limited(rt: &impl Abort, alloc: Global) -> EngineOf<Scripted>
+    ensures engine { IsEngine i64_values ⟦<Scripted as SystemOf>⟧.meaning result }
+{
+    let t = type_no(0);
+    let ops = [
+        Op::Read(t, Some(u64::MAX)),
+        Op::Read(t, Some(0)),
+        Op::Read(t, Some(1)),
+    ];
+    engine_of(rt, alloc, &[u64::MAX], &ops, &[]).expect(rt, "an engine")
+}
+
 /// A read asks for room for what is unread, however great its limit is.
 #[test]
 fn a_read_of_the_greatest_limit(rt: HostRuntime) {
     let (alloc, t) = (rt.alloc(), type_no(0));
-    let ops = [Some(u64::MAX), Some(0), Some(1)].map(|limit| Op::Read(t, limit));
+    let mut engine = limited(&rt, alloc);
     let frame = frame_of(&rt, alloc, &[(t, 5), (t, 6)]);
-    let mut engine = engine_of(&rt, alloc, &[u64::MAX], &ops, &[]).expect(&rt, "an engine");
     let both = [posted(5), posted(6)];
     let steps = [read(0, 0, &both), read(1, 0, &[]), read(2, 0, &both[..1])];
     expect_frame(&rt, &mut engine, &frame, 1, &[0, 1], &steps);
@@ -34,46 +52,57 @@ fn a_read_of_the_greatest_limit(rt: HostRuntime) {
     expect_frame(&rt, &mut engine, &quiet(alloc), 1, &[], &steps);
 }
 
+/// A script that writes each type that may be.
+fn writes_of_all(rt: &impl Abort, alloc: Global) -> Scripted {
+    let mut ops = Vec::new(alloc);
+    for number in 0..MAX_TYPES as u32 {
+        let op = Op::Write(type_no(number), number as i64 + 100);
+        ops.push(op).expect(rt, "an op");
+    }
+    scripted(rt, alloc, &ops, Start::Zero)
+}
+
+/// A script that sets each resource that may be.
+fn sets_of_all(rt: &impl Abort, alloc: Global) -> Scripted {
+    let mut ops = Vec::new(alloc);
+    for number in 0..MAX_RESOURCES as u32 {
+        let op = Op::Set(res_no(number), number as i64 + 100);
+        ops.push(op).expect(rt, "an op");
+    }
+    scripted(rt, alloc, &ops, Start::Zero)
+}
+
 /// An engine of a script that writes each type that may be, and of one that sets each resource.
 fn writers_of_all(rt: &impl Abort, alloc: Global) -> EngineOf<Scripted>
     ensures engine { IsEngine i64_values ⟦<Scripted as SystemOf>⟧.meaning result }
 {
-    let (mut writes, mut sets) = (Vec::new(alloc), Vec::new(alloc));
-    for number in 0..MAX_TYPES as u32 {
-        let value = number as i64 + 100;
-        writes
-            .push(Op::Write(type_no(number), value))
-            .expect(rt, "an op");
-        sets.push(Op::Set(res_no(number), value))
-            .expect(rt, "an op");
-    }
     let mut systems = EngineBuilder::new(alloc);
-    for ops in [writes, sets] {
-        let script = script(rt, alloc, &ops, Start::Zero).expect(rt, "a script");
-        systems
-            .add_system(script, Vec::new(alloc), 1)
-            .expect(rt, "a system");
-    }
-    let world = World::new(alloc, &[1; MAX_TYPES], &[7; MAX_RESOURCES]).expect(rt, "a world");
-    systems.build(world).expect(rt, "an engine")
+    let (writes, sets) = (writes_of_all(rt, alloc), sets_of_all(rt, alloc));
+    add(rt, &mut systems, writes, Vec::new(alloc), 1);
+    add(rt, &mut systems, sets, Vec::new(alloc), 1);
+    engine_over(rt, alloc, systems, &[1; MAX_TYPES], &[7; MAX_RESOURCES])
+}
+
+/// The type of this number has just one message, of this value.
+fn expect_written(rt: &impl Abort, world: &World, number: u32, value: i64)
+    requires below { number < MAX_TYPES }
+{
+    let Some(messages) = world.messages(type_no(number)) else {
+        panic!(rt; "type {number} is home")
+    };
+    let [written] = messages.current() else {
+        panic!(rt; "one message of type {number}")
+    };
+    expect_eq(rt, &(number, written.message), &(number, by(0, value)));
 }
 
 /// Each type and each resource has what was written to it.
 fn expect_all_written(rt: &impl Abort, world: &World) {
     for number in 0..MAX_TYPES as u32 {
         let value = number as i64 + 100;
-        let Some(messages) = world.messages(type_no(number)) else {
-            panic!(rt; "type {number} is home")
-        };
-        let [written] = messages.current() else {
-            panic!(rt; "one message of type {number}")
-        };
-        assert_eq!(rt; written.message, by(0, value), "type {number}");
-        assert_eq!(rt;
-            world.resource(res_no(number)),
-            Some(value),
-            "resource {number}"
-        );
+        expect_written(rt, world, number, value);
+        let set = world.resource(res_no(number));
+        expect_eq(rt, &(number, set), &(number, Some(value)));
     }
 }
 
@@ -83,8 +112,8 @@ fn types_resources_and_ops(rt: HostRuntime) {
     let mut engine = writers_of_all(&rt, rt.alloc());
     let log = run_frame(&rt, &mut engine, &quiet(rt.alloc()), 2, &NoGate);
     let log = log.expect(&rt, "a frame");
-    assert_eq!(rt; replies_of(&rt, &log, 0).len(), MAX_OPS);
-    assert_eq!(rt; replies_of(&rt, &log, 1).len(), MAX_OPS);
+    expect_eq(&rt, &replies_of(&rt, &log, 0).len(), &MAX_OPS);
+    expect_eq(&rt, &replies_of(&rt, &log, 1).len(), &MAX_OPS);
     match engine.world() {
         Some(world) => expect_all_written(&rt, world),
         None => panic!(rt; "a world"),
@@ -98,7 +127,7 @@ fn systems_on_64_workers(rt: HostRuntime) {
     let mut engine = readers(&rt, alloc, MAX_SYSTEMS as u32);
     let frame = frame_of(&rt, alloc, &[(t, 5)]);
     let log = run_frame(&rt, &mut engine, &frame, MAX_WORKERS, &NoGate).expect(&rt, "a frame");
-    assert_eq!(rt; log.turns.as_slice().len(), MAX_SYSTEMS);
+    expect_eq(&rt, &log.turns.as_slice().len(), &MAX_SYSTEMS);
     for place in 0..MAX_SYSTEMS {
         expect_took(&rt, replies_of(&rt, &log, place), posted(5));
     }
@@ -109,8 +138,8 @@ fn expect_took(rt: &impl Abort, replies: &[Reply], record: Record) {
     let [Reply::Read(took)] = replies else {
         panic!(rt; "a read")
     };
-    assert_eq!(rt; (took.missed, took.first), (0, 0));
-    assert_eq!(rt; took.items.as_slice(), [record].as_slice());
+    expect_eq(rt, &(took.missed, took.first), &(0, 0));
+    expect_eq(rt, &took.items.as_slice(), &[record].as_slice());
 }
 
 /// 1,024 rules, by which each of `MAX_SYSTEMS` systems runs after those with a greater number.
@@ -138,8 +167,16 @@ fn backwards(rt: &impl Abort, alloc: Global) -> EngineOf<Scripted>
     }
     ops.push(Op::Write(t, 5)).expect(rt, "an op");
     let rules = rules_backwards(rt, alloc);
-    assert_eq!(rt; rules.len(), 1024);
+    expect_eq(rt, &rules.len(), &1024);
     engine_of(rt, alloc, &[10], &ops, &rules).expect(rt, "an engine")
+}
+
+/// These are the turns of all systems, from the last to the first.
+fn expect_backwards(rt: &impl Abort, turns: &[Turn]) {
+    expect_eq(rt, &turns.len(), &MAX_SYSTEMS);
+    for (turn, system) in turns.iter().zip((0..MAX_SYSTEMS as u32).rev()) {
+        expect_eq(rt, &turn.system, &system);
+    }
 }
 
 /// The systems run from the last to the first, and read what the last wrote.
@@ -148,22 +185,11 @@ fn systems_and_rules(rt: HostRuntime) {
     let mut engine = backwards(&rt, rt.alloc());
     let log = run_frame(&rt, &mut engine, &quiet(rt.alloc()), MAX_WORKERS, &NoGate);
     let log = log.expect(&rt, "a frame");
-    assert_eq!(rt; log.turns.as_slice().len(), MAX_SYSTEMS);
-    for (turn, system) in log
-        .turns
-        .as_slice()
-        .iter()
-        .zip((0..MAX_SYSTEMS as u32).rev())
-    {
-        assert_eq!(rt; turn.system, system);
-    }
+    expect_backwards(&rt, log.turns.as_slice());
     assert!(rt; matches!(replies_of(&rt, &log, 0), [Reply::Wrote(_)]));
+    let written = by(MAX_SYSTEMS as u32 - 1, 5);
     for place in 1..MAX_SYSTEMS {
-        expect_took(
-            &rt,
-            replies_of(&rt, &log, place),
-            by(MAX_SYSTEMS as u32 - 1, 5),
-        );
+        expect_took(&rt, replies_of(&rt, &log, place), written);
     }
 }
 
@@ -183,13 +209,19 @@ fn guarded(rt: &impl Abort, alloc: Global) -> EngineOf<Scripted>
 {
     let probe = Probe::OnMessage(type_no(0));
     let conditions = Vec::from_elem(alloc, Condition { nots: 16, probe }, 8);
-    let reader = script(rt, alloc, &[Op::Read(type_no(0), None)], Start::Zero);
-    let mut systems = EngineBuilder::new(alloc);
     let conditions = conditions.expect(rt, "conditions");
-    let added = systems.add_system(reader.expect(rt, "a script"), conditions, 1);
-    added.expect(rt, "a system");
-    let world = World::new(alloc, &[10], &[]).expect(rt, "a world");
-    systems.build(world).expect(rt, "an engine")
+    let mut systems = EngineBuilder::new(alloc);
+    let reader = reader(rt, alloc, Start::Zero);
+    add(rt, &mut systems, reader, conditions, 1);
+    engine_over(rt, alloc, systems, &[10], &[])
+}
+
+/// The one system was skipped.
+fn expect_skipped(rt: &impl Abort, log: &Log) {
+    let [turn] = log.turns.as_slice() else {
+        panic!(rt; "one turn")
+    };
+    assert!(rt; turn.outcome == Outcome::Skipped);
 }
 
 #[test]
@@ -197,19 +229,9 @@ fn conditions_and_nots(rt: HostRuntime) {
     let (alloc, t) = (rt.alloc(), type_no(0));
     let mut engine = guarded(&rt, alloc);
     let log = run_frame(&rt, &mut engine, &quiet(alloc), 1, &NoGate).expect(&rt, "a frame");
-    let [turn] = log.turns.as_slice() else {
-        panic!(rt; "one turn")
-    };
-    assert!(rt; turn.outcome == Outcome::Skipped);
-    let frame = frame_of(&rt, alloc, &[(t, 5)]);
-    expect_frame(
-        &rt,
-        &mut engine,
-        &frame,
-        1,
-        &[0],
-        &[read(0, 0, &[posted(5)])],
-    );
+    expect_skipped(&rt, &log);
+    let (frame, five) = (frame_of(&rt, alloc, &[(t, 5)]), [posted(5)]);
+    expect_frame(&rt, &mut engine, &frame, 1, &[0], &[read(0, 0, &five)]);
 }
 
 /// A frame with so many posts, from 0 on.
@@ -237,30 +259,40 @@ fn expect_all(rt: &impl Abort, items: &[Record], number: u32) {
     assert_eq!(rt; items.len(), number as usize + 1_024);
     let (posts, batch) = items.split_at(number as usize);
     for (item, value) in posts.iter().zip(0..number) {
-        assert_eq!(rt; *item, posted(value as i64));
+        expect_eq(rt, item, &posted(value as i64));
     }
     for (item, value) in batch.iter().zip(0..1_024) {
-        assert_eq!(rt; *item, by(0, value));
+        expect_eq(rt, item, &by(0, value));
     }
 }
 
 /// The first system wrote the batch after these posts; the second read all, and the third drained
 /// all.
 fn expect_posts_and_batch(rt: &impl Abort, log: &Log, number: u32) {
-    assert_eq!(rt; log.posts.as_slice().len(), number as usize);
-    let [Reply::Wrote(written)] = replies_of(rt, log, 0) else {
-        panic!(rt; "a batch")
-    };
-    assert_eq!(rt; (written.first, written.n), (number as u64, 1_024));
-    let [Reply::Read(took)] = replies_of(rt, log, 1) else {
-        panic!(rt; "a read")
-    };
-    assert_eq!(rt; (took.missed, took.first), (0, 0));
-    expect_all(rt, took.items.as_slice(), number);
+    expect_eq(rt, &log.posts.as_slice().len(), &(number as usize));
+    expect_batch(rt, replies_of(rt, log, 0), number);
+    expect_read_of_all(rt, replies_of(rt, log, 1), number);
     let [Reply::Drained { first: 0, items }] = replies_of(rt, log, 2) else {
         panic!(rt; "a drain")
     };
     expect_all(rt, items.as_slice(), number);
+}
+
+/// A batch was written after so many posts.
+fn expect_batch(rt: &impl Abort, replies: &[Reply], number: u32) {
+    let [Reply::Wrote(written)] = replies else {
+        panic!(rt; "a batch")
+    };
+    expect_eq(rt, &(written.first, written.n), &(number as u64, 1_024));
+}
+
+/// So many posts and the batch were read.
+fn expect_read_of_all(rt: &impl Abort, replies: &[Reply], number: u32) {
+    let [Reply::Read(took)] = replies else {
+        panic!(rt; "a read")
+    };
+    expect_eq(rt, &(took.missed, took.first), &(0, 0));
+    expect_all(rt, took.items.as_slice(), number);
 }
 
 fn expect_many<R: Threads + Sync + Abort>(rt: &R, alloc: Global, number: u32) {
@@ -284,12 +316,10 @@ fn posts_and_values(rt: HostRuntime) {
 fn last_joining(rt: &impl Abort, alloc: Global) -> EngineOf<Scripted>
     ensures engine { IsEngine i64_values ⟦<Scripted as SystemOf>⟧.meaning result }
 {
-    let reader = script(rt, alloc, &[Op::Read(type_no(0), None)], Start::Current);
     let mut systems = EngineBuilder::new(alloc);
-    let added = systems.add_system(reader.expect(rt, "a script"), Vec::new(alloc), LAST_JOIN);
-    added.expect(rt, "a system");
-    let world = World::new(alloc, &[10], &[]).expect(rt, "a world");
-    systems.build(world).expect(rt, "an engine")
+    let reader = reader(rt, alloc, Start::Current);
+    add(rt, &mut systems, reader, Vec::new(alloc), LAST_JOIN);
+    engine_over(rt, alloc, systems, &[10], &[])
 }
 
 /// Runs so many frames in one call. None but the last of them has a turn.
@@ -302,19 +332,31 @@ fn expect_frames<R: Threads + Sync + Abort>(
     requires engine { IsEngine i64_values ⟦<Scripted as SystemOf>⟧.meaning engine.old }
     ensures engine { IsEngine i64_values ⟦<Scripted as SystemOf>⟧.meaning engine.new }
 {
-    let (mut frames, mut logs) = (Vec::new(alloc), Vec::new(alloc));
+    let (frames, mut logs) = (quiet_frames(rt, alloc, number), Vec::new(alloc));
+    let ran = run_frames(rt, engine, &frames, 2, &NoGate, &mut logs);
+    ran.expect(rt, "frames");
+    expect_eq(rt, &engine.frames_run(), &number);
+    expect_last(rt, &logs, number);
+}
+
+fn quiet_frames(rt: &impl Abort, alloc: Global, number: u32) -> Vec<Frame> {
+    let mut frames = Vec::new(alloc);
     for _frame in 0..number {
         frames.push(quiet(alloc)).expect(rt, "a frame");
     }
-    let ran = run_frames(rt, engine, &frames, 2, &NoGate, &mut logs);
-    ran.expect(rt, "frames");
-    assert_eq!(rt;
-        (logs.len(), engine.frames_run()),
-        (number as usize, number)
-    );
-    let last = logs.pop().expect(rt, "a log");
-    assert_eq!(rt; last.turns.as_slice().len(), 1);
-    assert!(rt; logs.iter().all(|log| log.turns.as_slice().is_empty()));
+    frames
+}
+
+/// There are so many logs. None but the last of them has a turn.
+fn expect_last(rt: &impl Abort, logs: &[Log], number: u32) {
+    expect_eq(rt, &logs.len(), &(number as usize));
+    let [before @ .., last] = logs else {
+        panic!(rt; "a log")
+    };
+    expect_eq(rt, &last.turns.as_slice().len(), &1);
+    for log in before {
+        assert!(rt; log.turns.as_slice().is_empty());
+    }
 }
 
 /// Runs so many frames, one after the other, and gives each log back.
@@ -339,7 +381,7 @@ fn run_and_recycle<R: Threads + Sync + Abort, S: SystemOf<Value = i64> + Send>(
 fn a_million_frames(rt: HostRuntime) {
     let mut engine = readers(&rt, rt.alloc(), 0);
     run_and_recycle(&rt, rt.alloc(), &mut engine, 1_000_001);
-    assert_eq!(rt; engine.frames_run(), 1_000_001);
+    expect_eq(&rt, &engine.frames_run(), &1_000_001);
 }
 
 /// Frames up to the last that a system may join with, with which one joins, and one more.
@@ -348,14 +390,7 @@ fn frames_and_a_join(rt: HostRuntime) {
     let (alloc, t) = (rt.alloc(), type_no(0));
     let mut engine = last_joining(&rt, alloc);
     expect_frames(&rt, alloc, &mut engine, LAST_JOIN);
-    let frame = frame_of(&rt, alloc, &[(t, 5)]);
-    expect_frame(
-        &rt,
-        &mut engine,
-        &frame,
-        2,
-        &[0],
-        &[read(0, 0, &[posted(5)])],
-    );
-    assert_eq!(rt; engine.frames_run(), LAST_JOIN + 1);
+    let (frame, five) = (frame_of(&rt, alloc, &[(t, 5)]), [posted(5)]);
+    expect_frame(&rt, &mut engine, &frame, 2, &[0], &[read(0, 0, &five)]);
+    expect_eq(&rt, &engine.frames_run(), &(LAST_JOIN + 1));
 }

@@ -1,5 +1,5 @@
 // Engines and frames for tests, and the calls that run them.
-ghost use Rattle.std.specs.Prelude.{IfOk};
+ghost use Rattle.std.specs.Prelude.{◌≤◌, IfOk, length};
 ghost use Rattle.msg_exec.specs.Prelude.{IsEngine};
 ghost use Rattle.msg_world.specs.Prelude.{i64_values};
 
@@ -7,15 +7,24 @@ use msg_buffer::NoMemory;
 use msg_exec::{BuildError, EngineBuilder, EngineOf, Frame, Gate, Log, RunFault, Workers};
 use msg_order::Rule;
 use msg_part_tests::numbers::type_no;
-use msg_system::{Items, MAX_OPS, Op, Program, Scripted, Start, SystemOf};
-use msg_world::{MAX_TYPES, TypeNo, Value, World};
+use msg_system::{Condition, Items, MAX_OPS, Numbered, Op, Program, Scripted, Start, SystemOf};
+use msg_world::{MAX_RESOURCES, MAX_TYPES, TypeNo, Value, World};
 use std::alloc::Global;
 use std::panic::Expect;
 use std::process::Abort;
+use std::slice;
 use std::thread::Threads;
 
 /// How many workers the worked runs are run on.
 pub const NUMBERS: [u32; 4] = [1, 2, 7, 64];
+
+fn copies<V: Value>(alloc: Global, ops: &[Op<V>]) -> Result<Vec<Op<V>>, NoMemory> {
+    let mut copies = Vec::with_capacity(alloc, ops.len())?;
+    for op in ops {
+        copies.push(op.copy(alloc)?)?;
+    }
+    Ok(copies)
+}
 
 /// A script of these ops.
 pub fn script<V: Value>(
@@ -24,13 +33,53 @@ pub fn script<V: Value>(
     ops: &[Op<V>],
     start: Start,
 ) -> Result<Scripted<V>, NoMemory> {
-    let mut copies = Vec::with_capacity(alloc, ops.len())?;
-    for op in ops {
-        copies.push(op.copy(alloc)?)?;
-    }
-    let ops = Items::from_vec(copies);
+    let ops = Items::from_vec(copies(alloc, ops)?);
     assert!(rt; ops.as_slice().len() <= MAX_OPS);
     Ok(Scripted::new(Program { ops, start }, 0))
+}
+
+/// A script of these ops, if there is memory for it.
+pub fn scripted<V: Value>(
+    rt: &impl Abort,
+    alloc: Global,
+    ops: &[Op<V>],
+    start: Start,
+) -> Scripted<V> {
+    script(rt, alloc, ops, start).expect(rt, "a script")
+}
+
+/// A script that reads the first type.
+pub fn reader(rt: &impl Abort, alloc: Global, start: Start) -> Scripted {
+    scripted(rt, alloc, &[Op::Read(type_no(0), None)], start)
+}
+
+/// Adds a system.
+pub fn add<V: Value, S: Numbered + SystemOf<Value = V>>(
+    rt: &impl Abort,
+    systems: &mut EngineBuilder<S, V>,
+    system: S,
+    conditions: Vec<Condition<V>>,
+    join: u32,
+) {
+    systems
+        .add_system(system, conditions, join)
+        .expect(rt, "a system");
+}
+
+/// An engine of these systems, over types of these limits and over these resources.
+pub fn engine_over<V: Value, S: Numbered + SystemOf<Value = V>>(
+    rt: &impl Abort,
+    alloc: Global,
+    systems: EngineBuilder<S, V>,
+    limits: &[u64],
+    resources: &[V],
+) -> EngineOf<S, V>
+    requires types { length limits.now ≤ MAX_TYPES }
+    requires resources { length resources.now ≤ MAX_RESOURCES }
+    ensures engine { IsEngine V.values S.meaning result }
+{
+    let world = World::new(alloc, limits, resources).expect(rt, "a world");
+    systems.build(world).expect(rt, "an engine")
 }
 
 /// Scripts of one op each, and these rules.
@@ -41,14 +90,25 @@ pub fn scripts(
     rules: &[Rule],
 ) -> Result<EngineBuilder<Scripted>, BuildError> {
     let mut systems = EngineBuilder::new(alloc);
-    for op in ops {
-        let script = script(rt, alloc, &[op.copy(alloc)?], Start::Zero)?;
-        systems.add_system(script, Vec::new(alloc), 1)?;
-    }
+    add_scripts(rt, alloc, &mut systems, ops)?;
     for rule in rules {
         systems.add_rule(*rule)?;
     }
     Ok(systems)
+}
+
+/// Adds a script of each of these ops.
+fn add_scripts(
+    rt: &impl Abort,
+    alloc: Global,
+    systems: &mut EngineBuilder<Scripted>,
+    ops: &[Op],
+) -> Result<(), BuildError> {
+    for op in ops {
+        let script = script(rt, alloc, slice::from_ref(op), Start::Zero)?;
+        systems.add_system(script, Vec::new(alloc), 1)?;
+    }
+    Ok(())
 }
 
 /// An engine of scripts of one op each, over types of these limits.
@@ -72,12 +132,10 @@ pub fn readers(rt: &impl Abort, alloc: Global, number: u32) -> EngineOf<Scripted
 {
     let mut systems = EngineBuilder::new(alloc);
     for _ in 0..number {
-        let reader = script(rt, alloc, &[Op::Read(type_no(0), None)], Start::Zero);
-        let added = systems.add_system(reader.expect(rt, "a script"), Vec::new(alloc), 1);
-        added.expect(rt, "a system");
+        let reader = reader(rt, alloc, Start::Zero);
+        add(rt, &mut systems, reader, Vec::new(alloc), 1);
     }
-    let world = World::new(alloc, &[10], &[]).expect(rt, "a world");
-    systems.build(world).expect(rt, "an engine")
+    engine_over(rt, alloc, systems, &[10], &[])
 }
 
 /// A frame with these posts.

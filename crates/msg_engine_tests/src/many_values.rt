@@ -4,11 +4,12 @@ ghost use Rattle.std.specs.Prelude.{◌≡◌, length};
 ghost use Rattle.msg_exec.specs.Prelude.{IsEngine};
 
 use crate::game_values::{Blow, Force};
-use crate::making::{NUMBERS, replay, run_frame, script};
+use crate::making::{NUMBERS, add, engine_over, replay, run_frame, scripted};
 use msg_exec::{EngineBuilder, EngineOf, Frame, Log, NoGate, Outcome};
 use msg_part_tests::numbers::{res_no, type_no};
+use msg_part_tests::outcome::expect_eq;
 use msg_system::{Condition, Items, Op, Probe, Reply, Scripted, Start, SystemOf, Took};
-use msg_world::{HOST, Record, Value, World};
+use msg_world::{HOST, Record, ResNo, Value};
 use std::alloc::Global;
 use std::fmt::Debug;
 use std::panic::Expect;
@@ -34,7 +35,7 @@ fn only<T: Drop>(rt: &impl Abort, alloc: Global, item: T) -> Vec<T>
 }
 
 /// Adds a script of this op. One that joins late starts at what is written then.
-fn add<V: Value>(
+fn add_script<V: Value>(
     rt: &impl Abort,
     alloc: Global,
     systems: &mut EngineBuilder<Scripted<V>, V>,
@@ -48,9 +49,8 @@ fn add<V: Value>(
         Start::Current
     };
     let ops = only(rt, alloc, op);
-    let system = script(rt, alloc, &ops, start).expect(rt, "a script");
-    let added = systems.add_system(system, conditions, join);
-    added.expect(rt, "a system");
+    let script = scripted(rt, alloc, &ops, start);
+    add(rt, systems, script, conditions, join);
 }
 
 /// System 0 writes a message, 1 reads while the resource is as it was, 2 adds all messages to the
@@ -59,24 +59,25 @@ fn engine_of<V: Value>(rt: &impl Abort, alloc: Global, run: &Run<V>) -> EngineOf
     ensures engine { IsEngine V.values ⟦<Scripted<V> as SystemOf>⟧.meaning result }
 {
     let (t, r) = (type_no(0), res_no(0));
-    let as_it_was = Condition {
-        nots: 0,
-        probe: Probe::ResourceEquals(r, run.resource),
-    };
-    let as_it_was = only(rt, alloc, as_it_was);
+    let as_it_was = while_it_is(rt, alloc, r, run.resource);
     let mut systems = EngineBuilder::new(alloc);
     let written = Op::Write(t, run.written);
-    add(rt, alloc, &mut systems, written, Vec::new(alloc), 1);
-    add(rt, alloc, &mut systems, Op::Read(t, None), as_it_was, 1);
-    add(rt, alloc, &mut systems, Op::Sum(t, r), Vec::new(alloc), 1);
+    add_script(rt, alloc, &mut systems, written, Vec::new(alloc), 1);
+    add_script(rt, alloc, &mut systems, Op::Read(t, None), as_it_was, 1);
+    add_script(rt, alloc, &mut systems, Op::Sum(t, r), Vec::new(alloc), 1);
     let again = Op::Forward(t, type_no(1));
-    add(rt, alloc, &mut systems, again, Vec::new(alloc), 3);
+    add_script(rt, alloc, &mut systems, again, Vec::new(alloc), 3);
     let resources = only(rt, alloc, run.resource);
-    let world = World::new(alloc, &[10, 10], &resources).expect(rt, "a world");
-    systems.build(world).expect(rt, "an engine")
+    engine_over(rt, alloc, systems, &[10, 10], &resources)
 }
 
-/// The replies of this system in the log; None where it was skipped.
+/// The condition that this resource has this value.
+fn while_it_is<V: Value>(rt: &impl Abort, alloc: Global, r: ResNo, value: V) -> Vec<Condition<V>> {
+    let probe = Probe::ResourceEquals(r, value);
+    only(rt, alloc, Condition { nots: 0, probe })
+}
+
+/// The replies of this system in the log; None if it was skipped.
 fn replies_of<'a, V: Value>(
     rt: &impl Abort,
     log: &'a Log<V>,
@@ -108,12 +109,16 @@ fn expect_took<V: Value + Debug + PartialEq>(
         writer: 0,
         value: run.written,
     };
-    assert_eq!(rt; (took.missed, took.first), (0, 2u64.saturating_mul(frame)));
+    expect_eq(
+        rt,
+        &(took.missed, took.first),
+        &(0, 2u64.saturating_mul(frame)),
+    );
     let [first, second] = took.items.as_slice() else {
         panic!(rt; "two messages")
     };
-    assert_eq!(rt; *first, posted);
-    assert_eq!(rt; *second, written);
+    expect_eq(rt, first, &posted);
+    expect_eq(rt, second, &written);
 }
 
 /// The resource came to this sum.
@@ -128,7 +133,7 @@ fn expect_sum<V: Value + Debug + PartialEq>(
         panic!(rt; "a sum")
     };
     expect_took(rt, run, frame, took);
-    assert_eq!(rt; *value, sum);
+    expect_eq(rt, value, &sum);
 }
 
 /// The reader ran in the first frame alone, since then the resource was another one.
@@ -151,7 +156,11 @@ fn expect_forward<V: Value + Debug + PartialEq>(rt: &impl Abort, run: &Run<V>, l
         panic!(rt; "a forward")
     };
     expect_took(rt, run, 2, took);
-    assert_eq!(rt; wrote.map(|wrote| (wrote.first, wrote.n)), Some((0, 2)));
+    expect_eq(
+        rt,
+        &wrote.map(|wrote| (wrote.first, wrote.n)),
+        &Some((0, 2)),
+    );
 }
 
 fn expect_log<V: Value + Debug + PartialEq>(

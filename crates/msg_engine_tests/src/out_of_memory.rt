@@ -1,5 +1,5 @@
-// What refused requests for ordinary memory leave of engines. Each test prints `refused` where
-// the call that it tests answered want of memory, and `ample` where it gave its whole answer.
+// What refused requests for ordinary memory leave of engines. Each test prints `refused` if
+// the call that it tests answered want of memory, and `ample` if it gave its whole answer.
 ghost use Rattle.std.specs.Prelude.{◌≡◌, IfOk, Ok};
 ghost use Rattle.msg_world.specs.Prelude.{IsWhole, i64_values};
 ghost use Rattle.msg_exec.specs.Prelude.{IsEngine};
@@ -12,7 +12,7 @@ use msg_exec::{
 };
 use msg_order::Rule;
 use msg_part_tests::numbers::type_no;
-use msg_part_tests::outcome::tell;
+use msg_part_tests::outcome::{expect_eq, tell};
 use msg_system::{Op, Scripted, SystemOf};
 use msg_world::World;
 use std::alloc::Global;
@@ -49,7 +49,7 @@ fn expect_lag(rt: &impl Abort, log: &Log, frame: usize) {
     }
 }
 
-/// Whether a call was refused memory. Where it was, the engine is spoiled after `frames_run`
+/// Whether a call was refused memory. If it was, the engine is spoiled after `frames_run`
 /// frames.
 fn is_refused<R: Threads + Sync + Abort>(
     rt: &R,
@@ -62,7 +62,7 @@ fn is_refused<R: Threads + Sync + Abort>(
 {
     match came {
         Ok(()) => {
-            assert_eq!(rt; engine.frames_run(), frames_run);
+            expect_eq(rt, &engine.frames_run(), &frames_run);
             false
         }
         Err(RunFault::NoMemory) => {
@@ -86,7 +86,7 @@ fn run_two<R: Threads + Sync + Abort>(
     let (frames, mut logs) = ([quiet(alloc), quiet(alloc)], Vec::new(alloc));
     let ran = run_frames(rt, engine, &frames, number, &NoGate, &mut logs);
     let whole = engine.frames_run();
-    assert_eq!(rt; logs.len(), whole as usize);
+    expect_eq(rt, &logs.len(), &(whole as usize));
     assert!(rt; ran.is_err() || whole == 2);
     let is_refused = is_refused(rt, alloc, engine, whole, ran);
     (logs, is_refused)
@@ -221,7 +221,7 @@ fn ran(rt: &impl Abort, came: Result<(), RunFault>) -> Result<(), NoMemory> {
     }
 }
 
-/// Where there is no memory for an engine there is none.
+/// If there is no memory for an engine there is none.
 #[test]
 fn a_new_engine(rt: HostRuntime) -> Result<(), Fail> {
     let (systems, world) = contradictory(&rt, rt.alloc())?;
@@ -247,10 +247,10 @@ fn expect_given(rt: &impl Abort, accounts: &[Account]) {
         cleared: 0,
         place: 1,
     };
-    assert_eq!(rt; accounts, [want].as_slice());
+    expect_eq(rt, &accounts, &[want].as_slice());
 }
 
-/// Where there is no memory for the accounts nothing has changed: a second call gives them.
+/// If there is no memory for the accounts nothing has changed: a second call gives them.
 #[test]
 fn accounts(rt: HostRuntime) -> Result<(), Fail> {
     let mut engine = lagging(&rt, rt.alloc())?;

@@ -2,11 +2,10 @@
 ghost use Rattle.msg_exec.specs.Prelude.{IsEngine};
 ghost use Rattle.msg_world.specs.Prelude.{i64_values};
 
-use crate::making::script;
+use crate::making::{add, engine_over, reader, scripted};
 use msg_exec::{EngineBuilder, EngineOf};
-use msg_part_tests::numbers::type_no;
 use msg_system::{Access, NoMemory, Numbered, Op, Reply, Scripted, Start, SystemOf};
-use msg_world::{Counts, Lent, Taken, TypeNo, World};
+use msg_world::{Counts, Lent, Taken, TypeNo};
 use std::alloc::Global;
 use std::panic::Expect;
 use std::process::Abort;
@@ -105,13 +104,16 @@ pub fn prefaced_readers(
 {
     let mut systems = EngineBuilder::new(alloc);
     for before in all {
-        let system = script(rt, alloc, &[Op::Read(type_no(0), None)], Start::Zero);
-        let system = system.expect(rt, "a script");
-        let added = systems.add_system(Prefaced { system, before }, Vec::new(alloc), 1);
-        added.expect(rt, "a system");
+        let system = reader(rt, alloc, Start::Zero);
+        add(
+            rt,
+            &mut systems,
+            Prefaced { system, before },
+            Vec::new(alloc),
+            1,
+        );
     }
-    let world = World::new(alloc, &[10], &[]).expect(rt, "a world");
-    systems.build(world).expect(rt, "an engine")
+    engine_over(rt, alloc, systems, &[10], &[])
 }
 
 /// That `number` systems count their runs.
@@ -122,8 +124,22 @@ pub fn add_counts(rt: &impl Abort, all: &mut Vec<Before>, number: u32, runs: &Ar
     }
 }
 
+/// A script that notes its runs by this digit.
+fn noting(
+    rt: &impl Abort,
+    system: Scripted,
+    digit: u64,
+    noted: &Arc<AtomicU64>,
+) -> Prefaced<Scripted> {
+    let noted = Arc::try_clone(noted).expect(rt, "a number");
+    Prefaced {
+        system,
+        before: Before::Note { digit, noted },
+    }
+}
+
 /// An engine of noting scripts that join with this frame, each with one op, over a world of one
-/// type. System i notes i + 1, where there are at most nine.
+/// type. System i notes i + 1, if there are at most nine.
 pub fn noting_engine(
     rt: &impl Abort,
     alloc: Global,
@@ -137,14 +153,9 @@ pub fn noting_engine(
     let mut digit = 0;
     for (op, start_at) in ops {
         digit = digit % 9 + 1;
-        let noted = Arc::try_clone(noted).expect(rt, "a number");
-        let noting = Prefaced {
-            system: script(rt, alloc, &[op], start_at).expect(rt, "a script"),
-            before: Before::Note { digit, noted },
-        };
-        let added = systems.add_system(noting, Vec::new(alloc), join);
-        added.expect(rt, "a system");
+        let system = scripted(rt, alloc, &[op], start_at);
+        let noting = noting(rt, system, digit, noted);
+        add(rt, &mut systems, noting, Vec::new(alloc), join);
     }
-    let world = World::new(alloc, &[10], &[]).expect(rt, "a world");
-    systems.build(world).expect(rt, "an engine")
+    engine_over(rt, alloc, systems, &[10], &[])
 }

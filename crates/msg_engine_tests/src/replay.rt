@@ -8,6 +8,7 @@ use crate::prefaced::{Prefaced, noting_engine};
 use msg_buffer::MessageId;
 use msg_exec::{Account, EngineOf, Frame, Log, NoGate, RunFault};
 use msg_part_tests::numbers::type_no;
+use msg_part_tests::outcome::expect_eq;
 use msg_system::{Op, Scripted, Start, SystemOf};
 use msg_world::{Record, TypeNo};
 use std::alloc::Global;
@@ -54,10 +55,19 @@ fn expect_after<S: SystemOf<Value = i64>>(
     numbers: (u64, u64),
     accounts: &[Account],
 ) {
-    assert_eq!(rt; engine.frames_run(), frames);
-    assert_eq!(rt; kept(engine, type_no(0)), Some(numbers));
+    expect_eq(rt, &engine.frames_run(), &frames);
+    expect_eq(rt, &kept(engine, type_no(0)), &Some(numbers));
+    expect_accounts(rt, engine, accounts);
+}
+
+/// These are the accounts of the readers.
+fn expect_accounts<S: SystemOf<Value = i64>>(
+    rt: &impl Abort,
+    engine: &EngineOf<S>,
+    accounts: &[Account],
+) {
     let told = engine.accounts().expect(rt, "accounts");
-    assert_eq!(rt; told.as_slice(), accounts);
+    expect_eq(rt, &told.as_slice(), &accounts);
 }
 
 /// This order is refused.
@@ -120,12 +130,17 @@ fn replay_second<S: SystemOf<Value = i64>>(
     expect_unlawful(rt, engine, &frame, &[1, 0, 2]);
     expect_unlawful(rt, engine, &frame, &[0, 1]);
     expect_unlawful(rt, engine, &frame, &[0, 1, 1]);
-    assert_eq!(rt; noted.load(Ordering::SeqCst), 0);
+    expect_noted(rt, noted, 0);
     expect_after(rt, engine, 1, (0, 1), &[account(1, 1), account(2, 1)]);
     let log = replay(rt, engine, &frame, &[0, 2, 1]).expect(rt, "a frame");
     // System i notes i + 1: systems 0, 2 and 1 ran, in this order.
-    assert_eq!(rt; noted.load(Ordering::SeqCst), 132);
+    expect_noted(rt, noted, 132);
     log
+}
+
+/// The digits that were noted.
+fn expect_noted(rt: &impl Abort, noted: &AtomicU64, digits: u64) {
+    expect_eq(rt, &noted.load(Ordering::SeqCst), &digits);
 }
 
 /// Both logs of the second frame have the same turns, which stand in the order in which they were
@@ -135,26 +150,48 @@ fn expect_same_turns(rt: &impl Abort, ran: &Log, replayed: &Log) {
     let turns = [wrote(0, 1), read(1, 1, &one), read(2, 1, &one)];
     expect_log(rt, ran, &[], &turns);
     expect_log(rt, replayed, &[], &[turns[0], turns[2], turns[1]]);
-    let ([a, b, c], [x, z, y]) = (ran.turns.as_slice(), replayed.turns.as_slice()) else {
-        panic!(rt; "three turns")
-    };
-    assert!(rt; a == x && b == y && c == z);
+    let (ran, replayed) = (ran.turns.as_slice(), replayed.turns.as_slice());
+    for (place, replayed_at) in [(0, 0), (1, 2), (2, 1)] {
+        assert!(rt; ran.get(place) == replayed.get(replayed_at));
+    }
 }
 
 /// Both engines have the same messages of the first type, and tell the same accounts.
 fn expect_alike<S: SystemOf<Value = i64>>(rt: &impl Abort, one: &EngineOf<S>, other: &EngineOf<S>) {
     let t = type_no(0);
-    assert_eq!(rt; kept(one, t), kept(other, t));
+    expect_eq(rt, &kept(one, t), &kept(other, t));
+    expect_ones(rt, one);
+    expect_ones(rt, other);
+    let accounts = other.accounts().expect(rt, "accounts");
+    expect_accounts(rt, one, accounts.as_slice());
+}
+
+/// The first two messages of the first type are 1, by the writer.
+fn expect_ones<S: SystemOf<Value = i64>>(rt: &impl Abort, engine: &EngineOf<S>) {
     for number in 0..2 {
-        assert_eq!(rt; message(one, t, number), Some(by(0, 1)));
-        assert_eq!(rt; message(other, t, number), Some(by(0, 1)));
+        expect_eq(rt, &message(engine, type_no(0), number), &Some(by(0, 1)));
     }
-    let (accounts, others) = (one.accounts(), other.accounts());
-    let (accounts, others) = (
-        accounts.expect(rt, "accounts"),
-        others.expect(rt, "accounts"),
-    );
-    assert_eq!(rt; accounts.as_slice(), others.as_slice());
+}
+
+/// Runs a frame, and replays the next: the first has the first log, and the second the turns of the
+/// second log.
+fn replay_beside<R: Threads + Sync + Abort, S: SystemOf<Value = i64> + Send>(
+    rt: &R,
+    alloc: Global,
+    engine: &mut EngineOf<S>,
+    logs: &[Log],
+    noted: &AtomicU64,
+)
+    requires engine { IsEngine i64_values S.meaning engine.old }
+    ensures engine { IsEngine i64_values S.meaning engine.new }
+{
+    let [first, second] = logs else {
+        panic!(rt; "two logs")
+    };
+    let log = run_frame(rt, engine, &quiet(alloc), 2, &NoGate).expect(rt, "a frame");
+    assert!(rt; log == *first);
+    let log = replay_second(rt, alloc, engine, noted);
+    expect_same_turns(rt, second, &log);
 }
 
 /// Two engines of a writer and two readers. One runs two frames on two workers; the other runs the
@@ -166,13 +203,7 @@ fn a_replayed_frame(rt: HostRuntime) {
     let mut ran = writer_and_readers(&rt, alloc, &noted);
     let mut replayed = writer_and_readers(&rt, alloc, &noted);
     let logs = run_both(&rt, alloc, &mut ran);
-    let log = run_frame(&rt, &mut replayed, &quiet(alloc), 2, &NoGate);
-    let [first, second] = logs.as_slice() else {
-        panic!(rt; "two logs")
-    };
-    assert!(rt; log.expect(&rt, "a frame") == *first);
-    let log = replay_second(&rt, alloc, &mut replayed, &noted);
-    expect_same_turns(&rt, second, &log);
+    replay_beside(&rt, alloc, &mut replayed, logs.as_slice(), &noted);
     expect_alike(&rt, &ran, &replayed);
     expect_after(&rt, &replayed, 2, (0, 2), &[account(1, 2), account(2, 2)]);
 }
@@ -193,30 +224,47 @@ fn expect_post_alone<S: SystemOf<Value = i64>>(
     expect_replay(rt, engine, &frame, &[], &[number], &[]);
 }
 
-/// Two readers that join with the third frame.
-#[test]
-fn late_systems(rt: HostRuntime) {
-    let (alloc, t) = (rt.alloc(), type_no(0));
+/// The account of a reader that hasn't joined.
+fn waiting(system: u32) -> Account {
+    Account {
+        start: None,
+        ..account(system, 0)
+    }
+}
+
+/// Two readers that join with the third frame, and note their runs.
+fn late_readers(
+    rt: &impl Abort,
+    alloc: Global,
+    noted: &Arc<AtomicU64>,
+) -> EngineOf<Prefaced<Scripted>>
+    ensures engine { IsEngine i64_values ⟦<Prefaced<Scripted> as SystemOf>⟧.meaning result }
+{
+    let t = type_no(0);
     let ops = vec![in alloc;
         (Op::Read(t, None), Start::Zero),
         (Op::Read(t, None), Start::Current),
     ];
+    noting_engine(rt, alloc, 3, ops.expect(rt, "ops"), noted)
+}
+
+/// Two readers that join with the third frame.
+#[test]
+fn late_systems(rt: HostRuntime) {
+    let (alloc, t) = (rt.alloc(), type_no(0));
     let noted = Arc::new(alloc, AtomicU64::new(0)).expect(&rt, "a number");
-    let mut engine = noting_engine(&rt, alloc, 3, ops.expect(&rt, "ops"), &noted);
+    let mut engine = late_readers(&rt, alloc, &noted);
     expect_post_alone(&rt, alloc, &mut engine, 1, 0);
     expect_post_alone(&rt, alloc, &mut engine, 2, 1);
     let third = frame_of(&rt, alloc, &[(t, 3)]);
-    let waiting = [0, 1].map(|system| Account {
-        start: None,
-        ..account(system, 0)
-    });
+    let waiting = [waiting(0), waiting(1)];
     expect_after(&rt, &engine, 2, (0, 2), &waiting);
     expect_unlawful(&rt, &mut engine, &third, &[0]);
     expect_unlawful(&rt, &mut engine, &third, &[]);
     expect_after(&rt, &engine, 2, (0, 2), &waiting);
     expect_they_join(&rt, &mut engine, &third);
     // System 1 ran, and then system 0.
-    assert_eq!(rt; noted.load(Ordering::SeqCst), 21);
+    expect_noted(&rt, &noted, 21);
 }
 
 /// Both readers join in the third frame, whose replay lets the second run first.

@@ -6,10 +6,12 @@ use crate::gates::HoldGate;
 use crate::making::{quiet, replay, run_frame, run_frames};
 use crate::prefaced::{Before, Prefaced, add_counts, prefaced_readers};
 use msg_exec::{EngineOf, NoGate, RunFault};
+use msg_part_tests::outcome::expect_eq;
 use msg_system::{Scripted, SystemOf};
 use std::alloc::Global;
 use std::panic::Expect;
 use std::process::Abort;
+use std::slice;
 use std::sync::Arc;
 use std::sync::atomic::{AtomicU64, Ordering};
 use std::thread::Threads;
@@ -24,15 +26,22 @@ pub fn expect_spoiled<R: Threads + Sync + Abort, S: SystemOf<Value = i64> + Send
 )
     requires engine { IsEngine i64_values S.meaning engine.old }
 {
-    let (frames, mut logs) = ([quiet(alloc)], Vec::new(alloc));
-    let one = run_frame(rt, engine, &frames[0], 1, &NoGate).err();
-    let many = run_frames(rt, engine, &frames, 1, &NoGate, &mut logs).err();
-    let replayed = replay(rt, engine, &frames[0], &[0, 1]).err();
-    for fault in [one, many, replayed, engine.accounts().err()] {
-        assert!(rt; fault == Some(RunFault::Spoiled));
-    }
-    assert!(rt; logs.is_empty() && engine.world().is_none());
-    assert_eq!(rt; engine.frames_run(), frames_run);
+    let frame = quiet(alloc);
+    let one = run_frame(rt, engine, &frame, 1, &NoGate).err();
+    expect_fault(rt, one, RunFault::Spoiled);
+    let mut logs = Vec::new(alloc);
+    let many = run_frames(rt, engine, slice::from_ref(&frame), 1, &NoGate, &mut logs).err();
+    expect_fault(rt, many, RunFault::Spoiled);
+    assert!(rt; logs.is_empty());
+    let replayed = replay(rt, engine, &frame, &[0, 1]).err();
+    expect_fault(rt, replayed, RunFault::Spoiled);
+    expect_fault(rt, engine.accounts().err(), RunFault::Spoiled);
+    assert!(rt; engine.world().is_none());
+    expect_eq(rt, &engine.frames_run(), &frames_run);
+}
+
+fn expect_fault(rt: &impl Abort, fault: Option<RunFault>, want: RunFault) {
+    assert!(rt; fault == Some(want));
 }
 
 /// An engine of readers of one type. The first of them has memory for `first_runs` runs; the runs
@@ -58,9 +67,9 @@ fn expect_spoiled_by_the_second<R: Threads + Sync + Abort>(rt: &R, alloc: Global
     let mut engine = failing_engine(rt, alloc, 2, 1, &runs);
     let frame = quiet(alloc);
     let first = run_frame(rt, &mut engine, &frame, workers, &NoGate);
-    assert_eq!(rt; first.expect(rt, "a frame").turns.as_slice().len(), 2);
+    expect_eq(rt, &first.expect(rt, "a frame").turns.as_slice().len(), &2);
     let second = run_frame(rt, &mut engine, &frame, workers, &NoGate);
-    assert!(rt; second.err() == Some(RunFault::NoMemory));
+    expect_fault(rt, second.err(), RunFault::NoMemory);
     expect_spoiled(rt, alloc, &mut engine, 1);
 }
 
@@ -71,7 +80,7 @@ fn a_second_run_without_memory(rt: HostRuntime) {
     }
 }
 
-/// Where one job has no memory, `run` others of its batch are run.
+/// If one job has no memory, `run` others of its batch are run.
 fn expect_run_of_others<R: Threads + Sync + Abort>(
     rt: &R,
     alloc: Global,
@@ -83,13 +92,14 @@ fn expect_run_of_others<R: Threads + Sync + Abort>(
     let mut engine = failing_engine(rt, alloc, readers, 0, &runs);
     let gate = HoldGate::new(workers, [true; 5], workers.min(readers) as u64);
     let log = run_frame(rt, &mut engine, &quiet(alloc), workers, &gate);
-    assert!(rt; log.err() == Some(RunFault::NoMemory));
-    assert_eq!(rt; runs.load(Ordering::SeqCst), run as u64, "{workers}");
+    expect_fault(rt, log.err(), RunFault::NoMemory);
+    let ran = runs.load(Ordering::SeqCst);
+    expect_eq(rt, &(workers, ran), &(workers, run as u64));
     gate.expect_met(rt, run as u64 + 1);
     expect_spoiled(rt, alloc, &mut engine, 0);
 }
 
-/// The other workers run the other jobs of the batch; where the job was the only worker's, no job
+/// The other workers run the other jobs of the batch; if the job was the only worker's, no job
 /// runs after it.
 #[test]
 fn the_others_run_where_one_has_no_memory(rt: HostRuntime) {

@@ -51,7 +51,7 @@ module _ {S V : Type 0} {values : Values V} (meaning : S → Meaning V) where
       let taken : PartsStand j.taken s.world = λ p. grind (arith, cases_Bool) in
       grind (arith, has_written, taken)
 
-  -- the same, where no memory was refused to it
+  -- the same, if no memory was refused to it
   abbrev pub IsResultBack : {E : Type 0} → Lender S V → State values → ℕ → Result (JobView S V) E → Type 0
   IsResultBack whole s i r = IfOk r (IsBack whole s i)
 

@@ -1,4 +1,4 @@
--- What no system of a batch writes, where no two of them conflict.
+-- What no system of a batch writes, if no two of them conflict.
 use Rattle.std.proofs.Common.{◌≡◌, ℕ, ◌<◌, ◌||◌, false, List, [], ◌∷◌, ◌++◌, length, get_or, take, refl, inl, inr, arith, All, AllPairs, Contains, IsTrue}
 use Rattle.std.proofs.Math.Bool.{or-false, or_assoc}
 use Rattle.std.proofs.lemmas.{Bool.and_from, Bool.false_from_ne_true, Bool.or_right, List.get_or-take, List.get_or_default, List.length-take-le, List.Elements.All-contains, List.Elements.All-head, List.Elements.All-tail}

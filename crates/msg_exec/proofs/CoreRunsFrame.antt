@@ -38,7 +38,7 @@ module _ {V : Type 0} {values : Values V} where
       fill_by_all (has_begun s) (map (λ j. nat_le j frame) js) s.systems false
       (length-map js (λ j. nat_le j frame) ∙ are.as_many) (λ k lt. grind (arith, are.each k lt, get_or-map))
 
-  -- where none joins with the next frame, the same have joined by it
+  -- if none joins with the next frame, the same have joined by it
   pub nobody_more : (s : State values) → NobodyJoins s → join_flags (one_frame_more (after_joining s)) ≡ join_flags s
   nobody_more s none =
       joined_stay (one_frame_more s) (one_frame_more (after_joining s)) (grind (arith, joining_keeps))
@@ -88,7 +88,7 @@ module _ {S V : Type 0} {values : Values V} (meaning : S → Meaning V) where
 
   -- ---- which orders are lawful
 
-  -- an order is lawful for a frame just where the plan of those that will have joined accepts it
+  -- an order is lawful for a frame just if the plan of those that will have joined accepts it
   pub accepted : {accepts : Bool} {c : Core S V} {s : State values} {plan : PlanView} (f : Frame V) (order : List ℕ)
       → CoreStands meaning c s → (is : PlansNext c s plan)
       → (IsTrue accepts ↔ IsLawfulOrder is.order (join_flags (one_frame_more (after_joining s))) order)

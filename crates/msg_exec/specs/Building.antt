@@ -67,7 +67,7 @@ module _ {V : Type 0} where
   numbered_from n (m ∷ ms) = record m { writer = n; places = λ t. 0 } ∷ numbered_from (n + 1) ms
 
 -- why a system isn't added to so many, to join with this frame: there are too many; else it can't
--- join with that frame; and only where it might be added there is no memory
+-- join with that frame; and only if it might be added there is no memory
 abbrev pub RefusesToAdd : ℕ → ℕ → BuildError → Type 0
 RefusesToAdd systems join Full = MAX_SYSTEMS ≤ systems
 RefusesToAdd systems join (BadJoin frame) = (systems < MAX_SYSTEMS) × (frame ≡ join) × ¬ IsJoin join

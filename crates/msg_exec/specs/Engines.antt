@@ -16,7 +16,7 @@ module _ {S V : Type 0} where
   abbrev pub frame_number : EngineOf S V → ℕ
   frame_number e = e.frames
 
-  -- its world; none where it is spoiled
+  -- its world; none if it is spoiled
   abbrev pub world_of : EngineOf S V → Option (Parts V)
   world_of e = option_map (λ c. c.lender.world) e.core
 

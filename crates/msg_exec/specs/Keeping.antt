@@ -4,7 +4,7 @@ use Rattle.std.specs.Prelude.{ℕ, ◌-◌, ◌^◌, min, List, slice_index_or}
 use Rattle.msg_frames.specs.declared.totals.Totals.{Totals}
 use Rattle.msg_frames.specs.Prelude.{no_totals}
 
--- the number, or the greatest `u64` where it is more
+-- the number, or the greatest `u64` if it is more
 abbrev pub within_u64 : ℕ → ℕ
 within_u64 n = min n (2 ^ 64 - 1)
 

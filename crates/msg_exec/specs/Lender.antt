@@ -13,7 +13,7 @@ pub record TotalsStand (types : ℕ) (xs : List Totals) (totals : ℕ → Totals
   pub each : (t : ℕ) → t < types → totals_at xs t ≡ capped_totals (totals t)
 
 module _ {S V : Type 0} where
-  -- system i, where it is home
+  -- system i, if it is home
   abbrev pub system_at : Lender S V → ℕ → Option (GuardedSystem S V)
   system_at g i = option_map (λ b. b.value) (slice_index_or g.systems.items i None)
 

@@ -64,8 +64,7 @@ fn run_many<R: Threads + Sync, V: Value + Send + Sync, S: SystemOf<Value = V> + 
     batches_run_side_by_side::<V>();
     written_parts_come_home::<V>();
     let jobs = lend_out_all(crew.alloc, lender, batch, spares)?;
-    let habit = spares.habit()?;
-    let results = run_side_by_side(crew, &lender.world, jobs, habit)?;
+    let results = run_side_by_side(crew, &lender.world, jobs, spares.habit())?;
     for result in results {
         let done = result?;
         turns.push(lender.take_back(crew.alloc, done, spares))?;
@@ -99,15 +98,8 @@ pub(crate) fn run_turns<V: Value, S: SystemOf<Value = V>, G: Gate>(
 }
 
 /// Whether the next batch, of so many jobs, goes over workers.
-fn goes_over_workers<V: Value>(
-    workers: u32,
-    jobs: usize,
-    spares: &mut Spares<V>,
-) -> Result<bool, NoMemory> {
-    if workers == 1 || jobs <= 1 {
-        return Ok(false);
-    }
-    Ok(spares.habit()?.tries_next())
+fn goes_over_workers<V: Value>(workers: u32, jobs: usize, spares: &mut Spares<V>) -> bool {
+    workers > 1 && jobs > 1 && spares.habit().tries_next()
 }
 
 /// Tells the habit of its place how much a batch in place did, whose turns begin with `first`. One
@@ -118,12 +110,10 @@ fn tell_in_place<V: Value>(
     turns: &[Turn<V>],
     first: usize,
     spares: &mut Spares<V>,
-) -> Result<(), NoMemory> {
-    if workers == 1 || jobs <= 1 {
-        return Ok(());
+) {
+    if workers > 1 && jobs > 1 {
+        spares.habit().did_in_place(size_of_turns(turns, first));
     }
-    spares.habit()?.did_in_place(size_of_turns(turns, first));
-    Ok(())
 }
 
 /// Runs the jobs of one batch, and appends their turns, by order of addition: in place if one
@@ -151,13 +141,13 @@ fn run_batch<R: Threads + Sync, V: Value + Send + Sync, S: SystemOf<Value = V> +
 {
     let workers = crew.workers.number();
     let first = turns.len();
-    if goes_over_workers(workers, batch.len(), spares)? {
+    if goes_over_workers(workers, batch.len(), spares) {
         run_many(crew, lender, batch, spares, turns)?;
         let size = size_of_turns(turns.as_slice(), first);
-        spares.habit()?.did_over_workers(size);
+        spares.habit().did_over_workers(size);
     } else {
         run_turns(crew.alloc, lender, batch, crew.gate, spares, turns)?;
-        tell_in_place(workers, batch.len(), turns.as_slice(), first, spares)?;
+        tell_in_place(workers, batch.len(), turns.as_slice(), first, spares);
     }
     Ok(())
 }

@@ -153,7 +153,10 @@ impl<V: Value, S: Numbered + SystemOf<Value = V>> EngineBuilder<S, V> {
             conditions: Items::from_vec(conditions),
             join,
         };
-        let (Ok(()), Ok(())) = (self.systems.push(system), self.places.push(place)) else {
+        let Ok(()) = self.systems.push(system) else {
+            unreachable!()
+        };
+        let Ok(()) = self.places.push(place) else {
             unreachable!()
         };
         Ok(number)

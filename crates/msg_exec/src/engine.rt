@@ -120,12 +120,11 @@ impl<V: Value, S: SystemOf<Value = V>> EngineOf<S, V> {
         self.core = None;
     }
 
-    /// Takes its core back after a frame, and counts the frame.
-    fn end_frame(&mut self, core: Core<S, V>)
-        ensures core { self.new.core ≡ Some core }
+    /// Counts a frame that was run.
+    fn count_frame(&mut self)
+        ensures core { self.new.core ≡ self.old.core }
         ensures counted { frame_number self.new ≡ min (frame_number self.old + 1) (2 ^ 32 - 1) }
     {
-        self.core = Some(core);
         self.frames = self.frames.saturating_add(1);
     }
 
@@ -201,10 +200,10 @@ impl<V: Value, S: SystemOf<Value = V>> EngineOf<S, V> {
         if !is_lawful {
             return Err(RunFault::BadOrder);
         }
-        let Some(core) = self.core.take() else {
+        let Some(core) = &mut self.core else {
             unreachable!()
         };
-        let Ok((core, log)) = replay_one(
+        let Ok(log) = replay_one(
             self.alloc,
             core,
             self.frames,
@@ -212,9 +211,10 @@ impl<V: Value, S: SystemOf<Value = V>> EngineOf<S, V> {
             order,
             &mut self.spares,
         ) else {
+            self.spoil();
             return Err(RunFault::NoMemory);
         };
-        self.end_frame(core);
+        self.count_frame();
         Ok(log)
     }
 
@@ -329,7 +329,7 @@ impl<V: Value + Send + Sync, S: SystemOf<Value = V> + Send> EngineOf<S, V> {
         ensures engine { IsEngine V.values S.meaning self.new }
     {
         runs_are_complete::<V>();
-        let Some(core) = self.core.take() else {
+        let Some(core) = &mut self.core else {
             return Err(RunFault::Spoiled);
         };
         let crew = Crew {
@@ -338,10 +338,11 @@ impl<V: Value + Send + Sync, S: SystemOf<Value = V> + Send> EngineOf<S, V> {
             workers,
             gate,
         };
-        let Ok((core, log)) = run_one(&crew, core, self.frames, frame, &mut self.spares) else {
+        let Ok(log) = run_one(&crew, core, self.frames, frame, &mut self.spares) else {
+            self.spoil();
             return Err(RunFault::NoMemory);
         };
-        self.end_frame(core);
+        self.count_frame();
         Ok(log)
     }
 

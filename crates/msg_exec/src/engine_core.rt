@@ -1,5 +1,5 @@
 // What an engine works on, and one frame of it.
-ghost use Rattle.std.specs.Prelude.{◌≡◌, ◌<◌, ◌≤◌, All, IfOk, OnErr, List, Bool, length, map, nat_le};
+ghost use Rattle.std.specs.Prelude.{◌≡◌, ◌<◌, ◌≤◌, All, IfOk, OnErr, OnOk, List, Bool, length, map, nat_le};
 ghost use Rattle.msg_order.specs.Prelude.{IsAcyclic, IsPlanOf, NameSystemsBelow, rules_among};
 ghost use Rattle.msg_exec.specs.Prelude.{CoreStands, SomeJoin, frame_count};
 ghost use Rattle.msg_workers.specs.Prelude.{EachPassedGate};
@@ -97,44 +97,42 @@ pub(crate) fn next_plan<V: Value, S: SystemOf<Value = V>>(
 /// Starts those that join with the next frame, and takes the plan of it.
 fn begin<V: Value, S: SystemOf<Value = V>>(
     alloc: Global,
-    core: Core<S, V>,
+    core: &mut Core<S, V>,
     frames: u32,
-) -> Result<Core<S, V>, NoMemory>
+) -> Result<(), NoMemory>
     requires stands { (s : State V.values)
-        × (CoreStands S.meaning core s × (frames ≡ frame_count s)) }
-    ensures begun { IfOk result (λ begun. (s : State V.values) → CoreStands S.meaning core s
-        → frames ≡ frame_count s → HasBegunFrame S.meaning begun s) }
-    ensures types { IfOk result (λ begun. begun.lender.world ≡ core.lender.world) }
+        × (CoreStands S.meaning core.old s × (frames ≡ frame_count s)) }
+    ensures begun { OnOk result ((s : State V.values) → CoreStands S.meaning core.old s
+        → frames ≡ frame_count s → HasBegunFrame S.meaning core.new s) }
+    ensures types { OnOk result (core.new.lender.world ≡ core.old.lender.world) }
 {
-    let mut core = core;
-    let Some((next, plan)) = next_plan(alloc, &core, frames)? else {
-        return Ok(core);
-    };
-    join_those(&mut core.lender, &core.joins, next);
-    core.plan = plan;
-    Ok(core)
+    if let Some((next, plan)) = next_plan(alloc, core, frames)? {
+        join_those(&mut core.lender, &core.joins, next);
+        core.plan = plan;
+    }
+    Ok(())
 }
 
 /// Opens the next frame: those that join do so, the types are updated, and the host's posts are
 /// written. Gives what they were answered.
 pub(crate) fn open<V: Value, S: SystemOf<Value = V>>(
     alloc: Global,
-    core: Core<S, V>,
+    core: &mut Core<S, V>,
     frames: u32,
     frame: &Frame<V>,
-) -> Result<(Core<S, V>, Vec<Reply<V>>), NoMemory>
+) -> Result<Vec<Reply<V>>, NoMemory>
     requires stands { (s : State V.values)
-        × (CoreStands S.meaning core s × (frames ≡ frame_count s)) }
-    requires posts { All (λ p. p.0 < length core.lender.world.types) frame.now.posts }
-    ensures opened { IfOk result (λ r. (s : State V.values) → CoreStands S.meaning core s
-        → frames ≡ frame_count s → HasOpened S.meaning frame.now s r.0 r.1.items) }
+        × (CoreStands S.meaning core.old s × (frames ≡ frame_count s)) }
+    requires posts { All (λ p. p.0 < length core.old.lender.world.types) frame.now.posts }
+    ensures opened { IfOk result (λ posts. (s : State V.values) → CoreStands S.meaning core.old s
+        → frames ≡ frame_count s → HasOpened S.meaning frame.now s core.new posts.items) }
 {
-    let mut core = begin(alloc, core, frames)?;
+    begin(alloc, core, frames)?;
     core.lender.world.update_all();
     let posts = frame.posts.as_slice();
     let mut replies = Vec::with_capacity(alloc, posts.len())?;
     post_all(&mut core.lender.world, posts, &mut replies)?;
-    Ok((core, replies))
+    Ok(replies)
 }
 
 /// Runs one frame after so many others.
@@ -145,27 +143,27 @@ pub(crate) fn run_one<
     G: Gate,
 >(
     crew: &Crew<R, G>,
-    core: Core<S, V>,
+    core: &mut Core<S, V>,
     frames: u32,
     frame: &Frame<V>,
     spares: &mut Spares<V>,
-) -> Result<(Core<S, V>, Log<V>), NoMemory>
+) -> Result<Log<V>, NoMemory>
     requires stands { (s : State V.values)
-        × (CoreStands S.meaning core s × (frames ≡ frame_count s)) }
-    requires posts { All (λ p. p.0 < length core.lender.world.types) frame.now.posts }
-    ensures ran { IfOk result (λ r. (s : State V.values) → CoreStands S.meaning core s
+        × (CoreStands S.meaning core.old s × (frames ≡ frame_count s)) }
+    requires posts { All (λ p. p.0 < length core.old.lender.world.types) frame.now.posts }
+    ensures ran { IfOk result (λ log. (s : State V.values) → CoreStands S.meaning core.old s
         → frames ≡ frame_count s
-        → HasLeft S.meaning (r.1 ≡ (frame_of frame.now s).log) frame.now s r.0) }
+        → HasLeft S.meaning (log ≡ (frame_of frame.now s).log) frame.now s core.new) }
     ensures gate_passed { IfOk result
-        (λ r. EachPassedGate (G.passed crew.now.gate.now) crew.now.workers (turn_order_in r.1)) }
+        (λ log. EachPassedGate (G.passed crew.now.gate.now) crew.now.workers
+        (turn_order_in log)) }
 {
     states_stay_sound::<V>();
-    let (mut core, posts) = open(crew.alloc, core, frames, frame)?;
+    let posts = open(crew.alloc, core, frames, frame)?;
     let batches = core.plan.batches();
     let turns = run_batches(crew, &mut core.lender, batches, spares)?;
-    let log = Log {
+    Ok(Log {
         posts: Items::from_vec(posts),
         turns: Items::from_vec(turns),
-    };
-    Ok((core, log))
+    })
 }

@@ -39,29 +39,28 @@ pub(crate) fn accepts_next<V: Value, S: SystemOf<Value = V>>(
 /// Runs one frame after so many others, in an order that is lawful for it.
 pub(crate) fn replay_one<V: Value, S: SystemOf<Value = V>>(
     alloc: Global,
-    core: Core<S, V>,
+    core: &mut Core<S, V>,
     frames: u32,
     frame: &Frame<V>,
     order: &[u32],
     spares: &mut Spares<V>,
-) -> Result<(Core<S, V>, Log<V>), NoMemory>
+) -> Result<Log<V>, NoMemory>
     requires stands { (s : State V.values)
-        × (CoreStands S.meaning core s × (frames ≡ frame_count s)) }
-    requires posts { All (λ p. p.0 < length core.lender.world.types) frame.now.posts }
-    requires lawful { (s : State V.values) → CoreStands S.meaning core s → frames ≡ frame_count s
-        → IsLawfulFor frame.now s order.now }
-    ensures replayed { IfOk result (λ r. (s : State V.values) → CoreStands S.meaning core s
+        × (CoreStands S.meaning core.old s × (frames ≡ frame_count s)) }
+    requires posts { All (λ p. p.0 < length core.old.lender.world.types) frame.now.posts }
+    requires lawful { (s : State V.values) → CoreStands S.meaning core.old s
+        → frames ≡ frame_count s → IsLawfulFor frame.now s order.now }
+    ensures replayed { IfOk result (λ log. (s : State V.values) → CoreStands S.meaning core.old s
         → frames ≡ frame_count s
-        → HasLeft S.meaning (IsReplay frame.now order.now s r.1) frame.now s r.0) }
+        → HasLeft S.meaning (IsReplay frame.now order.now s log) frame.now s core.new) }
 {
     states_stay_sound::<V>();
     frames_agree_in_lawful_orders::<V>();
-    let (mut core, posts) = open(alloc, core, frames, frame)?;
+    let posts = open(alloc, core, frames, frame)?;
     let mut turns = spares.turns(alloc, order.len())?;
     run_turns(alloc, &mut core.lender, order, &NoGate, spares, &mut turns)?;
-    let log = Log {
+    Ok(Log {
         posts: Items::from_vec(posts),
         turns: Items::from_vec(turns),
-    };
-    Ok((core, log))
+    })
 }

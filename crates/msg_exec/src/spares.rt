@@ -21,7 +21,7 @@ pub(crate) struct Spares<V = i64> {
     turns: Vec<Turn<V>>,
     replies: Vec<Vec<Reply<V>>>,
     contents: Vec<Box<JobContents<V>>>,
-    habits: Vec<Habit>,
+    habits: [Habit; MAX_SYSTEMS],
     /// The place of the batch that runs.
     place: usize,
 }
@@ -40,7 +40,7 @@ impl<V: Value> Spares<V> {
             turns: Vec::new(alloc),
             replies: Vec::new(alloc),
             contents: Vec::new(alloc),
-            habits: Vec::new(alloc),
+            habits: [Habit::new(); MAX_SYSTEMS],
             place: 0,
         }
     }
@@ -99,13 +99,11 @@ impl<V: Value> Spares<V> {
         self.place = self.place.saturating_add(1);
     }
 
-    /// What the batches in the place of this one have shown.
-    pub(crate) fn habit(&mut self) -> Result<&mut Habit, NoMemory> {
-        let place = self.place;
-        if place >= self.habits.len() {
-            self.habits.resize(place.saturating_add(1), Habit::new())?;
-        }
-        Ok(&mut self.habits[place])
+    /// What the batches in the place of this one have shown. A frame has no more of them than
+    /// systems.
+    pub(crate) fn habit(&mut self) -> &mut Habit {
+        let place = self.place.min(MAX_SYSTEMS - 1);
+        &mut self.habits[place]
     }
 
     /// Keeps what went with a system, if there is room for it.

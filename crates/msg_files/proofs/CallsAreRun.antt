@@ -37,31 +37,31 @@ module _ (before now : Option (List ℕ)) (m : Kept ℤ) (cs gathered : List ℕ
   parts = grind (arith, way.whole, drop_more calls i d lt, append_assoc)
 
   -- one call more
-  pub OnTheWay_more : (now' : Option (List ℕ)) (m' : Kept ℤ) (cs' made gathered' : List ℕ)
+  pub OnTheWay_more : (now' : Option (List ℕ)) (m' : Kept ℤ) (cs' gathered' : List ℕ)
       → ((s : BufferState) → AreIn m cs s → AreIn m' cs' (after (get_or calls i d) s))
-      → ((s : BufferState) → AreIn m cs s → made ≡ line (get_or calls i d) s)
-      → TakesFront now now' (gathered ++ made) gathered'
+      → ((s : BufferState) → AreIn m cs s → TakesFront now now' (gathered ++ line (get_or calls i d) s) gathered')
       → OnTheWay before now' m' cs' gathered' (drop (i + 1) calls) all
-  OnTheWay_more now' m' cs' made gathered' state is puts =
+  OnTheWay_more now' m' cs' gathered' state puts =
       let s = way.state in
       let are' = state s way.are_in in
+      let put = puts s way.are_in in
       let longer = length-places_after call_at s in
       record {
         state = after call_at s;
-        front = way.front ++ puts.front;
+        front = way.front ++ put.front;
         are_in = are';
-        taken = Appends-trans before now now' way.front puts.front way.taken puts.taken;
-        whole = grind (arith, parts, puts.parts, is s way.are_in, append_assoc);
+        taken = Appends-trans before now now' way.front put.front way.taken put.taken;
+        whole = grind (arith, parts, put.parts, append_assoc);
         exist = grind (arith, way.exist, way.are_in.places, are'.places, longer, drop_more calls i d lt);
       }
 
   -- a put that fails leaves a front of the whole text
-  pub OnTheWay_fails : (now' : Option (List ℕ)) (made : List ℕ)
-      → ((s : BufferState) → AreIn m cs s → made ≡ line (get_or calls i d) s)
-      → AppendsPrefix now now' (gathered ++ made) → AppendsPrefix before now' all
-  OnTheWay_fails now' made is puts =
-      AppendsPrefix_after before now now' way.front (gathered ++ made) lines_after all
-      (grind (arith, parts, is way.state way.are_in, append_assoc)) way.taken puts
+  pub OnTheWay_fails : (now' : Option (List ℕ))
+      → ((s : BufferState) → AreIn m cs s → AppendsPrefix now now' (gathered ++ line (get_or calls i d) s))
+      → AppendsPrefix before now' all
+  OnTheWay_fails now' puts =
+      AppendsPrefix_after before now now' way.front (gathered ++ line call_at way.state) lines_after all
+      (grind (arith, parts, append_assoc)) way.taken (puts way.state way.are_in)
 
 -- what is gathered goes before the lines that are left
 pub OnTheWay_stops : (before now now' : Option (List ℕ)) (m : Kept ℤ) (cs gathered : List ℕ) (rest : List Call)

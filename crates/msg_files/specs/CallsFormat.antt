@@ -6,14 +6,15 @@ use Rattle.msg_text.specs.Text.{Text}
 use Rattle.msg_files.specs.{Cursors.CallsFile, Cursors.made_by}
 use Rattle.msg_json.specs.Values.{at_key, below, headed, known_keys, limit, limit_of, list_up_to, natural, number_of, value_of, values_of}
 use Rattle.msg_json.specs.Faults.{Reading, fails, in_element, in_part, in_section, wanted, ◌>>=◌}
+use Rattle.msg_files.specs.declared.limits.TheConstants.{MAX_CALLS, MAX_CURSORS}
 use Rattle.msg_files.specs.declared.call.Call.{Call}
 use Rattle.msg_files.specs.declared.call.Call.TheVariants as call
 use Rattle.msg_json.specs.declared.location.Key.TheVariants as key
 use Rattle.msg_json.specs.declared.reason.Reason.TheVariants as reason
 
--- a call that makes a cursor, if fewer than 64 were made before
+-- a call that makes a cursor, if fewer than `MAX_CURSORS` were made before
 abbrev pub one_cursor_more : ℕ → Call → Reading Call
-one_cursor_more made c = wanted (nat_lt made 64) (reason.AtMost 64) >>= λ _. Ok c
+one_cursor_more made c = wanted (nat_lt made MAX_CURSORS) (reason.AtMost MAX_CURSORS) >>= λ _. Ok c
 
 -- a head alone
 abbrev pub bare_call : ℕ → Text → Reading Call
@@ -102,7 +103,7 @@ calls_from made n (d ∷ ds) =
 
 -- at most 10,000 calls, before which cursor 0 is there
 abbrev pub calls_of : Data → Reading (List Call)
-calls_of d = list_up_to 10000 d >>= calls_from 1 0
+calls_of d = list_up_to MAX_CALLS d >>= calls_from 1 0
 
 -- the keys that a calls file has
 abbrev pub is_known : Text → Bool

@@ -40,7 +40,7 @@ abbrev pub pairs_text : List (Instance ℤ) → Text
 pairs_text [] = codes "none"
 pairs_text (x ∷ xs) = pair_text x ++ more_pairs xs
 
--- FIRST+NUMBER of so many messages, or `spent` where there is no room for them
+-- FIRST+NUMBER of so many messages, or `spent` if there is no room for them
 abbrev pub range_text : History ℤ → ℕ → Text
 range_text h number =
     if has_room h number then decimal (count h) ++ codes "+" ++ decimal number else codes "spent"

@@ -10,7 +10,7 @@ pub enum Call {
     Batch(Items<i64>),
     /// Makes each message one update older; those written two updates ago are dropped.
     Update,
-    /// Reads by this cursor, at most so many messages where a limit is given.
+    /// Reads by this cursor, at most so many messages if a limit is given.
     Read(u32, Option<u32>),
     /// Asks how many messages were dropped before this cursor read them.
     Missed(u32),
@@ -26,7 +26,7 @@ pub enum Call {
     Get(u64),
     /// Asks for the messages written since the last update.
     Current,
-    /// Asks for the number of the oldest message that is kept; the count where none is.
+    /// Asks for the number of the oldest message that is kept; the count if none is.
     Oldest,
     /// Asks how many messages were ever written.
     Count,

@@ -22,7 +22,7 @@ module _ {V : Type 0} {values : Values V} (systems : List (Meaning V)) (places :
       grind (arith, uses, free, new, get_or_past, begun_within all_wait, eqb_tells, nat_tests, began)
 
 module _ {V : Type 0} {values : Values V} where
-  -- where a reader has joined, it has new accounts
+  -- if a reader has joined, it has new accounts
   pub first_accounts : (systems : List (Meaning V)) (places : List (Place V)) (rules : List Rule) (types : ℕ)
       (world : WorldState values) (i t : ℕ) → 1 ≤ ((first_state systems places rules types world).members i).join
       → IsTrue (has_begun (first_state systems places rules types world) i)

@@ -82,12 +82,12 @@ module _ {V : Type 0} {values : Values V} where
       settled_no_cycle s.rules (join_flags s) (are_in_conflict s)
       (free (join_flags s) (length-map-range_with_len (has_begun s) 0 s.systems))
 
-  -- it is the turn order, where the rules make no cycle
+  -- it is the turn order, if the rules make no cycle
   pub order_is : (s : State values) → NoCycle s → IsTurnOrder (settled_order s) (join_flags s) (turn_order s)
   unfolding turn_order
   order_is s free = turns_are (settled_order s) (join_flags s) (order_among s) (order_free s free)
 
--- needs are in conflict with others where those are with them
+-- needs are in conflict with others if those are with them
 conflict_either : (m n : Needs) → needs_conflict m n ≡ needs_conflict n m
 conflict_either m n =
     ap (λ (test : Part → Bool). list_any test parts)

@@ -49,7 +49,7 @@ module _ {V : Type 0} {values : Values V} where
       → ReadsFrom i t place had b ms u → ReadsFrom i t place had a ms u
   reads_since i t place had a b ms u goes x = grind (arith, goes_further)
 
-  -- the totals with which a run from s to u finds a reader: those that it has, or new ones where it joins
+  -- the totals with which a run from s to u finds a reader: those that it has, or new ones if it joins
   abbrev found_totals : State values → State values → ℕ → ℕ → Totals
   found_totals s u i t = if has_begun s i then (s.members i).totals t else totals_from (found_at s u i t)
 

@@ -16,7 +16,7 @@ module _ {V : Type 0} where
     | inr past ↦ absurd (omega (arith, past.0, within))
   ]
 
-  -- a stretch that fits where all is present misses nothing
+  -- a stretch that fits if all is present misses nothing
   none_missed : (h : History (Record V)) (place : ℕ) (s : Stretch) → Fits h place s → next_place s ≤ count h
       → ((n : ℕ) → place ≤ n → n < count h → IsPresent h n) → s.missed ≡ 0
   none_missed h place s fits within all = grind (arith, cases_eq)

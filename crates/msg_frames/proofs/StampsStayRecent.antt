@@ -1,4 +1,4 @@
--- Where the messages from a number on have recent stamps, ops, turns and posts keep it so.
+-- If the messages from a number on have recent stamps, ops, turns and posts keep it so.
 use Rattle.std.proofs.Common.{◌≡◌, ℕ, zero, suc, ◌+◌, ◌≤◌, ◌⊎◌, List, [], ◌∷◌, ◌++◌, Some, arith, inl, inr, slice_get}
 use Rattle.std.proofs.lemmas.{Bool.cases_Bool, Option.none-some, Option.same_Some, Option.get_or_from_slice_get, Option.slice_get-get_or, Option.slice_get_within, List.get_or_append_left, List.length-append}
 use Rattle.msg_buffer.specs.Prelude.{Entry, History, stamped, GoesOn}

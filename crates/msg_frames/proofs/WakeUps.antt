@@ -30,7 +30,7 @@ module _ {V : Type 0} where
   still_gone p c a b goes within gone n above lt there =
       gone n above lt (was_present a b n goes (omega (arith, within, lt)) there)
 
-  -- where nothing is unread from c on, nothing is present there
+  -- if nothing is unread from c on, nothing is present there
   none_unread : (c : ℕ) (h : History (Record V)) → IsSound h → length (unread h c) ≡ 0 → Gone c (count h) h
   none_unread c h sound none n above lt = not_present h n sound (omega (arith, length-unread h c, none, above, lt))
 

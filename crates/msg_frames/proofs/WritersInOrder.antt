@@ -11,7 +11,7 @@ use Rattle.msg_frames.proofs.OneFateEach.{Rising, is_increasing, rising_from}
 
 -- ---- what an entry gave
 
--- where a range of numbers has these, each is found under its number
+-- if a range of numbers has these, each is found under its number
 under_number : {X : Type 0} (f : ℕ → Option X) (a k : ℕ) (xs : List X) → map f (range_with_len a k) ≡ map Some xs
     → (n : ℕ) (x : X) → Contains (enumerate_from a xs) (n, x) → f n ≡ Some x
 under_number f a k [] same n x c = absurd (not_in_none (n, x) c)

@@ -56,7 +56,7 @@ SameSystemsHaveSameAccesses values = (s u : State values) → SameSystems s u
 
 -- ---- turns side by side
 
--- Where the accesses of two systems don't conflict, the turn of one doesn't change what comes of
+-- If the accesses of two systems don't conflict, the turn of one doesn't change what comes of
 -- the other's, and it doesn't matter which is first.
 abbrev pub TurnsOfOthersCommute : {V : Type 0} → Values V → Type 0
 TurnsOfOthersCommute values = (s : State values) (accesses : List Access) (i j : ℕ)

@@ -4,6 +4,7 @@ use Rattle.serde_json.specs.{Data.Data, Find.get, Find.as_i64, Find.as_number, F
 use Rattle.msg_text.specs.Text.{Text}
 use Rattle.msg_json.specs.Json.{elements, is_list, is_list_of_numbers, is_object, keys, not_negative, only_below}
 use Rattle.msg_json.specs.Faults.{Reading, fails, found, here, in_value, key_text, wanted, ◌>>=◌}
+use Rattle.msg_json.specs.declared.limits.TheConstants.{MAX_VALUES}
 use Rattle.msg_json.specs.declared.location.Key.{Key}
 use Rattle.msg_json.specs.declared.reason.Reason.TheVariants as reason
 
@@ -89,7 +90,7 @@ values_from n (d ∷ ds) =
 
 -- the values of a batch: at most 1,024
 abbrev pub batch_of : List Data → Reading (List ℤ)
-batch_of ds = wanted (nat_le (length ds) 1024) (reason.AtMost 1024) >>= λ _. values_from 0 ds
+batch_of ds = wanted (nat_le (length ds) MAX_VALUES) (reason.AtMost MAX_VALUES) >>= λ _. values_from 0 ds
 
 -- a list of numbers that are the values of a batch
 abbrev pub values_of : Data → Reading (List ℤ)

@@ -1,4 +1,4 @@
--- An order is lawful just where its systems can be taken one after the other, each with none left before it.
+-- An order is lawful just if its systems can be taken one after the other, each with none left before it.
 use Rattle.std.proofs.Common.{◌≡◌, ℕ, ◌+◌, ◌<◌, ◌⊎◌, inl, inr, Bool, true, false, not, ◌&&◌, List, length, get_or, arith, ◌==◌}
 use Rattle.std.specs.List.{list_any, range_with_len}
 use Rattle.std.proofs.lemmas.{Bool.Decides.eqb_tells, Bool.cases_Bool, Bool.cases_eq, List.get_or_default}
@@ -40,7 +40,7 @@ taken_next g joined left next order k s at on open_ step t = record {
   before = λ b h i e p. grind (arith, cases_eq, find_place order i k, open_ i, t.stays i, t.before b);
 }
 
--- where all were taken and none is left, the order is lawful
+-- if all were taken and none is left, the order is lawful
 pub taken_all : (g : Graph) (joined : List Bool) (left : ℕ → Bool) (order : List ℕ)
     → ((i j : ℕ) → IsEdge g i j → (has_joined joined i ≡ true) × (has_joined joined j ≡ true))
     → AreTaken g joined order (length order) left → ((i : ℕ) → left i ≡ false) → IsLawfulOrder g joined order

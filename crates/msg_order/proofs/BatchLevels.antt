@@ -37,7 +37,7 @@ left_falls left blocked next n batch is some s =
     let same = ap (λ (p : ℕ → Bool). length (left_of p n)) (λ k i. s i k) in
     omega (arith, count_splits left blocked (range_with_len 0 n), same, ap length is)
 
--- Where no path leads back, one of those left has none below n before it.
+-- If no path leads back, one of those left has none below n before it.
 first_left : (p : ℕ → ℕ → Bool) (left : ℕ → Bool) → ((i j k : ℕ) → p i j ≡ true → p j k ≡ true → p i k ≡ true)
     → ((i : ℕ) → p i i ≡ false) → (n i : ℕ) → left i ≡ true
     → (c : ℕ) × ((left c ≡ true) × ((k : ℕ) → k < n → left k ≡ true → p k c ≡ false))
@@ -98,7 +98,7 @@ module _ (g : Graph) (left : ℕ → Bool) (n : ℕ) where
     stops_found i k p t = list_any-Contains (λ k. path g k i) (left_of left n) k
         (Contains-filter left (range_with_len 0 n) k (Contains-range 0 n k (omega arith) (omega (arith, within k t))) t) p
 
-    -- where no path leads back and none is ready, none is left, and there are no batches more
+    -- if no path leads back and none is ready, none is left, and there are no batches more
     pub level_none : IsAcyclic g → length level ≡ 0 → (i : ℕ) → left i ≡ false
     level_none free empty i = false_from_ne_true (left i) (λ e.
         let f = first_left (path g) left (path_trans g) (λ i. no_path g i i (free i)) n i e in

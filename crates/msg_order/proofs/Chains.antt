@@ -3,7 +3,7 @@ use Rattle.std.proofs.Common.{◌≡◌, ℕ, Bool, zero, suc, ◌+◌, ◌<◌,
 use Rattle.std.proofs.lemmas.Bool.{cases_eq}
 use Rattle.msg_order.specs.Prelude.{Graph, IsAmong, IsBatchNumber, IsChain, IsEdge, Path, has_joined}
 
--- where each edge of g is one of h, so is each chain
+-- if each edge of g is one of h, so is each chain
 pub chain_grows : (g h : Graph) → ((i j : ℕ) → IsEdge g i j → IsEdge h i j) → (xs : List ℕ) → IsChain g xs
     → IsChain h xs
 chain_grows g h f [] c = tt
@@ -29,7 +29,7 @@ paths_join g i j k p q = (
       (chain_join g (i ∷ p.0) (q.0 ++ k ∷ []) j p.1 q.1),
 )
 
--- where each edge leads among these systems, so does a path
+-- if each edge leads among these systems, so does a path
 pub path_among : (g : Graph) (joined : List Bool) → IsAmong joined g → (i j : ℕ) → Path g i j
     → IsTrue (has_joined joined i) × IsTrue (has_joined joined j)
 path_among g joined among i j ([], c) = among i j c.0

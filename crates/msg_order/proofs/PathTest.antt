@@ -26,7 +26,7 @@ to_Path (e ∷ g) i j h =
     let stays = λ (a b : ℕ) (p : path g a b ≡ true). path_more e g a b (to_Path g a b p) in
     grind (arith, eqb_tells, newest, stays, paths_join (e ∷ g) i e.0 e.1, paths_join (e ∷ g) i e.1 j)
 
--- where the test fails there is no path, and the other way round
+-- if the test fails there is no path, and the other way round
 pub no_Path : (g : Graph) (i j : ℕ) → path g i j ≡ false → Path g i j → ⊥
 no_Path g i j f p = false≢true (sym f ∙ from_Path g i j p)
 

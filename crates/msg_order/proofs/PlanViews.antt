@@ -41,7 +41,7 @@ sets_kept g joined before set few len paths is among = record {
   among = λ i j t. grind (arith, path_among g joined among i j, to_Path g i j, paths i j, is i, is j);
 }
 
--- an order is lawful for the pairs of a plan where it is for the edges that it was settled by
+-- an order is lawful for the pairs of a plan if it is for the edges that it was settled by
 pub lawful_same : (accesses : List Access) (rules : List Rule) (joined : List Bool) (p : PlanView)
     (plan : IsPlanOf accesses rules joined p) (order : List ℕ) → IsLawfulOrder p.precedes p.joined order
     ↔ IsLawfulOrder plan.order joined order

@@ -36,7 +36,7 @@ pub reached_in : (before : List SystemSet) (to reached : SystemSet)
 reached_in before to reached within is k e =
     grind (arith, cases_lt, false≢true, or_cases, within k, is k, meets_past before to k)
 
--- where a set has none of the starts, no path leads on from it
+-- if a set has none of the starts, no path leads on from it
 pub leads_nowhere : (before : List SystemSet) (starts to : SystemSet) → AreStarts before starts
     → meets to starts ≡ false → (k : ℕ) → meets (set_at before k) to ≡ false
 leads_nowhere before starts to are apart k =
@@ -69,7 +69,7 @@ path-at_end g e = same_paths (e ∷ g) (g ++ e ∷ [])
     (λ i j h. grind (arith, Contains-cases e g (i, j) h, Contains-push g e, Contains-append_left g (e ∷ [])))
     (λ i j h. grind (arith, Contains-push_cases g e (i, j) h, Contains-tail e g (i, j)))
 
--- an edge where there is a path already adds none
+-- an edge if there is a path already adds none
 pub path-again : (g : Graph) (a b : ℕ) → path g a b ≡ true → (i j : ℕ) → path g i j ≡ path ((a, b) ∷ g) i j
 path-again g a b p i j = grind (arith, same_test, or_left, or_cases, and_parts, eqb-true, path_trans)
 

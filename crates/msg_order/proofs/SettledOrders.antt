@@ -15,7 +15,7 @@ module _ (rules : List Rule) (joined : List Bool) (conflict : ℕ → ℕ → Bo
       (λ p k m test free among i j e. grind (arith, among i j, Contains-cases p k (i, j) e, and_parts, test))
       (λ i j e. and_parts _ _ (filter-Contains _ (edges_of rules) (i, j) e).1)
 
-  -- it has no cycle where the rules make none
+  -- it has no cycle if the rules make none
   pub settled_no_cycle : IsAcyclic (rules_among joined rules) → IsAcyclic (settled conflict rules joined)
   settled_no_cycle free i =
       no_Path _ i i (settle_keeps (conflict_among joined conflict) (λ k. (s : ℕ) → path k s s ≡ false)

@@ -7,7 +7,7 @@ use Rattle.msg_world.proofs.Bits.{has_bit-zero, has_bit-set, has_bit-unset, has_
 use Rattle.msg_order.specs.{Prelude.SystemSet, declared.system_set.TheConstants.WORDS, inner.SystemSet.has, inner.SystemSet.meets, inner.SystemSet.no_set}
 use Rattle.msg_order.proofs.Elements.{list_any-Contains, Contains-list_any, Contains-range, range-Contains}
 
--- a test holds of a number below n just where it holds of one in the range of n numbers from 0
+-- a test holds of a number below n just if it holds of one in the range of n numbers from 0
 pub some_below : (test : ℕ → Bool) (n k : ℕ) → k < n → test k ≡ true → list_any test (range_with_len 0 n) ≡ true
 some_below test n k lt t =
     list_any-Contains test (range_with_len 0 n) k (Contains-range 0 n k (omega arith) (omega arith)) t
@@ -99,7 +99,7 @@ module _ (words : List ℕ) (k : ℕ) (fits : get_or words (k / 64) 0 < 2 ^ 64) 
         rw word (none_before_next (get_or words (k / 64) 0) (k % 64) fits some (q % 64) (omega (arith, below))
         (omega (arith, below)))
 
-  -- where none is set, none is before the next word
+  -- if none is set, none is before the next word
   pub none_in_word : get_or words (k / 64) 0 / 2 ^ (k % 64) ≡ 0 → (q : ℕ) → k ≤ q → q < (k / 64 + 1) * 64
       → has_bit (get_or words (q / 64) 0) (q % 64) ≡ false
   none_in_word gone q le lt =

@@ -26,7 +26,7 @@ place_of order i h = (h.0, (h.1, sym (get_or_default_zero order h.0 i h.1) ∙ h
 pub of_place : (order : List ℕ) (i a : ℕ) → a < length order → get_or order a 0 ≡ i → Contains order i
 of_place order i a l e = (a, l, get_or_default_zero order a i l ∙ e)
 
--- where each stands once, one place
+-- if each stands once, one place
 pub one_place : (order : List ℕ) (a b : ℕ) → AllPairs (λ i j. i ≢ j) order → a < length order → b < length order
     → get_or order a 0 ≡ get_or order b 0 → a ≡ b
 one_place order a b once la lb e = grind (arith, cases_order)

@@ -9,7 +9,7 @@ FewerSystemsMakeNoCycle = (rules : List Rule) (joined fewer : List Bool)
     → ((i : ℕ) → IsTrue (has_joined fewer i) → IsTrue (has_joined joined i))
     → IsAcyclic (rules_among joined rules) → IsAcyclic (rules_among fewer rules)
 
--- Where the rules make no cycle, the settled order has none.
+-- If the rules make no cycle, the settled order has none.
 abbrev pub SettlingMakesNoCycle : Type 0
 SettlingMakesNoCycle = (accesses : List Access) (rules : List Rule) (joined : List Bool)
     → (order : Graph) → IsSettledOrder accesses rules joined order

@@ -8,7 +8,7 @@ pub fn fewer_systems_make_no_cycle()
     ensures law { FewerSystemsMakeNoCycle }
 {}
 
-/// Where the rules make no cycle, the settled order has none.
+/// If the rules make no cycle, the settled order has none.
 pub fn settling_makes_no_cycle()
     ensures law { SettlingMakesNoCycle }
 {}

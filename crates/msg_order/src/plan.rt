@@ -163,7 +163,7 @@ impl<A: Allocator> Plan<A> {
         ensures keeps_what_precedes { IsTrue result
             ↔ IsLawfulOrder self.now.precedes self.now.joined order.now }
 
-        // Where this is the plan of some systems, the order is lawful for their settled order.
+        // If this is the plan of some systems, the order is lawful for their settled order.
         ensures lawful { (accesses : List AccessView) (rules : List RuleView) (joined : List Bool)
             (plan : IsPlanOf accesses rules joined self.now)
             → IsTrue result ↔ IsLawfulOrder plan.order joined order.now }

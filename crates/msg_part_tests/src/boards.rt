@@ -1,12 +1,13 @@
 // Boards of no jobs, boards that threads share, and jobs that hold boxes.
-ghost use Rattle.std.specs.Prelude.{◌≡◌, ◌+◌, ◌<◌, ◌≤◌, length};
-ghost use Rattle.msg_board.specs.Prelude.{IsIdle, HasEnded};
+ghost use Rattle.std.specs.Prelude.{◌≡◌, ◌+◌, ◌<◌, ◌≤◌, Some, length, slice_get};
+ghost use Rattle.msg_board.specs.Prelude.{HasEnded, IsIdle, IsOf, jobs_of};
 
 mod boxes;
 mod out_of_memory;
 
+use crate::outcome::expect_eq;
 use msg_board::{Board, MAX_JOBS, MAX_PASSES, NoMemory, Pass, Work};
-use std::alloc::Global;
+use std::alloc::{Allocator, Global};
 use std::panic::Expect;
 use std::process::Abort;
 use std::thread;
@@ -78,39 +79,85 @@ fn threads_draw_jobs(rt: HostRuntime) {
         assert!(rt; jobs.len() <= MAX_JOBS);
         let results = run_jobs::<HostRuntime, AddOne>(&rt, rt.alloc(), jobs, passes);
         let results = results.expect(&rt, "results");
-        assert_eq!(rt; results.len(), n as usize);
+        expect_eq(&rt, &results.len(), &(n as usize));
         assert!(rt; results.iter().enumerate().all(|(i, x)| *x == i as u64 + 1));
     }
 }
 
-/// Draws the next job, which has this number, and hands in its successor.
-fn run_next(rt: &impl Abort, board: &Board<AddOne>, pass: &mut Pass<u32, u64>, number: usize)
-    requires idle { IsIdle board.now pass.old }
-    ensures idle { IsIdle board.now pass.new }
-{
-    let Some((k, job)) = board.draw(pass) else {
-        panic!(rt; "job {number}")
-    };
-    assert_eq!(rt;
-        (k, pass.holding(), pass.is_finished()),
-        (number, Some(number), false)
-    );
-    board.hand_in(pass, k, AddOne::run(job));
-    assert_eq!(rt; pass.holding(), None);
+/// The pass isn't finished, and holds this job, if any.
+fn expect_holding(rt: &impl Abort, pass: &Pass<u32, u64>, number: Option<usize>) {
+    expect_eq(rt, &(pass.holding(), pass.is_finished()), &(number, false));
 }
 
-/// Draws None, twice.
-fn end(rt: &impl Abort, board: &Board<AddOne>, pass: &mut Pass<u32, u64>)
+/// Draws the next job, which has this number.
+fn draw_next<W: Work>(
+    rt: &impl Abort,
+    board: &Board<W>,
+    pass: &mut Pass<W::Job, W::Done>,
+    number: usize,
+) -> W::Job
+    requires idle { IsIdle board.now pass.old }
+    ensures own { IsOf board.now pass.new }
+    ensures holds { pass.new.holding ≡ Some number }
+    ensures job { slice_get (jobs_of board.now) number ≡ Some result }
+{
+    let (k, job) = board.draw(pass).expect(rt, "a job");
+    assert_eq!(rt; k, number);
+    job
+}
+
+/// Draws a job, which has this number and this value.
+fn draw_value(
+    rt: &impl Abort,
+    board: &Board<AddOne>,
+    pass: &mut Pass<u32, u64>,
+    number: usize,
+    value: u32,
+)
+    requires idle { IsIdle board.now pass.old }
+    ensures own { IsOf board.now pass.new }
+    ensures holds { pass.new.holding ≡ Some number }
+    ensures job { slice_get (jobs_of board.now) number ≡ Some value }
+{
+    assert_eq!(rt; draw_next(rt, board, pass, number), value);
+    expect_holding(rt, pass, Some(number));
+}
+
+/// Draws None, and is finished.
+fn draw_none<W: Work, A: Allocator + Copy>(
+    rt: &impl Abort,
+    board: &Board<W, A>,
+    pass: &mut Pass<W::Job, W::Done>,
+)
     requires idle { IsIdle board.now pass.old }
     ensures ended { HasEnded board.now pass.new }
 {
     assert!(rt; board.draw(pass).is_none());
     assert!(rt; pass.is_finished() && pass.holding().is_none());
-    assert!(rt; board.draw(pass).is_none());
-    assert!(rt; pass.is_finished());
 }
 
-/// The second of two passes holds a job while the first draws all others.
+/// The second pass holds a job while the first draws all others. Both draw None twice.
+fn work_off(rt: &impl Abort, board: &Board<AddOne>, a: &mut Pass<u32, u64>, b: &mut Pass<u32, u64>)
+    requires a { IsIdle board.now a.old }
+    requires b { IsIdle board.now b.old }
+    ensures a { HasEnded board.now a.new }
+    ensures b { HasEnded board.now b.new }
+{
+    draw_value(rt, board, a, 0, 10);
+    draw_value(rt, board, b, 1, 20);
+    board.hand_in(a, 0, 11);
+    expect_holding(rt, a, None);
+    draw_value(rt, board, a, 2, 30);
+    board.hand_in(a, 2, 31);
+    expect_holding(rt, a, None);
+    draw_none(rt, board, a);
+    draw_none(rt, board, a);
+    expect_holding(rt, b, Some(1));
+    board.hand_in(b, 1, 21);
+    draw_none(rt, board, b);
+    draw_none(rt, board, b);
+}
+
 #[test]
 fn two_passes_and_three_jobs(rt: HostRuntime) {
     let jobs = vec![in rt.alloc(); 10, 20, 30].expect(&rt, "jobs");
@@ -119,22 +166,11 @@ fn two_passes_and_three_jobs(rt: HostRuntime) {
     let (Some(mut b), Some(mut a)) = (passes.pop(), passes.pop()) else {
         panic!(rt; "two passes")
     };
-    let Some((0, 10)) = board.draw(&mut a) else {
-        panic!(rt; "the first job")
-    };
-    let Some((1, 20)) = board.draw(&mut b) else {
-        panic!(rt; "the second job")
-    };
-    board.hand_in(&mut a, 0, 11);
-    run_next(&rt, &board, &mut a, 2);
-    end(&rt, &board, &mut a);
-    assert_eq!(rt; b.holding(), Some(1));
-    board.hand_in(&mut b, 1, 21);
-    end(&rt, &board, &mut b);
+    work_off(&rt, &board, &mut a, &mut b);
     passes.push(a).expect(&rt, "a list");
     passes.push(b).expect(&rt, "a list");
     let results = board.close(rt.alloc(), passes).expect(&rt, "results");
-    assert_eq!(rt; results.as_slice(), [11, 21, 31].as_slice());
+    expect_eq(&rt, &results.as_slice(), &[11, 21, 31].as_slice());
 }
 
 /// A board without jobs, over another allocator than `Global`.
@@ -146,8 +182,7 @@ fn no_jobs_and_one_pass(rt: HostRuntime) {
     let Some(mut pass) = passes.pop() else {
         panic!(rt; "a pass")
     };
-    let drawn = board.draw(&mut pass);
-    assert!(rt; drawn.is_none());
+    draw_none(&rt, &board, &mut pass);
     passes.push(pass).expect(&rt, "a list");
     let results = board.close(&heap, passes).expect(&rt, "results");
     assert!(rt; results.is_empty());

@@ -1,6 +1,7 @@
 // Buffers: what calls files can't show, and the texts of refusals.
 mod out_of_memory;
 
+use crate::outcome::{expect_eq, expect_text};
 use msg_buffer::laws::{
     histories_only_grow, messages_outlive_one_update, readers_tile, reads_may_be_left,
 };
@@ -8,20 +9,28 @@ use msg_buffer::{BatchRefusal, MessageCursor, MessageId, Messages, WriteRefusal}
 use std::panic::Expect;
 use std::process::Abort;
 
+fn write_values(rt: &impl Abort, buffer: &mut Messages<i64>, values: &[i64]) {
+    for value in values {
+        assert!(rt; buffer.write(*value).is_ok());
+    }
+}
+
+/// The buffer has nothing for this cursor.
+fn expect_none_for(rt: &impl Abort, cursor: &mut MessageCursor, buffer: &Messages<i64>) {
+    expect_eq(rt, &(cursor.missed(buffer), cursor.len(buffer)), &(0, 0));
+    assert!(rt; cursor.read(buffer).next().is_none());
+}
+
 #[test]
 fn cursor_past_the_count(rt: HostRuntime) {
-    let mut buffer: Messages<i64> = Messages::new(rt.alloc(), 10);
-    for value in 0..3 {
-        assert!(rt; buffer.write(value).is_ok());
-    }
+    let mut buffer = Messages::new(rt.alloc(), 10);
+    write_values(&rt, &mut buffer, &[0, 1, 2]);
     let mut cursor = buffer.get_cursor_current();
     let fresh: Messages<i64> = Messages::new(rt.alloc(), 10);
-    assert_eq!(rt; cursor.missed(&fresh), 0);
-    assert_eq!(rt; cursor.len(&fresh), 0);
-    assert!(rt; cursor.read(&fresh).next().is_none());
-    assert_eq!(rt; cursor.place(), 3);
+    expect_none_for(&rt, &mut cursor, &fresh);
+    expect_eq(&rt, &cursor.place(), &3);
     cursor.clear(&fresh);
-    assert_eq!(rt; cursor.place(), 0);
+    expect_eq(&rt, &cursor.place(), &0);
 }
 
 /// A buffer of these words.
@@ -44,15 +53,25 @@ fn walk_to(cursor: &mut MessageCursor, buffer: &Messages<String>, word: &str) ->
     None
 }
 
+/// Reads on to the word "east", if it comes, and the cursor is at `place` then.
+fn expect_walk(
+    rt: &impl Abort,
+    cursor: &mut MessageCursor,
+    buffer: &Messages<String>,
+    want: Option<MessageId>,
+    place: u64,
+) {
+    expect_eq(rt, &walk_to(cursor, buffer, "east"), &want);
+    expect_eq(rt, &cursor.place(), &place);
+}
+
 #[test]
 fn a_walk_left_early(rt: HostRuntime) {
     let buffer = of_words(&rt, &["north", "east", "south", "west"]);
     let mut cursor = buffer.get_cursor();
-    assert_eq!(rt; walk_to(&mut cursor, &buffer, "east"), Some(MessageId(1)));
-    assert_eq!(rt; cursor.place(), 2);
-    assert_eq!(rt; cursor.read(&buffer).len(), 2);
-    assert_eq!(rt; walk_to(&mut cursor, &buffer, "east"), None);
-    assert_eq!(rt; cursor.place(), 4);
+    expect_walk(&rt, &mut cursor, &buffer, Some(MessageId(1)), 2);
+    expect_eq(&rt, &cursor.read(&buffer).len(), &2);
+    expect_walk(&rt, &mut cursor, &buffer, None, 4);
     buffer.stands_for_some();
     histories_only_grow::<String>();
     messages_outlive_one_update::<String>();
@@ -61,27 +80,23 @@ fn a_walk_left_early(rt: HostRuntime) {
 
 #[test]
 fn refusals_say_why(rt: HostRuntime) {
-    let spent: WriteRefusal<i64> = WriteRefusal::NumbersSpent(1);
+    let none_left: WriteRefusal<i64> = WriteRefusal::NumbersSpent(1);
+    expect_text(&rt, &none_left, "no number is left");
     let refused: WriteRefusal<i64> = WriteRefusal::NoMemory(1);
-    let few: BatchRefusal<i64> = BatchRefusal::NumbersSpent(Vec::new(rt.alloc()));
-    let none: BatchRefusal<i64> = BatchRefusal::NoMemory(Vec::new(rt.alloc()));
-    let texts = format!(in rt.alloc(); "{spent}, {refused}, {few}, {none}").expect(&rt, "texts");
-    assert_eq!(rt;
-        texts.as_str(),
-        "no number is left, want of memory, too few numbers are left, want of memory"
-    );
+    expect_text(&rt, &refused, "want of memory");
+    let few_left: BatchRefusal<i64> = BatchRefusal::NumbersSpent(Vec::new(rt.alloc()));
+    expect_text(&rt, &few_left, "too few numbers are left");
+    let refused: BatchRefusal<i64> = BatchRefusal::NoMemory(Vec::new(rt.alloc()));
+    expect_text(&rt, &refused, "want of memory");
 }
 
 /// A buffer that dropped the messages 0 and 1, and keeps the next three.
 fn after_two(rt: &(impl Abort + AllocGlobal)) -> Messages<i64> {
     let mut buffer = Messages::new(rt.alloc(), 10);
-    for value in 0..5 {
-        if value == 2 {
-            buffer.update();
-            buffer.update();
-        }
-        assert!(rt; buffer.write(value).is_ok());
-    }
+    write_values(rt, &mut buffer, &[0, 1]);
+    buffer.update();
+    buffer.update();
+    write_values(rt, &mut buffer, &[2, 3, 4]);
     buffer
 }
 
@@ -89,15 +104,18 @@ fn after_two(rt: &(impl Abort + AllocGlobal)) -> Messages<i64> {
 fn expect_left(rt: &impl Abort, buffer: &Messages<i64>, taken: u64, place: u64) {
     let mut cursor = MessageCursor::default();
     reads_may_be_left(&mut cursor, buffer, taken);
-    assert_eq!(rt; cursor.place(), place, "after {taken}");
-    assert_eq!(rt; cursor.missed(buffer), 0);
-    assert_eq!(rt; Some(cursor.len(buffer)), 5u64.checked_sub(place));
+    expect_eq(rt, &(taken, cursor.place()), &(taken, place));
+    expect_eq(rt, &cursor.missed(buffer), &0);
+    expect_eq(rt, &cursor.len(buffer), &5u64.saturating_sub(place));
 }
 
 #[test]
 fn what_is_not_taken_stays_unread(rt: HostRuntime) {
     let buffer = after_two(&rt);
-    for (taken, place) in [(0, 2), (1, 3), (2, 4), (3, 5), (4, 5), (u64::MAX, 5)] {
-        expect_left(&rt, &buffer, taken, place);
-    }
+    expect_left(&rt, &buffer, 0, 2);
+    expect_left(&rt, &buffer, 1, 3);
+    expect_left(&rt, &buffer, 2, 4);
+    expect_left(&rt, &buffer, 3, 5);
+    expect_left(&rt, &buffer, 4, 5);
+    expect_left(&rt, &buffer, u64::MAX, 5);
 }

@@ -1,5 +1,5 @@
 //! Tests of the crates below the engine, by public contracts alone. They show what no clause says:
-//! that calls succeed while memory is there, what follows where it isn't, texts, threads, and that
+//! that calls succeed while memory is there, what follows if it isn't, texts, threads, and that
 //! the definitions are meant as they are.
 #![tactic(auto)]
 

@@ -1,41 +1,71 @@
 // Plans of worked rules and accesses.
+ghost use Rattle.std.specs.Prelude.{◌≡◌, ◌≤◌, length};
+ghost use Rattle.msg_order.specs.Prelude.{NameSystemsBelow};
+
 mod out_of_memory;
 
 use crate::numbers::of_types as uses;
+use crate::outcome::{expect_eq, expect_text};
 use msg_order::{Plan, PlanRefusal, Rule, lowest_on_cycle};
 use msg_world::{Access, MAX_SYSTEMS};
 use std::alloc::Global;
 use std::panic::Expect;
+use std::process::Abort;
 
 fn has_batches(plan: &Plan, want: &[&[u32]]) -> bool {
     let mut pairs = plan.batches().iter().zip(want);
     plan.batches().len() == want.len() && pairs.all(|(batch, want)| batch.as_slice() == *want)
 }
 
+/// The plan of these systems, which has these batches.
+fn plan_with(
+    rt: &(impl Abort + AllocGlobal),
+    accesses: &[Access],
+    rules: &[Rule],
+    joined: &[bool],
+    batches: &[&[u32]],
+) -> Plan
+    requires few { length accesses.now ≤ MAX_SYSTEMS }
+    requires one_each { length joined.now ≡ length accesses.now }
+    requires in_range { NameSystemsBelow (length accesses.now) rules.now }
+{
+    let plan = Plan::build(rt.alloc(), accesses, rules, joined).expect(rt, "a plan");
+    assert!(rt; has_batches(&plan, batches));
+    plan
+}
+
+/// Whether one system precedes the other.
+fn expect_precedes(rt: &impl Abort, plan: &Plan, one: u32, other: u32, want: bool) {
+    let precedes = plan.precedes(one, other);
+    expect_eq(rt, &(one, other, precedes), &(one, other, want));
+}
+
+/// Whether the plan takes this order.
+fn expect_accepts(rt: &impl Abort, plan: &Plan, order: &[u32], want: bool) {
+    expect_eq(rt, &(order, plan.accepts(order)), &(order, want));
+}
+
 #[test]
 fn no_systems(rt: HostRuntime) {
-    let plan = Plan::build(rt.alloc(), &[], &[], &[]).expect(&rt, "a plan");
-    assert!(rt; has_batches(&plan, &[]));
-    assert!(rt; plan.accepts(&[]));
-    assert!(rt; !plan.accepts(&[0]));
-    assert!(rt; !plan.precedes(0, 0));
+    let plan = plan_with(&rt, &[], &[], &[], &[]);
+    expect_accepts(&rt, &plan, &[], true);
+    expect_accepts(&rt, &plan, &[0], false);
+    expect_precedes(&rt, &plan, 0, 0, false);
 }
 
 #[test]
 fn readers_run_side_by_side(rt: HostRuntime) {
     let accesses = [uses(0, 1), uses(1, 0), uses(1, 0), uses(0, 1)];
-    let plan = Plan::build(rt.alloc(), &accesses, &[], &[true; 4]).expect(&rt, "a plan");
-    assert!(rt; has_batches(&plan, &[&[0], &[1, 2], &[3]]));
-    assert!(rt; plan.precedes(0, 3));
-    assert!(rt; !plan.precedes(1, 2));
+    let plan = plan_with(&rt, &accesses, &[], &[true; 4], &[&[0], &[1, 2], &[3]]);
+    expect_precedes(&rt, &plan, 0, 3, true);
+    expect_precedes(&rt, &plan, 1, 2, false);
 }
 
 #[test]
 fn a_settled_pair_leaves_the_next_no_choice(rt: HostRuntime) {
-    let rules = [Rule::before(2, 0)];
-    let plan = Plan::build(rt.alloc(), &[uses(0, 1); 3], &rules, &[true; 3]).expect(&rt, "a plan");
-    assert!(rt; has_batches(&plan, &[&[2], &[0], &[1]]));
-    assert!(rt; plan.precedes(2, 1));
+    let (accesses, rules) = ([uses(0, 1); 3], [Rule::before(2, 0)]);
+    let plan = plan_with(&rt, &accesses, &rules, &[true; 3], &[&[2], &[0], &[1]]);
+    expect_precedes(&rt, &plan, 2, 1, true);
 }
 
 /// The plan of two writers and their readers, where each reader runs before the other's writer.
@@ -47,84 +77,94 @@ fn contradictory_plan(alloc: Global) -> Result<Plan, PlanRefusal> {
 
 #[test]
 fn rules_against_the_order_of_addition(rt: HostRuntime) {
-    assert_eq!(rt; Rule::after(0, 2), Rule::before(2, 0));
+    expect_eq(&rt, &Rule::after(0, 2), &Rule::before(2, 0));
     let plan = contradictory_plan(rt.alloc()).expect(&rt, "a plan");
     assert!(rt; has_batches(&plan, &[&[2], &[0], &[3], &[1]]));
-    assert!(rt; plan.precedes(2, 1));
-    assert!(rt; !plan.precedes(1, 2));
-    assert!(rt; !plan.precedes(2, 300));
-    assert!(rt; plan.accepts(&[2, 0, 3, 1]));
-    assert!(rt; !plan.accepts(&[0, 2, 3, 1]));
-    assert!(rt; !plan.accepts(&[2, 0, 3]));
-    assert!(rt; !plan.accepts(&[2, 0, 3, 1, 1]));
-    assert!(rt; !plan.accepts(&[2, 0, 3, 300]));
+    expect_precedes(&rt, &plan, 2, 1, true);
+    expect_precedes(&rt, &plan, 1, 2, false);
+    expect_precedes(&rt, &plan, 2, 300, false);
+    expect_accepts(&rt, &plan, &[2, 0, 3, 1], true);
+    expect_accepts(&rt, &plan, &[0, 2, 3, 1], false);
+    expect_accepts(&rt, &plan, &[2, 0, 3], false);
+    expect_accepts(&rt, &plan, &[2, 0, 3, 1, 1], false);
+    expect_accepts(&rt, &plan, &[2, 0, 3, 300], false);
+}
+
+/// There is no plan of these systems: their rules make a cycle, of which this is the lowest system.
+fn expect_cycle(
+    rt: &(impl Abort + AllocGlobal),
+    accesses: &[Access],
+    rules: &[Rule],
+    joined: &[bool],
+    lowest: u32,
+)
+    requires few { length accesses.now ≤ MAX_SYSTEMS }
+    requires one_each { length joined.now ≡ length accesses.now }
+    requires in_range { NameSystemsBelow (length accesses.now) rules.now }
+{
+    let plan = Plan::build(rt.alloc(), accesses, rules, joined);
+    assert!(rt; matches!(&plan, Err(PlanRefusal::Cycle(system)) if *system == lowest));
 }
 
 #[test]
 fn a_cycle_of_rules_names_its_lowest_system(rt: HostRuntime) {
-    let idle = [Access::none(); 2];
+    let (idle, joined) = ([Access::none(); 2], [true; 2]);
     let around = [Rule::before(0, 1), Rule::before(1, 0)];
-    let around = Plan::build(rt.alloc(), &idle, &around, &[true; 2]);
-    assert!(rt; matches!(&around, Err(PlanRefusal::Cycle(0))));
-    let own = Plan::build(rt.alloc(), &idle, &[Rule::before(1, 1)], &[true; 2]);
-    assert!(rt; matches!(&own, Err(PlanRefusal::Cycle(1))));
+    expect_cycle(&rt, &idle, &around, &joined, 0);
+    expect_cycle(&rt, &idle, &[Rule::before(1, 1)], &joined, 1);
 }
 
 #[test]
 fn refusals_say_why(rt: HostRuntime) {
-    let (cycle, refused) = (PlanRefusal::Cycle(1), PlanRefusal::NoMemory);
-    let texts = format!(in rt.alloc(); "{cycle}; {refused}").expect(&rt, "texts");
-    assert_eq!(rt;
-        texts.as_str(),
-        "the rules go round in a circle through system 1; want of memory"
+    expect_text(
+        &rt,
+        &PlanRefusal::Cycle(1),
+        "the rules go round in a circle through system 1",
     );
+    expect_text(&rt, &PlanRefusal::NoMemory, "want of memory");
+}
+
+/// The lowest system on a cycle of these rules, if there is one.
+fn expect_lowest(rt: &impl Abort, systems: usize, rules: &[Rule], want: Option<u32>)
+    requires few { systems ≤ MAX_SYSTEMS }
+    requires in_range { NameSystemsBelow systems rules.now }
+{
+    expect_eq(rt, &lowest_on_cycle(systems, rules), &want);
 }
 
 #[test]
 fn the_lowest_system_on_a_cycle(rt: HostRuntime) {
     let around = [Rule::before(0, 1), Rule::before(3, 2), Rule::after(3, 2)];
-    assert_eq!(rt; lowest_on_cycle(4, &around), Some(2));
-    assert_eq!(rt; lowest_on_cycle(4, &around[..2]), None);
-    assert_eq!(rt; lowest_on_cycle(0, &[]), None);
+    expect_lowest(&rt, 4, &around, Some(2));
+    expect_lowest(&rt, 4, &around[..2], None);
+    expect_lowest(&rt, 0, &[], None);
 }
 
 #[test]
 fn what_has_not_joined_has_no_effect(rt: HostRuntime) {
-    let idle = [Access::none(); 3];
+    let (idle, early, all) = ([Access::none(); 3], [true, false, true], [true; 3]);
     let chain = [Rule::before(0, 1), Rule::before(1, 2)];
+    let plan = plan_with(&rt, &idle, &chain, &early, &[&[0, 2]]);
+    expect_precedes(&rt, &plan, 0, 2, false);
+    expect_precedes(&rt, &plan, 0, 1, false);
+    let plan = plan_with(&rt, &idle, &chain, &all, &[&[0], &[1], &[2]]);
+    expect_precedes(&rt, &plan, 0, 2, true);
     let own = [Rule::before(1, 1)];
-    let early = [true, false, true];
-    let plan = Plan::build(rt.alloc(), &idle, &chain, &early).expect(&rt, "a plan");
-    assert!(rt; has_batches(&plan, &[&[0, 2]]));
-    assert!(rt; !plan.precedes(0, 2));
-    assert!(rt; !plan.precedes(0, 1));
-    let plan = Plan::build(rt.alloc(), &idle, &chain, &[true; 3]).expect(&rt, "a plan");
-    assert!(rt; has_batches(&plan, &[&[0], &[1], &[2]]));
-    assert!(rt; plan.precedes(0, 2));
-    let plan = Plan::build(rt.alloc(), &idle, &own, &early).expect(&rt, "a plan");
-    assert!(rt; has_batches(&plan, &[&[0, 2]]));
-    let all = Plan::build(rt.alloc(), &idle, &own, &[true; 3]);
-    assert!(rt; matches!(&all, Err(PlanRefusal::Cycle(1))));
+    plan_with(&rt, &idle, &own, &early, &[&[0, 2]]);
+    expect_cycle(&rt, &idle, &own, &all, 1);
+}
+
+/// As many systems of one access as may be make so many batches.
+fn expect_many(rt: &(impl Abort + AllocGlobal), access: Access, batches: usize, precedes: bool) {
+    let accesses = [access; MAX_SYSTEMS];
+    let plan = Plan::build(rt.alloc(), &accesses, &[], &[true; MAX_SYSTEMS]);
+    let plan = plan.expect(rt, "a plan");
+    expect_eq(rt, &plan.batches().len(), &batches);
+    expect_precedes(rt, &plan, 0, MAX_SYSTEMS as u32 - 1, precedes);
 }
 
 #[test]
 fn many_systems(rt: HostRuntime) {
-    let apart = Plan::build(
-        rt.alloc(),
-        &[uses(0, 1); MAX_SYSTEMS],
-        &[],
-        &[true; MAX_SYSTEMS],
-    )
-    .expect(&rt, "a plan");
-    assert_eq!(rt; apart.batches().len(), MAX_SYSTEMS);
-    assert!(rt; apart.precedes(0, MAX_SYSTEMS as u32 - 1));
-    let together = Plan::build(
-        rt.alloc(),
-        &[uses(1, 0); MAX_SYSTEMS],
-        &[],
-        &[true; MAX_SYSTEMS],
-    )
-    .expect(&rt, "a plan");
-    assert_eq!(rt; together.batches().len(), 1);
-    assert!(rt; !together.precedes(0, MAX_SYSTEMS as u32 - 1));
+    expect_many(&rt, uses(0, 1), MAX_SYSTEMS, true);
+    expect_many(&rt, uses(1, 0), 1, false);
 }

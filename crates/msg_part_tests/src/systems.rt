@@ -3,6 +3,7 @@ mod boxes;
 mod out_of_memory;
 
 use crate::numbers::{res_no, type_no};
+use crate::outcome::expect_eq;
 use msg_system::{Items, Op, Program, Start};
 use std::panic::Expect;
 
@@ -20,8 +21,12 @@ fn a_copy_of_a_clash_is_one(rt: HostRuntime) {
     let clash = program_of(vec![in alloc; Op::Forward(t, t)].expect(&rt, "an op"));
     assert!(rt; clash.access().is_clash());
     let copied = clash.copy(alloc).expect(&rt, "a copy");
-    assert_eq!(rt; copied.access(), clash.access());
-    assert_eq!(rt; copied.ops.into_vec().as_slice(), clash.ops.as_slice());
+    expect_eq(&rt, &copied.access(), &clash.access());
+    expect_eq(
+        &rt,
+        &copied.ops.into_vec().as_slice(),
+        &clash.ops.as_slice(),
+    );
 }
 
 #[test]

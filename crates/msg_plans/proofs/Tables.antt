@@ -16,7 +16,8 @@ use Rattle.msg_frames.specs.declared.place.Place.{Place}
 use Rattle.msg_frames.specs.Frames.{settled_order}
 use Rattle.msg_frames.proofs.{Functions.plan_order, SystemsStay.joining_on_keeps}
 use Rattle.msg_scenario_data.specs.Prelude.{IsRunnable, first_world, meanings_of, places_of, state_of}
-use Rattle.msg_scenario_data.specs.{declared.limits.TheConstants.MAX_RESOURCES, declared.limits.TheConstants.MAX_TYPES, declared.scenario.Scenario.Scenario, declared.scenario.SystemSpec.SystemSpec}
+use Rattle.msg_scenario_data.specs.{declared.scenario.Scenario.Scenario, declared.scenario.SystemSpec.SystemSpec}
+use Rattle.msg_world.specs.declared.limits.TheConstants.{MAX_RESOURCES, MAX_TYPES}
 use Rattle.msg_plans.specs.Order.{batches_in, needs_in, precedes, state_in}
 use Rattle.msg_plans.specs.inner.Tables.{AreAccesses, IsTableOf, joined_by, spec_needs}
 use Rattle.msg_plans.specs.declared.planned.Planned.{Planned}

@@ -6,7 +6,8 @@ use Rattle.msg_system.specs.Prelude.{needs_any, program_needs}
 use Rattle.msg_text.specs.Prelude.{Text}
 use Rattle.msg_frames.specs.declared.frame.Frame.{Frame}
 use Rattle.msg_scenario_data.specs.Prelude.{resource_name, system_name, type_name}
-use Rattle.msg_scenario_data.specs.{declared.limits.TheConstants.LAST_JOIN, declared.scenario.Scenario.Scenario, declared.scenario.SystemSpec.SystemSpec}
+use Rattle.msg_scenario_data.specs.{declared.scenario.Scenario.Scenario, declared.scenario.SystemSpec.SystemSpec}
+use Rattle.msg_frames.specs.declared.limits.TheConstants.{LAST_JOIN}
 use Rattle.msg_order.specs.declared.rule.Rule.{Rule}
 use Rattle.msg_plans.specs.Order.{needs_in, precedes, turns_in, uses}
 use Rattle.msg_plans.specs.{declared.planned.Use.Use, declared.remarks.TypeRemark.TypeRemark}

@@ -5,9 +5,9 @@ ghost use Rattle.msg_plans.specs.Prelude.{all_causes, cause_text, causes, causes
 ghost use Rattle.msg_plans.specs.inner.Tables.{IsTableOf};
 
 use crate::planned::Planned;
+use msg_scenario_data::Scenario;
 use msg_scenario_data::names::{add_resource, add_type};
-use msg_scenario_data::{MAX_RESOURCES, MAX_TYPES, Scenario};
-use msg_world::{NoMemory, ResNo, TypeNo};
+use msg_world::{MAX_RESOURCES, MAX_TYPES, NoMemory, ResNo, TypeNo};
 use std::alloc::Global;
 
 /// Why one system is before another: a rule says so, or one of them writes a part of the world that

@@ -7,9 +7,9 @@ use crate::Cause;
 use crate::batches::add_quoted;
 use crate::cause::{add_causes, causes_of, has_rule};
 use crate::planned::{Form, Planned};
+use msg_scenario_data::Scenario;
 use msg_scenario_data::names::add_system;
-use msg_scenario_data::{MAX_RESOURCES, MAX_TYPES, Scenario};
-use msg_world::NoMemory;
+use msg_world::{MAX_RESOURCES, MAX_TYPES, NoMemory};
 
 fn add_line(
     text: &mut Vec<u8>,

@@ -71,7 +71,7 @@ fn joined_by(alloc: Global, systems: &[SystemSpec], frame: u32) -> Result<Vec<bo
         .collect(alloc)
 }
 
-/// The plan of a frame, where the systems have these accesses.
+/// The plan of a frame, if the systems have these accesses.
 fn plan_of(
     alloc: Global,
     scenario: &Scenario,

@@ -10,10 +10,10 @@ use crate::batches::{add_batches, add_chain};
 use crate::edges::add_edges;
 use crate::planned::{Form, Planned, plan_frame};
 use crate::users::add_types;
-use msg_scenario_data::{MAX_RESOURCES, MAX_TYPES, Scenario};
+use msg_scenario_data::Scenario;
 use msg_text::numerals::add_count;
 use msg_text::{ReportFault, Sink, put_text};
-use msg_world::NoMemory;
+use msg_world::{MAX_RESOURCES, MAX_TYPES, NoMemory};
 use std::alloc::Global;
 
 fn add_lines(text: &mut Vec<u8>, scenario: &Scenario, planned: &Planned) -> Result<(), NoMemory>
@@ -61,10 +61,12 @@ fn add_plan(text: &mut Vec<u8>, scenario: &Scenario, frame: u32, form: Form) -> 
         (text.new.items ≡ text.old.items ++ plan_text form scenario.now frame) }
 {
     let planned = plan_frame(*text.allocator(), scenario, frame)?;
-    match form {
+    let added = match form {
         Form::Lines => add_lines(text, scenario, &planned),
         Form::Dot => add_dot(text, scenario, &planned),
-    }
+    };
+    drop(planned);
+    added
 }
 
 /// Puts the plan of a frame into a sink: its batches, why each system is before the next, who
@@ -73,7 +75,7 @@ fn add_plan(text: &mut Vec<u8>, scenario: &Scenario, frame: u32, form: Form) -> 
 ///
 /// # Errors
 ///
-/// `Write` where the sink failed, and `NoMemory` where there was no memory for the text.
+/// `Write` if the sink failed, and `NoMemory` if there was no memory for the text.
 pub fn put_plan<S: Sink>(
     alloc: Global,
     scenario: &Scenario,
@@ -89,7 +91,7 @@ pub fn put_plan<S: Sink>(
     ensures prefix { OnErr result (AppendsPrefix (S.contents sink.old) (S.contents sink.new)
         (plan_text form scenario.now frame)) }
 
-    // The sink failed where the fault is `Write`, and was given nothing where it is `NoMemory`.
+    // The sink failed if the fault is `Write`, and was given nothing if it is `NoMemory`.
     ensures write { result ≡ Err ReportFault.Write
         → S.failures sink.new ≡ one_failure_more (S.failures sink.old) }
     ensures memory { result ≡ Err ReportFault.NoMemory → sink.new ≡ sink.old }

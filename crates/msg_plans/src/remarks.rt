@@ -5,11 +5,11 @@ ghost use Rattle.msg_plans.specs.Remarks as Spec;
 ghost use Rattle.msg_plans.specs.inner.Tables.{IsTableOf};
 
 use crate::planned::{Planned, Use, plan_frame};
-use msg_frames::Frame;
+use msg_frames::{Frame, LAST_JOIN};
 use msg_scenario_data::names::{add_name, add_resource, add_system, add_type};
-use msg_scenario_data::{LAST_JOIN, MAX_RESOURCES, MAX_SYSTEMS, MAX_TYPES, Scenario, SystemSpec};
+use msg_scenario_data::{Scenario, SystemSpec};
 use msg_text::numerals::add_count;
-use msg_world::{NoMemory, ResNo, TypeNo};
+use msg_world::{MAX_RESOURCES, MAX_SYSTEMS, MAX_TYPES, NoMemory, ResNo, TypeNo};
 
 /// What there is to remark of a type.
 #[derive(Clone, Copy)]
@@ -449,10 +449,23 @@ pub fn add_remarks(text: &mut Vec<u8>, scenario: &Scenario) -> Result<(), NoMemo
         (text.new.items ≡ text.old.items ++ Spec.remarks_text scenario.now) }
 {
     let planned = plan_frame(*text.allocator(), scenario, LAST_JOIN)?;
-    add_of_types(text, scenario, &planned, TypeRemark::Half(Use::Read))?;
-    add_of_types(text, scenario, &planned, TypeRemark::Half(Use::Write))?;
-    add_unused(text, scenario, &planned)?;
+    let added = add_by_plan(text, scenario, &planned);
+    drop(planned);
+    added
+}
+
+/// The same, by the plan in which every system has joined.
+fn add_by_plan(text: &mut Vec<u8>, scenario: &Scenario, planned: &Planned) -> Result<(), NoMemory>
+    requires runnable { IsRunnable scenario.now }
+    requires table { IsTableOf scenario.now planned.now }
+    requires all { planned.now.frame ≡ Spec.everybody }
+    ensures appends { OnOk result
+        (text.new.items ≡ text.old.items ++ Spec.remarks_text scenario.now) }
+{
+    add_of_types(text, scenario, planned, TypeRemark::Half(Use::Read))?;
+    add_of_types(text, scenario, planned, TypeRemark::Half(Use::Write))?;
+    add_unused(text, scenario, planned)?;
     add_absent(text, scenario)?;
-    add_late(text, scenario, &planned)?;
-    add_skipped(text, scenario, &planned)
+    add_late(text, scenario, planned)?;
+    add_skipped(text, scenario, planned)
 }

@@ -4,9 +4,9 @@ ghost use Rattle.msg_plans.specs.Prelude.{is_late, type_line, types_text, user, 
 ghost use Rattle.msg_plans.specs.inner.Tables.{IsTableOf};
 
 use crate::planned::{Planned, Use, User};
+use msg_scenario_data::Scenario;
 use msg_scenario_data::names::{add_system, add_type};
-use msg_scenario_data::{MAX_TYPES, Scenario};
-use msg_world::{NoMemory, TypeNo};
+use msg_world::{MAX_TYPES, NoMemory, TypeNo};
 use std::alloc::Global;
 
 /// Whether a system runs before one that writes the type.

@@ -20,7 +20,7 @@ module _ {A : Type 0} (p : A → Bool) where
   found-any [] = refl
   found-any (x ∷ xs) = grind (arith, common_steps, found-any xs)
 
-  -- where none is found, none passes
+  -- if none is found, none passes
   pub none-any : (xs : List A) → position p xs ≡ None → list_any p xs ≡ false
   none-any xs none = grind (arith, found-any)
 

@@ -12,7 +12,9 @@ use Rattle.msg_text.specs.Prelude.{Text}
 use Rattle.msg_json.specs.declared.location.Key.TheVariants as key
 use Rattle.msg_json.specs.declared.location.Step.TheVariants as step
 use Rattle.msg_scenario_data.specs.{Prelude.IsRunnable, Prelude.fits_kind, declared.kind.Kind.Kind, declared.scenario.Scenario.Scenario, declared.scenario.SystemSpec.SystemSpec}
-use Rattle.msg_scenario_data.specs.declared.limits.TheConstants.{LAST_JOIN, MAX_OPS, MAX_RESOURCES, MAX_SYSTEMS, MAX_TYPES}
+use Rattle.msg_frames.specs.declared.limits.TheConstants.{LAST_JOIN}
+use Rattle.msg_system.specs.declared.limits.TheConstants.{MAX_OPS}
+use Rattle.msg_world.specs.declared.limits.TheConstants.{MAX_RESOURCES, MAX_SYSTEMS, MAX_TYPES}
 use Rattle.msg_reading.specs.declared.limits.TheConstants.{MAX_CONDITIONS, MAX_FRAMES, MAX_POSTS, MAX_RULES}
 use Rattle.msg_reading.specs.ScenarioFormat as Spec
 use Rattle.msg_reading.specs.Prelude.{Declared, NoneClash, frames_of, held_of, resources_of, rules_of, scenario_of, systems_of, types_of}

@@ -10,7 +10,7 @@ use Rattle.msg_order.specs.declared.rule.Rule.{Rule}
 use Rattle.msg_json.specs.Prelude.{Reading, elements, headed, in_nots, in_part, only_below, text_in, whole, ◌>>=◌}
 use Rattle.msg_text.specs.Prelude.{Text}
 use Rattle.msg_json.specs.declared.location.Step.TheVariants as step
-use Rattle.msg_scenario_data.specs.declared.limits.TheConstants.{MAX_RESOURCES, MAX_SYSTEMS, MAX_TYPES}
+use Rattle.msg_world.specs.declared.limits.TheConstants.{MAX_RESOURCES, MAX_SYSTEMS, MAX_TYPES}
 use Rattle.msg_reading.specs.declared.limits.TheConstants.{MOST_NESTED}
 use Rattle.msg_reading.specs.ScenarioFormat as Spec
 use Rattle.msg_reading.specs.Prelude.{Declared, resource_number, system_number, type_number}

@@ -3,7 +3,7 @@ use Rattle.std.specs.Prelude.{ℕ, List, Option, position, option_and_then}
 use Rattle.std.specs.Str.{bytes_eq}
 use Rattle.msg_text.specs.Prelude.{Text}
 use Rattle.msg_json.specs.Prelude.{only_below}
-use Rattle.msg_scenario_data.specs.declared.limits.TheConstants.{MAX_RESOURCES, MAX_SYSTEMS, MAX_TYPES}
+use Rattle.msg_world.specs.declared.limits.TheConstants.{MAX_RESOURCES, MAX_SYSTEMS, MAX_TYPES}
 
 -- the names that are declared so far, of three kinds
 pub record Declared : Type 0 where

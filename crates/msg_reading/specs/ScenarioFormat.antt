@@ -11,7 +11,9 @@ use Rattle.msg_frames.specs.{declared.frame.Frame.Frame}
 use Rattle.msg_order.specs.declared.rule.Rule.{Rule}
 use Rattle.msg_json.specs.Prelude.{Reading, at_key, batch_of, elements, fails, found, headed, in_element, in_item, in_key, in_nots, in_part, in_section, key_text, known_keys, limit, list_up_to, not_negative, number_of, numbers_of, only_below, text_in, wanted, whole, ◌>>=◌}
 use Rattle.msg_text.specs.Prelude.{Text}
-use Rattle.msg_scenario_data.specs.declared.limits.TheConstants.{LAST_JOIN, MAX_OPS, MAX_RESOURCES, MAX_SYSTEMS, MAX_TYPES}
+use Rattle.msg_frames.specs.declared.limits.TheConstants.{LAST_JOIN}
+use Rattle.msg_system.specs.declared.limits.TheConstants.{MAX_OPS}
+use Rattle.msg_world.specs.declared.limits.TheConstants.{MAX_RESOURCES, MAX_SYSTEMS, MAX_TYPES}
 use Rattle.msg_reading.specs.declared.limits.TheConstants.{MAX_CONDITIONS, MAX_FRAMES, MAX_NOTS, MAX_POSTS, MAX_RULES, MOST_NESTED}
 use Rattle.msg_json.specs.declared.location.Key.{Key}
 use Rattle.msg_json.specs.declared.location.Key.TheVariants as key

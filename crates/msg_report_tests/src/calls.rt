@@ -2,6 +2,7 @@
 use crate::counting::Counting;
 use crate::narrow::Narrow;
 use crate::texts::long_file;
+use msg_part_tests::outcome::expect_eq;
 use msg_scenario::{Calls, MemorySink, ReportFault, read_calls, run_calls};
 use std::process::Abort;
 
@@ -26,14 +27,34 @@ const WORKED: [(&str, &str); 3] = [
     ),
 ];
 
+/// The calls of this file have this text.
+fn expect_text(rt: &(impl Abort + AllocGlobal), file: &str, text: &str) {
+    let calls = calls_of(rt, file);
+    let mut sink = MemorySink::new();
+    expect_eq(rt, &run_calls(rt.alloc(), &calls, &mut sink), &Ok(()));
+    expect_eq(rt, &(file, sink.bytes()), &(file, text.as_bytes()));
+}
+
 #[test]
 fn worked_files(rt: HostRuntime) {
-    for (file, text) in WORKED {
-        let calls = calls_of(&rt, file);
-        let mut sink = MemorySink::new();
-        assert_eq!(rt; run_calls(rt.alloc(), &calls, &mut sink), Ok(()));
-        assert!(rt; sink.bytes() == text.as_bytes(), "{file}");
+    for (file, text) in &WORKED {
+        expect_text(&rt, file, text);
     }
+}
+
+/// A sink that takes so many bytes at once, and so many in all, comes to this, and has just these
+/// bytes.
+fn expect_put(
+    rt: &(impl Abort + AllocGlobal),
+    calls: &Calls,
+    sink: Narrow,
+    want: Result<(), ReportFault>,
+    text: &[u8],
+) {
+    let mut sink = sink;
+    let put = run_calls(rt.alloc(), calls, &mut sink);
+    expect_eq(rt, &(text, put), &(text, want));
+    sink.expect(rt, put.is_err() as u64, text);
 }
 
 /// A sink that fails after `left` bytes has just these; one that takes byte by byte has all.
@@ -43,18 +64,12 @@ fn sinks_that_fail(rt: HostRuntime) {
     let text = b"write 0+1\nupdate\nread 0 missed 0: 0=7\n";
     let calls = calls_of(&rt, file);
     for left in 0..text.len() {
-        for answers_zero in [false, true] {
-            let mut sink = Narrow::new(4, left, answers_zero);
-            let put = run_calls(rt.alloc(), &calls, &mut sink);
-            assert_eq!(rt; put, Err(ReportFault::Write), "{left}");
-            assert_eq!(rt; sink.taken(), &text[..left], "{left}");
-            assert_eq!(rt; sink.failures(), 1, "{left}");
-        }
+        let (cut, fault) = (&text[..left], Err(ReportFault::Write));
+        expect_put(&rt, &calls, Narrow::new(4, left, false), fault, cut);
+        expect_put(&rt, &calls, Narrow::new(4, left, true), fault, cut);
     }
-    let mut sink = Narrow::new(1, text.len(), false);
-    assert_eq!(rt; run_calls(rt.alloc(), &calls, &mut sink), Ok(()));
-    assert_eq!(rt; sink.taken(), text.as_slice());
-    assert_eq!(rt; sink.failures(), 0);
+    let sink = Narrow::new(1, text.len(), false);
+    expect_put(&rt, &calls, sink, Ok(()), text.as_slice());
 }
 
 /// Ten thousand lines of seven bytes each are put in a few pieces, the longest of which has 65,536
@@ -64,9 +79,9 @@ fn lines_are_put_in_large_pieces(rt: HostRuntime) {
     let (_, file) = long_file(&rt, r#"Ok 10000 ["update"] {"limit":1,"calls":[*]}"#);
     let calls = calls_of(&rt, file.as_str());
     let mut sink = Counting::new();
-    assert_eq!(rt; run_calls(rt.alloc(), &calls, &mut sink), Ok(()));
+    expect_eq(&rt, &run_calls(rt.alloc(), &calls, &mut sink), &Ok(()));
     let (pieces, longest) = (sink.pieces(), sink.longest());
-    assert_eq!(rt; sink.bytes(), 70_000);
+    expect_eq(&rt, &sink.bytes(), &70_000);
     assert!(rt; pieces <= 4, "{pieces} pieces");
     assert!(rt; 65_536 <= longest && longest <= 65_542, "{longest} bytes");
 }

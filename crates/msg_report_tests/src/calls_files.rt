@@ -1,6 +1,7 @@
 // What a calls file denotes, and which are refused.
 use crate::calls::calls_of;
 use crate::texts::{expect_refusal, long_file, nested, wanted};
+use msg_part_tests::outcome::expect_eq;
 use msg_scenario::{Refusal, read_calls};
 use std::panic::Expect;
 use std::process::Abort;
@@ -9,7 +10,7 @@ use std::process::Abort;
 fn expect_calls(rt: &(impl Abort + AllocGlobal), file: &str, want: &str) {
     let calls = calls_of(rt, file);
     let shown = format!(in rt.alloc(); "{} {:?}", calls.limit(), calls.calls());
-    assert_eq!(rt; shown.expect(rt, "memory").as_str(), want);
+    expect_eq(rt, &shown.expect(rt, "memory").as_str(), &want);
 }
 
 /// Calls, each with what it is read as.
@@ -38,13 +39,17 @@ const HEADS: [&str; 20] = [
 
 #[test]
 fn every_head(rt: HostRuntime) {
-    let alloc = rt.alloc();
-    for row in HEADS {
+    for row in &HEADS {
         let (call, want) = wanted(&rt, row);
-        let file = format!(in alloc; r#"{{"calls":[{call}],"limit":1000000}}"#);
-        let want = format!(in alloc; "1000000 [{want}]").expect(&rt, "memory");
-        expect_calls(&rt, file.expect(&rt, "memory").as_str(), want.as_str());
+        expect_call(&rt, call, want);
     }
+}
+
+/// A file of this call is accepted, and shows it as `want`.
+fn expect_call(rt: &(impl Abort + AllocGlobal), call: &str, want: &str) {
+    let file = format!(in rt.alloc(); r#"{{"calls":[{call}],"limit":1000000}}"#);
+    let want = format!(in rt.alloc(); "1000000 [{want}]").expect(rt, "memory");
+    expect_calls(rt, file.expect(rt, "memory").as_str(), want.as_str());
 }
 
 /// Files, each behind the refusal that it gets.
@@ -101,16 +106,19 @@ const REFUSED: [&str; 48] = [
 
 #[test]
 fn refused_files(rt: HostRuntime) {
-    for row in REFUSED {
+    for row in &REFUSED {
         let (want, text) = wanted(&rt, row);
         let refused = read_calls(rt.alloc(), text.as_bytes()).err();
         expect_refusal(&rt, refused, want, text);
     }
     expect_calls(&rt, r#"{"limit":-1,"limit":5,"calls":[]}"#, "5 []");
-    for no_text in [b"\xff".as_slice(), b"{\"limit\":1,\"calls\":[[\"\xff\"]]}"] {
-        let refused = read_calls(rt.alloc(), no_text).err();
-        assert_eq!(rt; refused, Some(Refusal::NotJson));
-    }
+    expect_refused(&rt, b"\xff", Refusal::NotJson);
+    let no_text = b"{\"limit\":1,\"calls\":[[\"\xff\"]]}";
+    expect_refused(&rt, no_text, Refusal::NotJson);
+}
+
+fn expect_refused(rt: &(impl Abort + AllocGlobal), file: &[u8], want: Refusal) {
+    expect_eq(rt, &read_calls(rt.alloc(), file).err(), &Some(want));
 }
 
 /// Files with a long list, each behind how it is refused, the list's length and its item.
@@ -131,15 +139,15 @@ const LONG: [&str; 12] = [
 
 #[test]
 fn long_files(rt: HostRuntime) {
-    for row in LONG {
+    for row in &LONG {
         let (want, text) = long_file(&rt, row);
         let refused = read_calls(rt.alloc(), text.as_bytes()).err();
         expect_refusal(&rt, refused, want, row);
     }
-    for (depth, want) in [(100, Refusal::Shape), (200, Refusal::NotJson)] {
-        let text = nested(&rt, "[", depth, "", "]");
-        assert_eq!(rt; read_calls(rt.alloc(), text.as_bytes()).err(), Some(want));
-    }
+    let text = nested(&rt, "[", 100, "", "]");
+    expect_refused(&rt, text.as_bytes(), Refusal::Shape);
+    let text = nested(&rt, "[", 200, "", "]");
+    expect_refused(&rt, text.as_bytes(), Refusal::NotJson);
 }
 
 #[test]
@@ -147,7 +155,7 @@ fn cut_files(rt: HostRuntime) {
     let whole = br#"{"limit":10,"calls":[["write",7],["read",0]]}"#;
     assert!(rt; read_calls(rt.alloc(), whole).is_ok());
     for n in 0..whole.len() {
-        let cut = read_calls(rt.alloc(), &whole[..n]);
-        assert_eq!(rt; cut.err(), Some(Refusal::NotJson), "at {n}");
+        let cut = read_calls(rt.alloc(), &whole[..n]).err();
+        expect_eq(&rt, &(n, cut), &(n, Some(Refusal::NotJson)));
     }
 }

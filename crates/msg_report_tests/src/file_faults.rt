@@ -1,4 +1,5 @@
 // Why files are refused, and where in them.
+use msg_part_tests::outcome::expect_eq;
 use msg_scenario::Step::{Element, Item, Nots, Part, Section, Value};
 use msg_scenario::{Fault, FileFault, Key, Location, Reason, Step, check_calls, check_scenario};
 use std::panic::Expect;
@@ -35,13 +36,17 @@ const CALLS: [(&str, Reason, &[Step]); 9] = [
 
 #[test]
 fn faults_of_calls(rt: HostRuntime) {
-    let alloc = rt.alloc();
-    for (call, reason, steps) in CALLS {
-        let file = format!(in alloc; r#"{{"limit":5,"calls":[["update"],{call}]}}"#);
-        let came = check_calls(alloc, file.expect(&rt, "memory").as_bytes()).err();
-        let want = fault_at(reason, &[Section(Key::Calls), Element(1)], steps);
-        assert_eq!(rt; came, want, "{call}");
+    for (call, reason, steps) in &CALLS {
+        let want = fault_at(*reason, &[Section(Key::Calls), Element(1)], steps);
+        expect_fault_of_call(&rt, call, want);
     }
+}
+
+/// The fault of a file whose second call this is.
+fn expect_fault_of_call(rt: &(impl Abort + AllocGlobal), call: &str, want: Option<FileFault>) {
+    let file = format!(in rt.alloc(); r#"{{"limit":5,"calls":[["update"],{call}]}}"#);
+    let came = check_calls(rt.alloc(), file.expect(rt, "memory").as_bytes()).err();
+    expect_eq(rt, &(call, came), &(call, want));
 }
 
 /// Keys of the second of two systems, each with why it is refused, and where in that system.
@@ -126,15 +131,19 @@ const SYSTEMS: [(&str, Reason, &[Step]); 16] = [
 
 #[test]
 fn faults_of_systems(rt: HostRuntime) {
-    let alloc = rt.alloc();
-    for (keys, reason, steps) in SYSTEMS {
-        let file = format!(in alloc;
+    for (keys, reason, steps) in &SYSTEMS {
+        let file = format!(in rt.alloc();
             r#"{{"types":[["hit",9]],"systems":[{{"name":"a","ops":[]}},{{{keys}}}],"frames":[]}}"#
         );
-        let came = check_scenario(alloc, file.expect(&rt, "memory").as_bytes()).err();
-        let want = fault_at(reason, &[Section(Key::Systems), Element(1)], steps);
-        assert_eq!(rt; came, want, "{keys}");
+        let want = fault_at(*reason, &[Section(Key::Systems), Element(1)], steps);
+        expect_fault(&rt, file.expect(&rt, "memory").as_str(), want);
     }
+}
+
+/// The fault of a scenario file.
+fn expect_fault(rt: &(impl Abort + AllocGlobal), file: &str, want: Option<FileFault>) {
+    let came = check_scenario(rt.alloc(), file.as_bytes()).err();
+    expect_eq(rt, &(file, came), &(file, want));
 }
 
 /// Files, each with why it is refused, and where in it.
@@ -205,9 +214,8 @@ const SCENARIOS: [(&str, Reason, &[Step]); 12] = [
 
 #[test]
 fn faults_of_scenarios(rt: HostRuntime) {
-    for (file, reason, steps) in SCENARIOS {
-        let came = check_scenario(rt.alloc(), file.as_bytes()).err();
-        assert_eq!(rt; came, fault_at(reason, &[], steps), "{file}");
+    for (file, reason, steps) in &SCENARIOS {
+        expect_fault(&rt, file, fault_at(*reason, &[], steps));
     }
 }
 
@@ -220,33 +228,27 @@ fn unknown_keys(rt: HostRuntime) {
     };
     let reason = Reason::UnknownKey;
     let want = Some(FileFault::At(Fault { reason, location }));
-    let file = br#"{"types":[],"x":0,"systems":[],"frames":[]}"#;
-    assert_eq!(rt; check_scenario(rt.alloc(), file).err(), want);
-    let systems = br#"{"types":[],"frames":[],"systems":[{"name":"a","y":1,"ops":[],"if":[]}]}"#;
+    let file = r#"{"types":[],"x":0,"systems":[],"frames":[]}"#;
+    expect_fault(&rt, file, want);
+    let systems = r#"{"types":[],"frames":[],"systems":[{"name":"a","y":1,"ops":[],"if":[]}]}"#;
     let location = location.after(Element(0)).after(Section(Key::Systems));
     let want = Some(FileFault::At(Fault { reason, location }));
-    assert_eq!(rt; check_scenario(rt.alloc(), systems).err(), want);
+    expect_fault(&rt, systems, want);
 }
 
 /// Bytes that are no JSON text are refused with the line and the column where that shows.
 #[test]
 fn faults_of_texts(rt: HostRuntime) {
-    for (text, line, column) in [
-        ("", 1, 0),
-        ("{\"limit\":", 1, 9),
-        ("{\n\"types\": [,]}", 2, 11),
-        ("[1]\n\n 7", 3, 2),
-    ] {
-        let want = Some(FileFault::NotJson { line, column });
-        assert_eq!(rt;
-            check_scenario(rt.alloc(), text.as_bytes()).err(),
-            want,
-            "{text}"
-        );
-        assert_eq!(rt;
-            check_calls(rt.alloc(), text.as_bytes()).err(),
-            want,
-            "{text}"
-        );
-    }
+    expect_no_json(&rt, "", 1, 0);
+    expect_no_json(&rt, "{\"limit\":", 1, 9);
+    expect_no_json(&rt, "{\n\"types\": [,]}", 2, 11);
+    expect_no_json(&rt, "[1]\n\n 7", 3, 2);
+}
+
+/// The text is neither a scenario file nor a calls file: it shows on this line and at this column.
+fn expect_no_json(rt: &(impl Abort + AllocGlobal), text: &str, line: usize, column: usize) {
+    let want = Some(FileFault::NotJson { line, column });
+    expect_fault(rt, text, want);
+    let came = check_calls(rt.alloc(), text.as_bytes()).err();
+    expect_eq(rt, &(text, came), &(text, want));
 }

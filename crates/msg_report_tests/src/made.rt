@@ -3,6 +3,7 @@ use crate::sparing::{sparing_engine, workers};
 use msg_exec::NoGate;
 use msg_frames::{Frame, Items, Place};
 use msg_order::Rule;
+use msg_part_tests::outcome::expect_eq;
 use msg_scenario::{Kind, MemorySink, Name, Scenario, SystemSpec, report};
 use msg_system::{Op, Program, Start};
 use msg_world::TypeNo;
@@ -26,7 +27,7 @@ fn script(rt: &(impl Abort + AllocGlobal), name: &str, op: Op) -> SystemSpec {
         name: Name::new(alloc, name).expect(rt, "a name"),
         kind: Kind::Script,
         program: Program {
-            ops: Items::from_vec(vec![in alloc; op].expect(rt, "memory")),
+            ops: only(rt, op),
             start: Start::Zero,
         },
         place: Place {
@@ -36,26 +37,49 @@ fn script(rt: &(impl Abort + AllocGlobal), name: &str, op: Op) -> SystemSpec {
     }
 }
 
-/// A reader and a writer with a rule between them, and two frames; in the second the host posts.
-fn lag(rt: &(impl Abort + AllocGlobal), rule: Rule, posted: TypeNo) -> Scenario {
-    let alloc = rt.alloc();
-    let hit = TypeNo::new(0).unwrap();
-    let name = Name::new(alloc, "hit").expect(rt, "a name");
-    let reader = script(rt, "r", Op::Read(hit, None));
-    let writer = script(rt, "w", Op::Write(hit, 5));
+/// A list of one.
+fn only<T: Drop>(rt: &(impl Abort + AllocGlobal), item: T) -> Items<T> {
+    let mut items = Vec::new(rt.alloc());
+    items.push(item).expect(rt, "memory");
+    Items::from_vec(items)
+}
+
+/// A list of two.
+fn both<T: Drop>(rt: &(impl Abort + AllocGlobal), one: T, other: T) -> Items<T> {
+    let mut items = Vec::new(rt.alloc());
+    items.push(one).expect(rt, "memory");
+    items.push(other).expect(rt, "memory");
+    Items::from_vec(items)
+}
+
+/// Two frames; in the second the host posts 6 to this type.
+fn frames(rt: &(impl Abort + AllocGlobal), posted: TypeNo) -> Items<Frame> {
     let first = Frame {
-        posts: Items::from_vec(Vec::new(alloc)),
+        posts: Items::from_vec(Vec::new(rt.alloc())),
     };
     let second = Frame {
-        posts: Items::from_vec(vec![in alloc; (posted, 6)].expect(rt, "memory")),
+        posts: only(rt, (posted, 6)),
     };
+    both(rt, first, second)
+}
+
+/// A reader and a writer of this type.
+fn systems(rt: &(impl Abort + AllocGlobal), t: TypeNo) -> Items<SystemSpec> {
+    let reader = script(rt, "r", Op::Read(t, None));
+    let writer = script(rt, "w", Op::Write(t, 5));
+    both(rt, reader, writer)
+}
+
+/// A reader and a writer with a rule between them, and two frames; in the second the host posts.
+fn lag(rt: &(impl Abort + AllocGlobal), rule: Rule, posted: TypeNo) -> Scenario {
+    let name = Name::new(rt.alloc(), "hit").expect(rt, "a name");
     Scenario {
-        types: Items::from_vec(vec![in alloc; (name, 10)].expect(rt, "memory")),
-        resources: Items::from_vec(Vec::new(alloc)),
+        types: only(rt, (name, 10)),
+        resources: Items::from_vec(Vec::new(rt.alloc())),
         held: false,
-        systems: Items::from_vec(vec![in alloc; reader, writer].expect(rt, "memory")),
-        rules: Items::from_vec(vec![in alloc; rule].expect(rt, "memory")),
-        frames: Items::from_vec(vec![in alloc; first, second].expect(rt, "memory")),
+        systems: systems(rt, TypeNo::new(0).unwrap()),
+        rules: only(rt, rule),
+        frames: frames(rt, posted),
     }
 }
 
@@ -76,20 +100,21 @@ fn a_scenario_of_code_is_reported(rt: HostRuntime) {
         &NoGate,
         &mut sink,
     );
-    assert_eq!(rt; put, Ok(()));
-    assert!(rt; sink.bytes() == REPORT.as_bytes());
+    expect_eq(&rt, &put, &Ok(()));
+    expect_eq(&rt, &sink.bytes(), &REPORT.as_bytes());
+}
+
+/// The lagging scenario by this rule, and with a post to this type, can't be run.
+fn expect_no_run(rt: &(impl Abort + AllocGlobal), rule: Rule, posted: TypeNo) {
+    let scenario = lag(rt, rule, posted);
+    assert!(rt; !scenario.is_runnable());
 }
 
 /// A rule that names no system, one that makes a cycle, and a post to no type.
 #[test]
 fn scenarios_that_cant_be_run(rt: HostRuntime) {
     let (hit, none) = (TypeNo::new(0).unwrap(), TypeNo::new(1).unwrap());
-    for (rule, posted) in [
-        (Rule::before(0, 2), hit),
-        (Rule::before(1, 1), hit),
-        (Rule::before(0, 1), none),
-    ] {
-        let scenario = lag(&rt, rule, posted);
-        assert!(rt; !scenario.is_runnable());
-    }
+    expect_no_run(&rt, Rule::before(0, 2), hit);
+    expect_no_run(&rt, Rule::before(1, 1), hit);
+    expect_no_run(&rt, Rule::before(0, 1), none);
 }

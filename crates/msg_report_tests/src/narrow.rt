@@ -1,9 +1,11 @@
 // A sink that takes little, or fails.
 ghost use Rattle.std.specs.Prelude.{None};
 
+use msg_part_tests::outcome::expect_eq;
 use msg_scenario::{MemorySink, PutFault, Sink};
+use std::process::Abort;
 
-/// Takes at most `at_once` bytes at each put and `left` in all, and then fails: by taking 0 where
+/// Takes at most `at_once` bytes at each put and `left` in all, and then fails: by taking 0 if
 /// `answers_zero` is true, and else by an error.
 #[derive(Drop)]
 pub struct Narrow {
@@ -25,14 +27,9 @@ impl Narrow {
         }
     }
 
-    /// The bytes that were taken.
-    pub fn taken(&self) -> &[u8] {
-        self.taken.bytes()
-    }
-
-    /// How often a put failed.
-    pub fn failures(&self) -> u64 {
-        self.failed
+    /// So many puts failed, and these bytes were taken.
+    pub fn expect(&self, rt: &impl Abort, failures: u64, taken: &[u8]) {
+        expect_eq(rt, &(self.failed, self.taken.bytes()), &(failures, taken));
     }
 }
 

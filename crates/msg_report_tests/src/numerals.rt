@@ -1,4 +1,5 @@
 // Numbers in decimal: of each length up to the greatest, and the least.
+use msg_part_tests::outcome::expect_eq;
 use msg_text::numerals::{add_number, add_value};
 use std::panic::Expect;
 
@@ -25,18 +26,18 @@ const VALUES: [(i64, &str); 6] = [
 
 #[test]
 fn numbers(rt: HostRuntime) {
-    for (number, want) in NUMBERS {
+    for (number, want) in &NUMBERS {
         let mut text = Vec::new(rt.alloc());
-        add_number(&mut text, number).expect(&rt, "memory");
-        assert!(rt; text.as_slice() == want.as_bytes(), "{number}");
+        add_number(&mut text, *number).expect(&rt, "memory");
+        expect_eq(&rt, &text.as_slice(), &want.as_bytes());
     }
 }
 
 #[test]
 fn values(rt: HostRuntime) {
-    for (value, want) in VALUES {
+    for (value, want) in &VALUES {
         let mut text = Vec::new(rt.alloc());
-        add_value(&mut text, value).expect(&rt, "memory");
-        assert!(rt; text.as_slice() == want.as_bytes(), "{value}");
+        add_value(&mut text, *value).expect(&rt, "memory");
+        expect_eq(&rt, &text.as_slice(), &want.as_bytes());
     }
 }

@@ -1,10 +1,13 @@
 // Whole reports: sinks that fail, systems without memory, and readers side by side.
+ghost use Rattle.std.specs.Prelude.{◌≤◌};
 ghost use Rattle.msg_scenario_data.specs.Prelude.{IsRunnable};
 
 use crate::narrow::Narrow;
+use crate::scenario_files::accepted;
 use crate::sparing::{sparing_engine, sparing_systems, workers};
 use msg_exec::{Gate, NoGate, RunFault, Workers};
-use msg_scenario::{MemorySink, ReportFault, Scenario, Sink, read_scenario, report, run_scenario};
+use msg_part_tests::outcome::expect_eq;
+use msg_scenario::{MemorySink, ReportFault, Scenario, Sink, report, run_scenario};
 use std::panic::Expect;
 use std::process::Abort;
 use std::sync::atomic::{AtomicU64, Ordering};
@@ -94,9 +97,7 @@ fn report_of<R: Threads + Sync + Abort + AllocGlobal, S: Sink, G: Gate>(
     gate: &G,
     sink: &mut S,
 ) -> (Result<(), ReportFault>, Option<(u32, bool)>) {
-    let Ok(scenario) = read_scenario(rt.alloc(), asked.file.as_bytes()) else {
-        panic!(rt; "refused")
-    };
+    let scenario = accepted(rt, asked.file);
     let workers = workers(rt, asked.on);
     if asked.of_engine {
         let (put, engine) = report_by_engine(rt, &scenario, workers, asked.runs, gate, sink);
@@ -116,43 +117,53 @@ fn lag(of_engine: bool) -> Asked {
     }
 }
 
-#[test]
-fn sinks_that_take_little(rt: HostRuntime) {
-    for (at_once, of_engine) in [(1, true), (7, true), (1, false)] {
-        let mut sink = Narrow::new(at_once, 155, false);
-        let (put, _) = report_of(&rt, lag(of_engine), &NoGate, &mut sink);
-        assert_eq!(rt; put, Ok(()), "{at_once}");
-        assert_eq!(rt; sink.failures(), 0, "{at_once}");
-        assert!(rt; sink.taken() == LAG_REPORT.as_bytes(), "{at_once}");
-    }
+/// A sink that takes so many bytes at once has the whole report.
+fn expect_taken<R: Threads + Sync + Abort + AllocGlobal>(rt: &R, at_once: usize, of_engine: bool) {
+    let mut sink = Narrow::new(at_once, 155, false);
+    let (put, _) = report_of(rt, lag(of_engine), &NoGate, &mut sink);
+    expect_eq(rt, &(at_once, put), &(at_once, Ok(())));
+    sink.expect(rt, 0, LAG_REPORT.as_bytes());
 }
 
-/// A sink that fails after `left` bytes of the 155 has just these. The first frame has 50 of them,
-/// and if they weren't taken the second frame wasn't run.
+#[test]
+fn sinks_that_take_little(rt: HostRuntime) {
+    expect_taken(&rt, 1, true);
+    expect_taken(&rt, 7, true);
+    expect_taken(&rt, 1, false);
+}
+
+/// A sink that fails after `left` bytes of the 155 has just these. Gives what is told of the engine.
+fn expect_cut<R: Threads + Sync + Abort + AllocGlobal>(
+    rt: &R,
+    left: usize,
+    of_engine: bool,
+) -> Option<(u32, bool)>
+    requires within { left ≤ 155 }
+{
+    let mut sink = Narrow::new(1000, left, left % 2 == 0);
+    let (put, engine) = report_of(rt, lag(of_engine), &NoGate, &mut sink);
+    expect_eq(rt, &(left, put), &(left, Err(ReportFault::Write)));
+    sink.expect(rt, 1, &LAG_REPORT.as_bytes()[..left]);
+    engine
+}
+
+/// The first frame has 50 bytes, and if they weren't taken the second frame wasn't run.
 #[test]
 fn sinks_that_fail(rt: HostRuntime) {
     for left in 0..=154 {
-        for of_engine in [true, false] {
-            let mut sink = Narrow::new(1000, left, left % 2 == 0);
-            let (put, engine) = report_of(&rt, lag(of_engine), &NoGate, &mut sink);
-            assert_eq!(rt; put, Err(ReportFault::Write), "{left}");
-            assert_eq!(rt; sink.failures(), 1, "{left}");
-            assert!(rt; sink.taken() == &LAG_REPORT.as_bytes()[..left], "{left}");
-            if of_engine {
-                let frames = if left <= 49 { 1 } else { 2 };
-                assert_eq!(rt; engine, Some((frames, false)), "{left}");
-            }
-        }
+        let frames = if left <= 49 { 1 } else { 2 };
+        let engine = expect_cut(&rt, left, true);
+        expect_eq(&rt, &(left, engine), &(left, Some((frames, false))));
+        expect_cut(&rt, left, false);
     }
 }
 
 #[test]
 fn a_sink_of_nine_bytes(rt: HostRuntime) {
     let mut sink = Narrow::new(9, 9, false);
-    let (put, engine) = report_of(&rt, lag(true), &NoGate, &mut sink);
-    assert_eq!(rt; put, Err(ReportFault::Write));
-    assert!(rt; sink.taken() == b"frame 1\nr".as_slice());
-    assert_eq!(rt; engine, Some((1, false)));
+    let came = report_of(&rt, lag(true), &NoGate, &mut sink);
+    expect_eq(&rt, &came, &(Err(ReportFault::Write), Some((1, false))));
+    sink.expect(&rt, 1, b"frame 1\nr".as_slice());
 }
 
 /// The report of the two readers on two workers.
@@ -165,19 +176,28 @@ fn two_readers(runs: u32, of_engine: bool) -> Asked {
     }
 }
 
+/// If each system has memory for so many runs, the report stops behind this text. If it is by an
+/// engine, `engine` is told of that.
+fn expect_spoiled<R: Threads + Sync + Abort + AllocGlobal>(
+    rt: &R,
+    runs: u32,
+    of_engine: bool,
+    engine: Option<(u32, bool)>,
+    text: &str,
+) {
+    let mut sink = MemorySink::new();
+    let came = report_of(rt, two_readers(runs, of_engine), &NoGate, &mut sink);
+    let fault = ReportFault::Run(RunFault::NoMemory);
+    expect_eq(rt, &came, &(Err(fault), engine));
+    expect_eq(rt, &(runs, sink.bytes()), &(runs, text.as_bytes()));
+}
+
 #[test]
 fn systems_without_memory(rt: HostRuntime) {
-    for (runs, want) in [(0, ""), (1, FIRST_FRAME)] {
-        for of_engine in [true, false] {
-            let mut sink = MemorySink::new();
-            let (put, engine) = report_of(&rt, two_readers(runs, of_engine), &NoGate, &mut sink);
-            assert_eq!(rt; put, Err(ReportFault::Run(RunFault::NoMemory)), "{runs}");
-            assert!(rt; sink.bytes() == want.as_bytes(), "{runs}");
-            if of_engine {
-                assert_eq!(rt; engine, Some((runs, true)), "{runs}");
-            }
-        }
-    }
+    expect_spoiled(&rt, 0, true, Some((0, true)), "");
+    expect_spoiled(&rt, 0, false, None, "");
+    expect_spoiled(&rt, 1, true, Some((1, true)), FIRST_FRAME);
+    expect_spoiled(&rt, 1, false, None, FIRST_FRAME);
 }
 
 /// Holds system 0 until it was called for another.
@@ -203,18 +223,22 @@ impl Gate for HoldGate {
 }
 
 /// One reader is held until the other came, so each needs a worker of its own.
+fn expect_side_by_side<R: Threads + Sync + Abort + AllocGlobal>(rt: &R, of_engine: bool) {
+    let gate = HoldGate {
+        came: AtomicU64::new(0),
+        limits_met: AtomicU64::new(0),
+    };
+    let mut sink = MemorySink::new();
+    let (put, _) = report_of(rt, two_readers(2, of_engine), &gate, &mut sink);
+    expect_eq(rt, &put, &Ok(()));
+    let came = gate.came.load(Ordering::SeqCst);
+    let limits_met = gate.limits_met.load(Ordering::SeqCst);
+    expect_eq(rt, &(came, limits_met), &(2, 0));
+    expect_eq(rt, &sink.bytes(), &WHOLE.as_bytes());
+}
+
 #[test]
 fn readers_run_side_by_side(rt: HostRuntime) {
-    for of_engine in [true, false] {
-        let gate = HoldGate {
-            came: AtomicU64::new(0),
-            limits_met: AtomicU64::new(0),
-        };
-        let mut sink = MemorySink::new();
-        let (put, _) = report_of(&rt, two_readers(2, of_engine), &gate, &mut sink);
-        assert_eq!(rt; put, Ok(()));
-        assert_eq!(rt; gate.came.load(Ordering::SeqCst), 2);
-        assert_eq!(rt; gate.limits_met.load(Ordering::SeqCst), 0);
-        assert!(rt; sink.bytes() == WHOLE.as_bytes());
-    }
+    expect_side_by_side(&rt, true);
+    expect_side_by_side(&rt, false);
 }

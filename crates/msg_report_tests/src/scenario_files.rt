@@ -1,18 +1,23 @@
 // What a scenario file denotes, and which are refused.
+ghost use Rattle.msg_scenario_data.specs.Prelude.{IsRunnable};
+
 use crate::texts::{expect_refusal, long_file, nested, wanted};
+use msg_part_tests::outcome::expect_eq;
 use msg_scenario::{Refusal, Scenario, read_scenario};
 use std::panic::Expect;
 use std::process::Abort;
 
 /// The scenario of a text that is accepted.
-fn accepted(rt: &(impl Abort + AllocGlobal), text: &str) -> Scenario {
+pub fn accepted(rt: &(impl Abort + AllocGlobal), text: &str) -> Scenario
+    ensures runnable { IsRunnable result }
+{
     match read_scenario(rt.alloc(), text.as_bytes()) {
         Ok(scenario) => scenario,
         Err(refusal) => panic!(rt; "{text}: {refusal:?}"),
     }
 }
 
-/// The text itself where it is a file; of systems alone, a file with them and the type `hit`.
+/// The text itself if it is a file; of systems alone, a file with them and the type `hit`.
 fn whole(rt: &(impl Abort + AllocGlobal), text: &str) -> String {
     let file = if text.starts_with(r#"{"name""#) {
         format!(in rt.alloc(); r#"{{"types":[["hit",9]],"systems":[{text}],"frames":[]}}"#)
@@ -87,14 +92,14 @@ const REFUSED: [&str; 59] = [
 
 #[test]
 fn refused_files(rt: HostRuntime) {
-    for row in REFUSED {
+    for row in &REFUSED {
         let (want, text) = wanted(&rt, row);
         let text = whole(&rt, text);
         let refused = read_scenario(rt.alloc(), text.as_bytes()).err();
         expect_refusal(&rt, refused, want, row);
     }
     let no_text = read_scenario(rt.alloc(), b"\xff").err();
-    assert_eq!(rt; no_text, Some(Refusal::NotJson));
+    expect_eq(&rt, &no_text, &Some(Refusal::NotJson));
 }
 
 /// Files with a long list, each behind how it is refused, the list's length and its item: the
@@ -123,12 +128,18 @@ const LONG: [&str; 19] = [
 
 #[test]
 fn long_files(rt: HostRuntime) {
-    for row in LONG {
+    for row in &LONG {
         let (want, text) = long_file(&rt, row);
         let text = whole(&rt, text.as_str());
         let refused = read_scenario(rt.alloc(), text.as_bytes()).err();
         expect_refusal(&rt, refused, want, row);
     }
+}
+
+/// How a file is refused.
+fn expect_refused(rt: &(impl Abort + AllocGlobal), file: &str, want: &str) {
+    let refused = read_scenario(rt.alloc(), file.as_bytes()).err();
+    expect_refusal(rt, refused, want, file);
 }
 
 /// A file whose condition has so many `not`s around `probe`.
@@ -144,18 +155,10 @@ fn with_nots(rt: &(impl Abort + AllocGlobal), nots: usize, probe: &str) -> Strin
 #[test]
 fn deep_files(rt: HostRuntime) {
     let (asks, equals) = (r#"["on_message","hat"]"#, r#"["resource_equals","k",1]"#);
-    for (nots, probe, want) in [
-        (16, asks, "UnknownName"),
-        (17, asks, "TooMany"),
-        (17, equals, "TooMany"),
-    ] {
-        let text = with_nots(&rt, nots, probe);
-        let refused = read_scenario(rt.alloc(), text.as_bytes()).err();
-        expect_refusal(&rt, refused, want, text.as_str());
-    }
-    let text = nested(&rt, "[", 100, "", "]");
-    let refused = read_scenario(rt.alloc(), text.as_bytes()).err();
-    expect_refusal(&rt, refused, "Shape", text.as_str());
+    expect_refused(&rt, with_nots(&rt, 16, asks).as_str(), "UnknownName");
+    expect_refused(&rt, with_nots(&rt, 17, asks).as_str(), "TooMany");
+    expect_refused(&rt, with_nots(&rt, 17, equals).as_str(), "TooMany");
+    expect_refused(&rt, nested(&rt, "[", 100, "", "]").as_str(), "Shape");
 }
 
 #[test]
@@ -166,8 +169,8 @@ fn longest_names(rt: HostRuntime) {
     let [(name, limit)] = scenario.types.as_slice() else {
         panic!(rt; "one type is declared");
     };
-    assert_eq!(rt; name.as_str(), "aaaaaaaaaaaaaaaaaaaaaaaaaaaaaaaa");
-    assert_eq!(rt; *limit, 1_000_000);
+    let longest = ("aaaaaaaaaaaaaaaaaaaaaaaaaaaaaaaa", 1_000_000);
+    expect_eq(&rt, &(name.as_str(), *limit), &longest);
 }
 
 #[test]
@@ -177,9 +180,8 @@ fn one_name_of_a_type_and_a_resource(rt: HostRuntime) {
     let [(_, value)] = scenario.resources.as_slice() else {
         panic!(rt; "one resource is declared");
     };
-    assert_eq!(rt; *value, -5);
-    assert_eq!(rt; scenario.frames.as_slice().len(), 2);
-    assert!(rt; !scenario.held);
+    let frames = scenario.frames.as_slice().len();
+    expect_eq(&rt, &(*value, frames, scenario.held), &(-5, 2, false));
 }
 
 /// A file with every op and every key.
@@ -193,7 +195,7 @@ const EVERY_SHOWN: &str =
 fn every_op_and_key(rt: HostRuntime) {
     let scenario = accepted(&rt, EVERY);
     let shown = format!(in rt.alloc(); "{scenario:?}");
-    assert_eq!(rt; shown.expect(&rt, "memory").as_str(), EVERY_SHOWN);
+    expect_eq(&rt, &shown.expect(&rt, "memory").as_str(), &EVERY_SHOWN);
 }
 
 #[test]
@@ -202,7 +204,7 @@ fn cut_files(rt: HostRuntime) {
         br#"{"types":[["hit",10]],"systems":[{"name":"r","ops":[["read","hit"]]},{"name":"w","ops":[["write","hit",5]]}],"rules":[["r","w"]],"frames":[[],[]]}"#;
     assert!(rt; read_scenario(rt.alloc(), whole).is_ok());
     for n in 0..whole.len() {
-        let cut = read_scenario(rt.alloc(), &whole[..n]);
-        assert_eq!(rt; cut.err(), Some(Refusal::NotJson), "at {n}");
+        let cut = read_scenario(rt.alloc(), &whole[..n]).err();
+        expect_eq(&rt, &(n, cut), &(n, Some(Refusal::NotJson)));
     }
 }

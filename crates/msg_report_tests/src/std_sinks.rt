@@ -1,4 +1,5 @@
 // A sink over a writer of std: one put is one write.
+use msg_part_tests::outcome::expect_eq;
 use msg_scenario::{PutFault, Sink, StdSink, put_all};
 use std::io;
 use std::io::{Error, ErrorKind, Write};
@@ -27,10 +28,10 @@ impl Write for FailsOnce<'_> {
 fn a_write_that_fails_is_no_second_write(rt: HostRuntime) {
     let writes = AtomicU64::new(0);
     let mut sink = StdSink::new(FailsOnce { writes: &writes });
-    assert_eq!(rt; sink.put(b"text"), Err(PutFault));
-    assert_eq!(rt; writes.load(Ordering::SeqCst), 1);
-    assert_eq!(rt; sink.put(b"text"), Ok(4));
-    assert_eq!(rt; writes.load(Ordering::SeqCst), 2);
+    expect_eq(&rt, &sink.put(b"text"), &Err(PutFault));
+    expect_eq(&rt, &writes.load(Ordering::SeqCst), &1);
+    expect_eq(&rt, &sink.put(b"text"), &Ok(4));
+    expect_eq(&rt, &writes.load(Ordering::SeqCst), &2);
 }
 
 /// A piece that isn't taken at the first write isn't put again.
@@ -38,6 +39,6 @@ fn a_write_that_fails_is_no_second_write(rt: HostRuntime) {
 fn a_whole_piece_stops_at_a_failure(rt: HostRuntime) {
     let writes = AtomicU64::new(0);
     let mut sink = StdSink::new(FailsOnce { writes: &writes });
-    assert_eq!(rt; put_all(&mut sink, b"text"), Err(PutFault));
-    assert_eq!(rt; writes.load(Ordering::SeqCst), 1);
+    expect_eq(&rt, &put_all(&mut sink, b"text"), &Err(PutFault));
+    expect_eq(&rt, &writes.load(Ordering::SeqCst), &1);
 }

@@ -1,4 +1,5 @@
 // Rows of tables of files, and texts made of pieces.
+use msg_part_tests::outcome::expect_eq;
 use msg_scenario::Refusal;
 use std::panic::Expect;
 use std::process::Abort;
@@ -11,7 +12,7 @@ pub fn wanted<'a>(rt: &impl Abort, row: &'a str) -> (&'a str, &'a str) {
     }
 }
 
-/// The refusal that came is `want`, which is `Ok` where the file has to be accepted. A failure
+/// The refusal that came is `want`, which is `Ok` if the file has to be accepted. A failure
 /// shows `text`.
 pub fn expect_refusal(
     rt: &(impl Abort + AllocGlobal),
@@ -22,9 +23,9 @@ pub fn expect_refusal(
     let shown = match came {
         Some(refusal) => format!(in rt.alloc(); "{refusal:?}"),
         None => "Ok".to_string(rt.alloc()),
-    }
-    .expect(rt, "memory");
-    assert!(rt; shown.as_str() == want, "{text}: {shown}");
+    };
+    let shown = shown.expect(rt, "memory");
+    expect_eq(rt, &(text, shown.as_str()), &(text, want));
 }
 
 /// Adds a piece to a text.
@@ -43,13 +44,18 @@ pub fn long_file<'a>(rt: &(impl Abort + AllocGlobal), row: &'a str) -> (&'a str,
     };
     let mut text = String::new(rt.alloc());
     push(rt, &mut text, front);
-    push(rt, &mut text, item);
-    for _ in 1..number {
-        push(rt, &mut text, ",");
-        push(rt, &mut text, item);
-    }
+    push_times(rt, &mut text, item, number);
     push(rt, &mut text, back);
     (want, text)
+}
+
+/// Adds a piece once and then, each time behind a comma, up to `number` times.
+fn push_times(rt: &impl Abort, text: &mut String, piece: &str, number: usize) {
+    push(rt, text, piece);
+    for _ in 1..number {
+        push(rt, text, ",");
+        push(rt, text, piece);
+    }
 }
 
 /// `open`, `depth` times, then `middle`, and then `close` as often.

@@ -25,7 +25,7 @@ use Rattle.msg_reports.proofs.TextsByPieces.{zip-nil}
 
 -- ---- texts
 
--- what follows the text of the frames: the readers' lines, where all frames were run
+-- what follows the text of the frames: the readers' lines, if all frames were run
 abbrev rest_of : Scenario → List (Log ℤ) → List Account → Text
 rest_of s logs accounts = if length logs == length s.frames then accounts_text s accounts else []
 

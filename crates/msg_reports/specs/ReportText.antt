@@ -47,7 +47,7 @@ took_text s took =
 abbrev pub numbers_text : Written → Text
 numbers_text numbers = decimal numbers.first ++ codes "+" ++ decimal numbers.n
 
--- the same, or `spent` where there was no room for them
+-- the same, or `spent` if there was no room for them
 abbrev pub written_text : Option Written → Text
 written_text None = codes "spent"
 written_text (Some numbers) = numbers_text numbers
@@ -160,7 +160,7 @@ frames_text s number frames logs =
 abbrev pub report_text : Scenario → List (Log ℤ) → List Account → Text
 report_text s logs accounts = frames_text s 1 s.frames logs ++ accounts_text s accounts
 
--- the text of the frames that had these logs; and the readers' lines too, where these are all
+-- the text of the frames that had these logs; and the readers' lines too, if these are all
 -- frames
 abbrev pub text_so_far : Scenario → List (Log ℤ) → List Account → Text
 text_so_far s logs accounts =

@@ -10,7 +10,7 @@ use msg_exec::{BuildRefusal, EngineOf, Items, NoMemory, Place};
 use msg_order::Rule;
 use msg_scenario_data::{Scenario, SystemSpec};
 use msg_system::SystemOf;
-use msg_world::World;
+use msg_world::{MAX_RESOURCES, MAX_TYPES, World};
 use std::alloc::Global;
 
 fn limits_of(alloc: Global, scenario: &Scenario) -> Result<Vec<u64>, NoMemory>
@@ -29,8 +29,8 @@ fn values_of(alloc: Global, scenario: &Scenario) -> Result<Vec<i64>, NoMemory>
 
 /// The world before the first frame.
 fn world_of(alloc: Global, scenario: &Scenario) -> Result<World, NoMemory>
-    requires types { length scenario.now.types ≤ 64 }
-    requires resources { length scenario.now.resources ≤ 64 }
+    requires types { length scenario.now.types ≤ MAX_TYPES }
+    requires resources { length scenario.now.resources ≤ MAX_RESOURCES }
     ensures meaning { IfOk result (λ w. PartsStand w (first_world scenario.now)) }
     ensures whole { IfOk result IsWhole }
     ensures types { IfOk result (λ w. length w.types ≡ length scenario.now.types) }
@@ -106,9 +106,9 @@ pub fn engine_of<S: SystemOf<Value = i64>>(
     requires each { EachIs (IsSystemAt S.meaning scenario.now.systems) systems.items }
     ensures meaning { IfOk result (λ e. EngineStands S.meaning e (state_of scenario.now)) }
 {
-    let world = world_of(alloc, scenario)?;
     let places = places_of(alloc, scenario)?;
     let rules = rules_of(alloc, scenario)?;
+    let world = world_of(alloc, scenario)?;
     match EngineOf::new(alloc, world, systems, places, rules) {
         Ok(engine) => Ok(engine),
         Err(BuildRefusal::NoMemory) => Err(NoMemory),

@@ -19,7 +19,7 @@ use std::thread::Threads;
 ///
 /// # Errors
 ///
-/// `NoMemory` where there was no engine. What the report came to, a fault of it too, is within
+/// `NoMemory` if there was no engine. What the report came to, a fault of it too, is within
 /// `Ok`.
 pub fn run_scenario<R: Threads + Sync, X: SystemOf<Value = i64> + Send, S: Sink, G: Gate>(
     rt: &R,
@@ -42,5 +42,7 @@ pub fn run_scenario<R: Threads + Sync, X: SystemOf<Value = i64> + Send, S: Sink,
     ensures no_engine { OnErr result (sink.new ≡ sink.old) }
 {
     let mut engine = engine_of(alloc, scenario, systems)?;
-    Ok(report(rt, alloc, &mut engine, scenario, workers, gate, sink))
+    let came = report(rt, alloc, &mut engine, scenario, workers, gate, sink);
+    drop(engine);
+    Ok(came)
 }

@@ -8,7 +8,10 @@ use Rattle.msg_frames.specs.Prelude.{State, first_state}
 use Rattle.msg_frames.specs.{declared.frame.Frame.Frame, declared.place.Place.Place}
 use Rattle.msg_system.specs.declared.op.Op.{Op}
 use Rattle.msg_system.specs.declared.op.Op.TheVariants.{Forward, Sum}
-use Rattle.msg_scenario_data.specs.{declared.kind.Kind.Kind, declared.limits.TheConstants.LAST_JOIN, declared.limits.TheConstants.MAX_OPS, declared.limits.TheConstants.MAX_RESOURCES, declared.limits.TheConstants.MAX_SYSTEMS, declared.limits.TheConstants.MAX_TYPES, declared.scenario.Scenario.Scenario, declared.scenario.SystemSpec.SystemSpec}
+use Rattle.msg_scenario_data.specs.{declared.kind.Kind.Kind, declared.scenario.Scenario.Scenario, declared.scenario.SystemSpec.SystemSpec}
+use Rattle.msg_frames.specs.declared.limits.TheConstants.{LAST_JOIN}
+use Rattle.msg_system.specs.declared.limits.TheConstants.{MAX_OPS}
+use Rattle.msg_world.specs.declared.limits.TheConstants.{MAX_RESOURCES, MAX_SYSTEMS, MAX_TYPES}
 use Rattle.msg_scenario_data.specs.declared.kind.Kind.TheVariants.{Relay, Script, Tally}
 
 -- ---- the first state

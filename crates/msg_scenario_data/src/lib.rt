@@ -10,6 +10,5 @@ mod runnable;
 mod scenario;
 
 pub use kind::Kind;
-pub use limits::{LAST_JOIN, MAX_OPS, MAX_RESOURCES, MAX_SYSTEMS, MAX_TYPES};
 pub use name::Name;
 pub use scenario::{Scenario, SystemSpec};

@@ -28,7 +28,7 @@ impl Name {
     ///
     /// # Errors
     ///
-    /// `BadName` where no name has this text, and `NoMemory`.
+    /// `BadName` if no name has this text, and `NoMemory`.
     pub fn new(alloc: Global, text: &str) -> Result<Name, Refusal>
         ensures bytes { IfOk result (λ name. name ≡ text.now) }
         ensures good { IfOk result (λ _. IsTrue (is_name text.now)) }

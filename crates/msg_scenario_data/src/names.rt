@@ -12,7 +12,7 @@ pub fn add_name(text: &mut Vec<u8>, name: &Name) -> Result<(), NoMemory>
     text.extend_from_slice(name.as_str().as_bytes())
 }
 
-/// The name of a type; nothing where there is no such type.
+/// The name of a type; nothing if there is no such type.
 pub fn add_type(text: &mut Vec<u8>, scenario: &Scenario, t: TypeNo) -> Result<(), NoMemory>
     ensures appends { OnOk result (text.new.items ≡ text.old.items ++ type_name scenario.now t) }
 {
@@ -22,7 +22,7 @@ pub fn add_type(text: &mut Vec<u8>, scenario: &Scenario, t: TypeNo) -> Result<()
     }
 }
 
-/// The name of a resource; nothing where there is no such resource.
+/// The name of a resource; nothing if there is no such resource.
 pub fn add_resource(text: &mut Vec<u8>, scenario: &Scenario, r: ResNo) -> Result<(), NoMemory>
     ensures appends { OnOk result
         (text.new.items ≡ text.old.items ++ resource_name scenario.now r) }
@@ -33,7 +33,7 @@ pub fn add_resource(text: &mut Vec<u8>, scenario: &Scenario, r: ResNo) -> Result
     }
 }
 
-/// The name of a system; nothing where there is no such system.
+/// The name of a system; nothing if there is no such system.
 pub fn add_system(text: &mut Vec<u8>, scenario: &Scenario, system: u32) -> Result<(), NoMemory>
     ensures appends { OnOk result
         (text.new.items ≡ text.old.items ++ system_name scenario.now system) }

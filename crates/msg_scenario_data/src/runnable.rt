@@ -5,11 +5,11 @@ ghost use Rattle.msg_order.specs.Prelude.{IsAcyclic, NameSystemsBelow, edges_of}
 ghost use Rattle.msg_system.specs.Prelude.{job_needs, needs_any};
 ghost use Rattle.msg_scenario_data.specs.Prelude.{IsRunnable, IsRunnableSystem, PostsAreToTypes};
 
-use crate::limits::{LAST_JOIN, MAX_OPS, MAX_RESOURCES, MAX_SYSTEMS, MAX_TYPES};
 use crate::{Scenario, SystemSpec};
-use msg_frames::Frame;
+use msg_frames::{Frame, LAST_JOIN};
 use msg_order::{Rule, lowest_on_cycle};
-use msg_system::job_access;
+use msg_system::{MAX_OPS, job_access};
+use msg_world::{MAX_RESOURCES, MAX_SYSTEMS, MAX_TYPES};
 
 /// Whether the system and its conditions use only types below `types`, and resources below
 /// `resources`.

@@ -19,7 +19,7 @@ pub written_messages_stand : {V : Type 0} {values : Values V} (l : Lent V) (s : 
 written_messages_stand l s t k there is stand =
     rw (writable_is_shown (OfType t) l there, ← is) at (stand (OfType t))
 
--- what a function makes of items, where it gives what `f` gives
+-- what a function makes of items, if it gives what `f` gives
 pub made_by : {X M : Type 0} (R : X → M → Type 0) (f : X → M) → ((x : X) (m : M) → R x m → m ≡ f x)
     → (xs : List X) (ms : List M) → AllZip R xs ms → ms ≡ map f xs
 made_by R f is [] [] made = refl

@@ -47,7 +47,7 @@ so_far ops (suc n) w ps s =
           rw (take_all n ops h.0, take_all (suc n) ops (omega (arith, h.0)), over) refl
     ])
 
--- a turn of at most n ops is the whole program, where the program has no more than n
+-- a turn of at most n ops is the whole program, if the program has no more than n
 pub program_so_far : {V : Type 0} {values : Values V} (program : Program V) (n w : ℕ) (ps : ℕ → ℕ) (s : WorldState values) → length program.ops ≤ n
     → after_at_most n (next_op (of_program program w ps)) w ps s ≡ after_program program.ops w ps s
 program_so_far program n w ps s few =
@@ -95,7 +95,7 @@ next_kept_to n (Some x) op is = grind (arith, none-some, same_Some, kept n x)
 
 -- ---- a run of a turn
 
--- a turn that was answered so, where the system then means what it was told
+-- a turn that was answered so, if the system then means what it was told
 pub ran_turn : {V : Type 0} {values : Values V} (old new : Meaning V) (l m : Lent V) (taken : Parts V) (before after : List (Reply V))
     → TurnRan values (next_op old) old.writer old.places new.places l m before after → SameLoan l m → taken ≡ taken_of m
     → (are : AreAnswered (next_op old) new.last before after)

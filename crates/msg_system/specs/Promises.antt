@@ -45,7 +45,7 @@ OneOpIsATurn {V} values = (op : Op V) (start : Start) (writer : ℕ) (old_places
     → Ran values (of_program (only op start) writer old_places)
     (of_program (only op start) writer new_places) old (taken_of new) before (before ++ reply ∷ [])
 
--- Where only parts that the access writes are given back, and these stand for a world, all that is
+-- If only parts that the access writes are given back, and these stand for a world, all that is
 -- given back stands for it.
 abbrev pub WrittenIsAll : {V : Type 0} → Values V → Type 0
 WrittenIsAll {V} values = (l : Lent V) (taken : Parts V) (s : WorldState values)

@@ -77,7 +77,7 @@ pub(crate) fn write_each<V: Value, T, F: Fn(&T) -> Record<V>>(
     ensures numbers { IfOk result (λ numbers. (s : WorldState V.values) → LoanStands lent.old s
         → numbers ≡ numbers_for (s.histories t) (length items.now)) }
 
-    // Where the function makes `f x` of each item x, these are the messages that are written.
+    // If the function makes `f x` of each item x, these are the messages that are written.
     ensures written { OnOk result ((f : T → Record V)
         → ((x : T) (m : Record V) → FnReturnsAt F.Fn message_of x m → m ≡ f x)
         → (s : WorldState V.values) → LoanStands lent.old s
@@ -116,7 +116,7 @@ pub(crate) fn drain_all<V: Value>(
         → LoanStands lent.new (with_history s t (clear (s.histories t)))) }
     ensures same { OnOk result (SameLoan lent.old lent.new) }
 
-    // Where nothing is there it asks for no memory.
+    // If nothing is there it asks for no memory.
     ensures refused { OnErr result ((s : WorldState V.values) → LoanStands lent.old s
         → 0 < length (present (s.histories t))) }
 {

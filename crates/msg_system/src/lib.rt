@@ -11,6 +11,7 @@ mod laws;
 mod lending;
 mod limits;
 mod numbered;
+mod one_op;
 mod op;
 mod program;
 mod reading;

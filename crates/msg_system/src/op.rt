@@ -21,7 +21,7 @@ pub enum Op<V = i64> {
     /// Goes past all messages.
     Clear(TypeNo),
     /// Reads all unread messages of the first type, and writes their values to the second as one
-    /// batch. Where that is refused for the limit, what was read stays read.
+    /// batch. If that is refused for the limit, what was read stays read.
     Forward(TypeNo, TypeNo),
     /// Reads all unread messages, and adds their values to a resource one by one, as `Value::plus`
     /// says: sums of `i64` are held within its range.

@@ -32,7 +32,7 @@ impl<V: Value> Program<V> {
         }
     }
 
-    /// A copy of the program. Where it has no ops it takes no memory.
+    /// A copy of the program. If it has no ops it takes no memory.
     pub fn copy(&self, alloc: Global) -> Result<Program<V>, NoMemory>
         ensures equal { IfOk result (λ p. p ≡ self.now) }
         ensures refused { OnErr result (0 < length self.now.ops) }

@@ -21,7 +21,7 @@ fn copy_unread<V: Value>(
     ensures place { IfOk result (λ v. (h : History (Record V)) → StandsFor messages.now h
         → cursor.new ≡ first h cursor.old + length v.items) }
 
-    // Where nothing is given it asks for no memory.
+    // If nothing is given it asks for no memory.
     ensures refused { OnErr result ((h : History (Record V)) → StandsFor messages.now h
         → 0 < length (given h cursor.old limit)) }
 {

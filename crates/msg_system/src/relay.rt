@@ -1,6 +1,7 @@
 ghost use Rattle.std.specs.Prelude.{◌≡◌};
 
-use crate::{Access, Cursors, NoMemory, Numbered, Op, Reply, Start, SystemOf, one_op_is_a_turn};
+use crate::one_op::take_turn;
+use crate::{Access, Cursors, NoMemory, Numbered, Op, Reply, Start, SystemOf};
 use msg_world::{Counts, Lent, Taken, TypeNo, Value};
 use std::alloc::Global;
 use std::marker::PhantomData;
@@ -19,7 +20,7 @@ pub struct Relay<V = i64> {
 impl<V: Value> Relay<V> {
     ghost use Rattle.msg_system.specs.{declared.op.Op.TheVariants.Forward, Systems.new_system, Systems.only};
 
-    /// It has read nothing yet. It writes as the number `writer`. Where `from` and `to` are one
+    /// It has read nothing yet. It writes as the number `writer`. If `from` and `to` are one
     /// type, it reads and writes that type, and no engine can be built with it.
     pub fn new(from: TypeNo, to: TypeNo, start: Start, writer: u32) -> Relay<V>
         ensures new { ⟦<Relay<V> as SystemOf>⟧.meaning result
@@ -69,7 +70,7 @@ impl<V: Value> SystemOf for Relay<V> {
     fn run(
         &mut self,
         alloc: Global,
-        mut lent: Lent<V>,
+        lent: Lent<V>,
         out: &mut Vec<Reply<V>>,
     ) -> Result<Taken<V>, NoMemory>
         requires covers { Covers (⟦<Relay<V> as SystemOf>⟧.meaning self.old).needs lent }
@@ -79,11 +80,8 @@ impl<V: Value> SystemOf for Relay<V> {
             lent.entry taken out.old.items out.new.items) }
         ensures shape { IfOk result (λ taken. SameShape (taken_of lent.entry) taken) }
     {
-        one_op_is_a_turn::<V>();
-        out.reserve_exact(1)?;
         let op = Op::Forward(self.from, self.to);
-        out.push(op.run(alloc, self.writer, &mut self.cursors, &mut lent)?)?;
-        Ok(lent.into_taken())
+        take_turn(alloc, op, self.writer, &mut self.cursors, lent, out)
     }
 }
 

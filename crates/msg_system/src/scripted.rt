@@ -3,11 +3,12 @@ ghost use Rattle.std.specs.Prelude.{◌≡◌, ◌<◌, ◌≤◌, OnErr, OnOk, 
 ghost use Rattle.msg_world.specs.Prelude.{SameLoan};
 ghost use Rattle.msg_system.specs.{declared.limits.TheConstants.MAX_OPS, Needs.program_needs, OpRuns.cursor_places, inner.TurnRuns.HasReplies, inner.TurnRuns.ProgramRan, Promises.Covers};
 
+use crate::one_op::answer;
 use crate::{Access, Cursors, NoMemory, Numbered, Op, Program, Reply, Start, SystemOf};
 use msg_world::{Counts, Lent, Taken, TypeNo, Value};
 use std::alloc::Global;
 
-/// The ops one after the other.
+/// The ops one after the other. Their replies take no more room than they need.
 fn run_ops<V: Value>(
     alloc: Global,
     ops: &[Op<V>],
@@ -22,11 +23,12 @@ fn run_ops<V: Value>(
     ensures replies { OnOk result (HasReplies out.old.items out.new.items (length ops.now)) }
     ensures same { OnOk result (SameLoan lent.old lent.new) }
 
-    // Where there are no ops it takes no memory.
+    // If there are no ops it takes no memory.
     ensures refused { OnErr result (0 < length ops.now) }
 {
+    out.reserve_exact(ops.len())?;
     for op in ops {
-        out.push(op.run(alloc, writer, cursors, lent)?)?;
+        answer(alloc, op, writer, cursors, lent, out)?;
     }
     Ok(())
 }
@@ -102,7 +104,6 @@ impl<V: Value> SystemOf for Scripted<V> {
             (0 < length (⟦<Scripted<V> as SystemOf>⟧.meaning self.old).last) }
     {
         let ops = self.program.ops.as_slice();
-        out.reserve_exact(ops.len())?;
         run_ops(alloc, ops, self.writer, &mut self.cursors, &mut lent, out)?;
         Ok(lent.into_taken())
     }

@@ -1,6 +1,7 @@
 ghost use Rattle.std.specs.Prelude.{◌≡◌};
 
-use crate::{Access, Cursors, NoMemory, Numbered, Op, Reply, Start, SystemOf, one_op_is_a_turn};
+use crate::one_op::take_turn;
+use crate::{Access, Cursors, NoMemory, Numbered, Op, Reply, Start, SystemOf};
 use msg_world::{Counts, Lent, ResNo, Taken, TypeNo, Value};
 use std::alloc::Global;
 use std::marker::PhantomData;
@@ -68,7 +69,7 @@ impl<V: Value> SystemOf for Tally<V> {
     fn run(
         &mut self,
         alloc: Global,
-        mut lent: Lent<V>,
+        lent: Lent<V>,
         out: &mut Vec<Reply<V>>,
     ) -> Result<Taken<V>, NoMemory>
         requires covers { Covers (⟦<Tally<V> as SystemOf>⟧.meaning self.old).needs lent }
@@ -78,11 +79,8 @@ impl<V: Value> SystemOf for Tally<V> {
             lent.entry taken out.old.items out.new.items) }
         ensures shape { IfOk result (λ taken. SameShape (taken_of lent.entry) taken) }
     {
-        one_op_is_a_turn::<V>();
-        out.reserve_exact(1)?;
         let op = Op::Sum(self.from, self.to);
-        out.push(op.run(alloc, self.writer, &mut self.cursors, &mut lent)?)?;
-        Ok(lent.into_taken())
+        take_turn(alloc, op, self.writer, &mut self.cursors, lent, out)
     }
 }
 

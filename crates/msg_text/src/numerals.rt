@@ -29,7 +29,7 @@ pub fn add_count(text: &mut Vec<u8>, head: &[u8], number: u64) -> Result<(), NoM
     add_number(text, number)
 }
 
-/// Adds a value in decimal, with `-` in front where it is below 0.
+/// Adds a value in decimal, with `-` in front if it is below 0.
 pub fn add_value(text: &mut Vec<u8>, value: i64) -> Result<(), NoMemory>
     ensures appends { OnOk result (text.new.items ≡ text.old.items ++ signed_decimal value) }
 {

@@ -11,9 +11,9 @@ use thiserror::Error;
 pub struct PutFault;
 
 /// Where bytes go. A put that gives `Ok(n)` took the first n bytes of the piece, and one that gives
-/// an error took none. It failed where it gives an error, or 0 for a piece that isn't empty.
+/// an error took none. It failed if it gives an error, or 0 for a piece that isn't empty.
 pub trait Sink {
-    /// The bytes taken so far, where the sink tells them.
+    /// The bytes taken so far, if the sink tells them.
     ghost contents: { Self → Option (List ℕ) };
 
     /// How often a put failed; it stays at the greatest value.
@@ -47,7 +47,7 @@ pub fn put_all<S: Sink>(sink: &mut S, piece: &[u8]) -> Result<(), PutFault>
     Ok(())
 }
 
-/// Puts a whole text, as `put_all` does. Where the sink fails, the error is `Write`.
+/// Puts a whole text, as `put_all` does. If the sink fails, the error is `Write`.
 pub fn put_text<S: Sink>(text: &[u8], sink: &mut S) -> Result<(), ReportFault>
     ensures ok { OnOk result (Appends (S.contents sink.old) (S.contents sink.new) text.now) }
     ensures quiet { OnOk result (S.failures sink.new ≡ S.failures sink.old) }

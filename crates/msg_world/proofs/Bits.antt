@@ -64,7 +64,7 @@ share_bit-and a b = (
 shifted : (mask n k : ℕ) → has_bit (mask / 2 ^ n) k ≡ has_bit mask (n + k)
 shifted mask n k = ap (λ m. m % 2 == 1) (shr-shr mask n k)
 
--- no bit is set from n on where nothing is left of the mask
+-- no bit is set from n on if nothing is left of the mask
 pub none_from : (mask n : ℕ) → mask / 2 ^ n ≡ 0 → (k : ℕ) → n ≤ k → has_bit mask k ≡ false
 none_from mask n gone k le = grind (arith, shifted mask n (k - n), has_bit-zero (k - n))
 
@@ -95,11 +95,11 @@ shr-is_below mask n fits = (
 ones_from : (mask n : ℕ) → count_ones (mask / 2 ^ n) ≡ mask / 2 ^ n % 2 + count_ones (mask / 2 ^ (n + 1))
 ones_from mask n = ones_step (mask / 2 ^ n) ∙ ap (λ m. mask / 2 ^ n % 2 + count_ones m) (shr-shr mask n 1)
 
--- one less from the next number on, where the bit is set
+-- one less from the next number on, if the bit is set
 pub one_less : (mask n : ℕ) → IsTrue (has_bit mask n) → count_ones (mask / 2 ^ n) ≡ count_ones (mask / 2 ^ (n + 1)) + 1
 one_less mask n set = grind (arith, nat_tests, ones_from mask n)
 
--- as many, where none is set before the next number
+-- as many, if none is set before the next number
 pub as_many_ones : (mask n d : ℕ) → ((k : ℕ) → n ≤ k → k < n + d → has_bit mask k ≡ false)
     → count_ones (mask / 2 ^ (n + d)) ≡ count_ones (mask / 2 ^ n)
 as_many_ones mask n zero none = grind arith

@@ -30,7 +30,7 @@ module _ {X : Type 0} where
   rest_first slot i m ms f =
       record { there = omega (arith, f.there); its = f.its; first = λ j k lt is. f.first (suc j) k (omega arith) is }
 
-  -- a slot whose part stands at place i, where it was read
+  -- a slot whose part stands at place i, if it was read
   pub first_part : (n slot : ℕ) (ms : List (Moved X)) (i : ℕ) (m : Moved X) → All (λ k. k.slot < n) ms
       → IsFirstOf slot ms i → m ≡ get_or ms i m → at (placed n ms) slot ≡ Some m.part
   first_part n slot [] i m below f read = absurd (omega (arith, f.there))

@@ -83,7 +83,7 @@ pub at_set : {X : Type 0} (xs : List (Option X)) (i : ℕ) (x : X) → i < lengt
 at_set xs i x lt k =
     grind (arith, eqb_tells, cases_eq k i, get_or-set_same xs i (Some x) None lt, get_or-set_other xs i k (Some x) None)
 
--- where one was filled that wasn't empty, the same slots are empty
+-- if one was filled that wasn't empty, the same slots are empty
 pub there_still : {X : Type 0} (xs : List (Option X)) (i : ℕ) (x : X) → i < length xs → IsSome (at xs i) → (k : ℕ)
     → is_some (at (slice_set xs i (Some x)) k) ≡ is_some (at xs k)
 there_still xs i x lt there k = grind (arith, eqb_tells, at_set xs i x lt k)
@@ -136,7 +136,7 @@ home_by_masks a w types resources types_home resources_home marks_there t r th r
 
 -- ---- what a world stands for
 
--- Parts stand for some world where each of their buffers stands for some history.
+-- Parts stand for some world if each of their buffers stands for some history.
 pub world_stands : {V : Type 0} {values : Values V} (w : Parts V) → ((t : ℕ) → t < length w.types → (h : History (Record V)) × BufferStands (at w.types t) h)
     → (s : WorldState values) × PartsStand w s
 world_stands {V} {values} w each = (

@@ -51,7 +51,7 @@ uses a p = reads a p || writes a p
 abbrev pub Conflict : Access → Access → Type 0
 Conflict a b = (p : Part) × (IsTrue (writes a p && uses b p) ⊎ IsTrue (writes b p && uses a p))
 
--- A part is among these and among those. Where the first are read and the second written it is a
+-- A part is among these and among those. If the first are read and the second written it is a
 -- clash.
 abbrev pub Overlap : (Part → Bool) → (Part → Bool) → Type 0
 Overlap these those = (p : Part) × IsTrue (these p && those p)

@@ -58,7 +58,7 @@ HomeMerges {V} values = (a : Access) (taken world home : Parts V) (mine s : Worl
     → TakesBack taken world home → PartsStand taken mine → PartsStand world s
     → PartsStand home (merge a mine s)
 
--- A part is home where it was before, and where it came home: so loans may end in any order.
+-- A part is home if it was before, and if it came home: so loans may end in any order.
 abbrev pub HomeWhereEither : Type 0 → Type 0
 HomeWhereEither V = (taken world home : Parts V) → TakesBack taken world home
     → (p : Part) → is_some (slot p home) ≡ (is_some (slot p taken) || is_some (slot p world))

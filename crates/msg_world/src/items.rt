@@ -62,7 +62,7 @@ impl<T: Eq> Eq for Items<T> {
 }
 
 impl<T: Copy> Items<T> {
-    /// A copy of the values. Where there are none it takes no memory.
+    /// A copy of the values. If there are none it takes no memory.
     pub fn copy(&self, alloc: Global) -> Result<Items<T>, NoMemory>
         ensures equal { IfOk result (λ values. values ≡ self.now) }
         ensures refused { OnErr result (0 < length self.now) }

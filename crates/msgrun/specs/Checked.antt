@@ -79,7 +79,7 @@ TellsFault bytes text =
     ⊎ ((d : Data) × (e : Fault) × IsJsonOf bytes d × IsFaultOfEither d e
     × (text ≡ fault_told e d))
 
--- What ends the program where a file was checked and doesn't pass: these lines, or want of memory.
+-- What ends the program if a file was checked and doesn't pass: these lines, or want of memory.
 abbrev pub EndsCheck : List ℕ → MainFault → Type 0
 EndsCheck bytes (Told text) = TellsFault bytes text.items
 EndsCheck bytes Built = Unit {0}

@@ -28,7 +28,9 @@ pub(crate) fn answer_bytes<S: Sink>(
         AppendsPrefix (S.contents sink.old) (S.contents sink.new) (calls_text calls))) }
 {
     let calls = read_calls(alloc, bytes)?;
-    Ok(run_calls(alloc, &calls, sink)?)
+    let answered = run_calls(alloc, &calls, sink);
+    drop(calls);
+    Ok(answered?)
 }
 
 /// Runs the scenario of a scenario file, and reports it.
@@ -48,5 +50,7 @@ pub(crate) fn report_bytes<R: Threads + Sync, S: Sink>(
         × LeavesReport S.contents S.failures scenario (Err fault) sink.old sink.new)) }
 {
     let scenario = read_scenario(alloc, bytes)?;
-    as_main_fault(run_in_boxes(rt, alloc, &scenario, workers, sink))
+    let came = run_in_boxes(rt, alloc, &scenario, workers, sink);
+    drop(scenario);
+    as_main_fault(came)
 }

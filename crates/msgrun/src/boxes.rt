@@ -18,7 +18,7 @@ use std::thread::Threads;
 ///
 /// # Errors
 ///
-/// `NoMemory` where there was no engine. What the report came to, a fault of it too, is within
+/// `NoMemory` if there was no engine. What the report came to, a fault of it too, is within
 /// `Ok`.
 pub(crate) fn run_in_boxes<R: Threads + Sync, S: Sink>(
     rt: &R,

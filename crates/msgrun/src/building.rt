@@ -6,7 +6,7 @@ ghost use Rattle.msg_scenario_data.specs.Prelude.{fits_kind};
 
 use msg_exec::NoMemory;
 use msg_scenario_data::{Kind, SystemSpec};
-use msg_system::{Op, Relay, Scripted, System, Tally};
+use msg_system::{MAX_OPS, Op, Relay, Scripted, System, Tally};
 use std::alloc::Global;
 
 /// A system that interprets its program.
@@ -15,7 +15,7 @@ pub(crate) fn scripted_of(
     spec: &SystemSpec,
     writer: u32,
 ) -> Result<Box<Scripted>, NoMemory>
-    requires few { length spec.now.program.ops ≤ 64 }
+    requires few { length spec.now.program.ops ≤ MAX_OPS }
     ensures meaning { IfOk result (λ b. ⟦<Scripted as System>⟧.meaning (box_value b)
         ≡ new_system spec.now.program writer) }
 {

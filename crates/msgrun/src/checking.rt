@@ -1,7 +1,7 @@
 // A file that is checked, and not run.
 ghost use Rattle.std.specs.Prelude.{◌≡◌, ◌++◌, IfErr, IfOk, OnOk};
 ghost use Rattle.serde_json.specs.View.{view};
-ghost use Rattle.msg_json.specs.Prelude.{IsFaultOf};
+ghost use Rattle.msg_json.specs.Prelude.{IsFaultOf, IsJsonOf};
 ghost use Rattle.msg_json.specs.declared.file_fault.FileFault.TheVariants.{At as AtPlace};
 ghost use Rattle.msg_json.specs.declared.refusal.Refusal.TheVariants.{NotJson};
 ghost use Rattle.msg_reading.specs.Prelude.{HasFault};
@@ -30,7 +30,7 @@ pub(crate) fn check(alloc: Global, bytes: &[u8]) -> Result<Vec<u8>, MainFault>
     ensures told { IfErr result (Spec.EndsCheck bytes.now) }
 {
     match check_scenario(alloc, bytes) {
-        Ok(scenario) => Ok(tell_scenario(alloc, &scenario)?),
+        Ok(scenario) => tell_scenario(alloc, &scenario),
         Err(FileFault::NotJson { line, column }) => {
             Err(MainFault::Told(tell_not_json(alloc, line, column)?))
         }
@@ -47,28 +47,55 @@ fn check_value(alloc: Global, bytes: &[u8], fault: Fault) -> Result<Vec<u8>, Mai
     let Ok(value) = parse(alloc, bytes) else {
         return Err(MainFault::Built);
     };
+    let checked = check_parsed(alloc, bytes, fault, &value);
+    drop(value);
+    checked
+}
+
+/// The same, of the value that the bytes are a text of.
+fn check_parsed(
+    alloc: Global,
+    bytes: &[u8],
+    fault: Fault,
+    value: &Value,
+) -> Result<Vec<u8>, MainFault>
+    requires json { IsJsonOf bytes.now (view value.now) }
+    requires fault { IsFaultOf HasFault bytes.now (AtPlace fault) }
+    ensures passed { IfOk result (λ text. Spec.PassesWith bytes.now text.items) }
+    ensures told { IfErr result (Spec.EndsCheck bytes.now) }
+{
     if value.get(Key::Calls.text()).is_none() {
-        return Err(tell(alloc, &fault, &value)?);
+        return Err(tell(alloc, &fault, value));
     }
     match check_calls(alloc, bytes) {
-        Ok(calls) => Ok(count_calls(alloc, &calls)?),
-        Err(FileFault::At(fault)) => Err(tell(alloc, &fault, &value)?),
+        Ok(calls) => count_calls(alloc, &calls),
+        Err(FileFault::At(fault)) => Err(tell(alloc, &fault, value)),
         Err(FileFault::NotJson { .. }) => unreachable!(),
     }
 }
 
-/// The lines that tell of a fault of a value.
-fn tell(alloc: Global, fault: &Fault, value: &Value) -> Result<MainFault, NoMemory>
-    ensures tells { IfOk result (TellsOf fault.now (view value.now)) }
+/// What ends the program at a fault of a value: the lines that tell of it, or want of memory.
+fn tell(alloc: Global, fault: &Fault, value: &Value) -> MainFault
+    ensures tells { TellsOf fault.now (view value.now) result }
 {
     if matches!(fault.reason, Reason::NoMemory) {
-        return Ok(MainFault::Built);
+        return MainFault::Built;
     }
+    match fault_lines(alloc, fault, value) {
+        Ok(text) => MainFault::Told(text),
+        Err(_) => MainFault::Built,
+    }
+}
+
+/// The lines that tell of a fault of a value.
+fn fault_lines(alloc: Global, fault: &Fault, value: &Value) -> Result<Vec<u8>, NoMemory>
+    ensures lines { IfOk result (λ text. text.items ≡ Spec.fault_told fault.now (view value.now)) }
+{
     let mut text = Vec::new(alloc);
     text.extend_from_slice(refusal_line(fault.reason.refusal()))?;
     add_told(alloc, &mut text, fault, value)?;
     add_more(alloc, &mut text, fault.reason, value)?;
-    Ok(MainFault::Told(text))
+    Ok(text)
 }
 
 /// Adds what there is to tell of a scenario that is refused as a whole.
@@ -97,9 +124,10 @@ fn tell_not_json(alloc: Global, line: usize, column: usize) -> Result<Vec<u8>, N
 }
 
 /// The counts of a scenario that can be run, and what is remarked of it.
-fn tell_scenario(alloc: Global, scenario: &Scenario) -> Result<Vec<u8>, NoMemory>
+fn tell_scenario(alloc: Global, scenario: &Scenario) -> Result<Vec<u8>, MainFault>
     requires runnable { IsRunnable scenario.now }
     ensures told { IfOk result (λ text. text.items ≡ Spec.scenario_told scenario.now) }
+    ensures no_memory { IfErr result (λ fault. fault ≡ MainFault.Built) }
 {
     let mut text = Vec::new(alloc);
     add_scenario(&mut text, scenario)?;
@@ -147,8 +175,9 @@ fn add_course(text: &mut Vec<u8>, scenario: &Scenario) -> Result<(), NoMemory>
     text.extend_from_slice(b" frames")
 }
 
-fn count_calls(alloc: Global, calls: &Calls) -> Result<Vec<u8>, NoMemory>
+fn count_calls(alloc: Global, calls: &Calls) -> Result<Vec<u8>, MainFault>
     ensures counts { IfOk result (λ text. text.items ≡ Spec.calls_counts calls.now) }
+    ensures no_memory { IfErr result (λ fault. fault ≡ MainFault.Built) }
 {
     let mut text = Vec::new(alloc);
     add_count(&mut text, b"ok: ", calls.calls().len() as u64)?;

@@ -7,7 +7,8 @@
 //! alone those of standard input; `msgrun check FILE` and `msgrun plan FILE --frame K` run nothing.
 #![tactic(auto)]
 
-ghost use Rattle.std.specs.Prelude.{◌≡◌, ◌<◌, ◌≤◌};
+ghost use Rattle.std.specs.Prelude.{◌≡◌, ◌<◌, ◌≤◌, IfOk};
+ghost use Rattle.msg_scenario_data.specs.Prelude.{IsRunnable};
 ghost use Rattle.msgrun.specs.Prelude.{status_after};
 
 mod answering;
@@ -18,9 +19,10 @@ mod checking;
 use answering::{answer_bytes, report_bytes};
 use checking::check;
 use msg_command::{Action, InputFault, MainFault, WordFault, parse_words, print_fault, read_all};
-use msg_exec::Workers;
+use msg_exec::{MAX_WORKERS, Workers};
 use msg_plans::{Form, put_plan};
 use msg_reading::read_scenario;
+use msg_scenario_data::Scenario;
 use msg_text::{StdSink, put_all, put_text};
 use std::env::Env;
 use std::fs::Files;
@@ -59,7 +61,7 @@ fn words_given<R: AllocGlobal + Env>(rt: &R) -> Result<Vec<String>, WordFault> {
     }
 }
 
-/// Answers a calls file, or where none is named that of standard input, on standard output.
+/// Answers a calls file, or if none is named that of standard input, on standard output.
 fn answer_calls<R: AllocGlobal + Files + Input + Print>(
     rt: &R,
     file: Option<String>,
@@ -76,7 +78,7 @@ fn answer_scenario<R: AllocGlobal + Files + Input + Print + Sync + Threads>(
     workers: u32,
 ) -> Result<(), MainFault>
     requires some { 0 < workers }
-    requires at_most { workers ≤ 64 }
+    requires at_most { workers ≤ MAX_WORKERS }
 {
     let Some(workers) = Workers::new(workers) else {
         unreachable!()
@@ -91,9 +93,14 @@ fn check_file<R: AllocGlobal + Files + Input + Print>(
     rt: &R,
     file: String,
 ) -> Result<(), MainFault> {
-    let bytes = bytes_of(rt, Some(file))?;
-    let text = check(rt.alloc(), bytes.as_slice())?;
+    let text = told_of(rt, file)?;
     Ok(put_text(text.as_slice(), &mut StdSink::new(io::writer(rt)))?)
+}
+
+/// What is told of a file that is checked.
+fn told_of<R: AllocGlobal + Files + Input>(rt: &R, file: String) -> Result<Vec<u8>, MainFault> {
+    let bytes = bytes_of(rt, Some(file))?;
+    check(rt.alloc(), bytes.as_slice())
 }
 
 /// Puts the plan of a frame of a scenario file on standard output, as lines or for Graphviz.
@@ -105,11 +112,33 @@ fn tell_plan<R: AllocGlobal + Files + Input + Print>(
 ) -> Result<(), MainFault>
     requires some { 0 < frame }
 {
-    let bytes = bytes_of(rt, Some(file))?;
-    let scenario = read_scenario(rt.alloc(), bytes.as_slice())?;
+    let scenario = scenario_of(rt, file)?;
     let form = if dot { Form::Dot } else { Form::Lines };
+    let told = print_plan(rt, &scenario, frame, form);
+    drop(scenario);
+    told
+}
+
+/// Puts the plan of a frame of a scenario on standard output.
+fn print_plan<R: AllocGlobal + Print>(
+    rt: &R,
+    scenario: &Scenario,
+    frame: u32,
+    form: Form,
+) -> Result<(), MainFault>
+    requires runnable { IsRunnable scenario.now }
+    requires some { 0 < frame }
+{
     let mut output = StdSink::new(io::writer(rt));
-    Ok(put_plan(rt.alloc(), &scenario, frame, form, &mut output)?)
+    Ok(put_plan(rt.alloc(), scenario, frame, form, &mut output)?)
+}
+
+/// The scenario of a scenario file.
+fn scenario_of<R: AllocGlobal + Files + Input>(rt: &R, file: String) -> Result<Scenario, MainFault>
+    ensures runnable { IfOk result IsRunnable }
+{
+    let bytes = bytes_of(rt, Some(file))?;
+    Ok(read_scenario(rt.alloc(), bytes.as_slice())?)
 }
 
 /// All bytes of a file, or of standard input.

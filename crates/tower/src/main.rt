@@ -17,6 +17,7 @@ use msg_system::{BehaviorSystem, Condition, Probe, SystemOf};
 use msg_world::{ResNo, TypeNo, World};
 use part::{Creep, Lane, Part, Tower};
 use std::alloc::Global;
+use std::io::Print;
 use std::thread::Threads;
 
 /// How many lanes lead to the keep. In each walk two creeps, and stand a tower and a gate.
@@ -34,6 +35,9 @@ const LATE: u32 = 3;
 /// How many lives the keep begins with.
 const LIVES: u32 = 5;
 
+/// How many frames are run.
+const FRAMES: u32 = 10;
+
 /// The resource that has the lives of the keep.
 fn lives() -> ResNo {
     ResNo::new(0).unwrap()
@@ -50,34 +54,56 @@ fn lane(number: u32) -> Lane
     }
 }
 
-/// The parts of all lanes. The tower of lane n shoots with n + 1. Creeps walk while the keep has
-/// lives.
+/// Adds a creep, which walks while the keep has lives.
+fn add_creep(
+    parts: &mut EngineBuilder<BehaviorSystem<Part>, Event>,
+    alloc: Global,
+    lane: &Lane,
+    number: u32,
+    join: u32,
+) -> anyhow::Result<()> {
+    let while_it_lives = Condition {
+        nots: 1,
+        probe: Probe::ResourceEquals(lives(), Event::Lives(0)),
+    };
+    let conditions = vec![in alloc; while_it_lives]?;
+    let creep = Creep {
+        number,
+        lane: *lane,
+        health: HEALTH,
+        left: STEPS,
+    };
+    parts.add_system(Part::Creep(creep).system(alloc), conditions, join)?;
+    Ok(())
+}
+
+/// Adds the parts of a lane. The tower of lane n shoots with n + 1.
+fn add_lane(
+    parts: &mut EngineBuilder<BehaviorSystem<Part>, Event>,
+    alloc: Global,
+    number: u32,
+) -> anyhow::Result<()>
+    requires there { number < 3 }
+{
+    let lane = lane(number);
+    add_creep(parts, alloc, &lane, 0, 1)?;
+    add_creep(parts, alloc, &lane, 1, LATE)?;
+    let tower = Tower {
+        lane,
+        reach: 3,
+        amount: number + 1,
+    };
+    parts.add_system(Part::Tower(tower).system(alloc), Vec::new(alloc), 1)?;
+    let gate = Part::Gate(lane.breaks, lives());
+    parts.add_system(gate.system(alloc), Vec::new(alloc), 1)?;
+    Ok(())
+}
+
+/// The parts of all lanes.
 fn lanes(alloc: Global) -> anyhow::Result<EngineBuilder<BehaviorSystem<Part>, Event>> {
     let mut parts = EngineBuilder::new(alloc);
     for number in 0..LANES {
-        let lane = lane(number);
-        for join in [1, LATE] {
-            let creep = Creep {
-                number: if join == 1 { 0 } else { 1 },
-                lane,
-                health: HEALTH,
-                left: STEPS,
-            };
-            let while_it_lives = Condition {
-                nots: 1,
-                probe: Probe::ResourceEquals(lives(), Event::Lives(0)),
-            };
-            let conditions = vec![in alloc; while_it_lives]?;
-            parts.add_system(Part::Creep(creep).system(alloc), conditions, join)?;
-        }
-        let tower = Tower {
-            lane,
-            reach: 3,
-            amount: number + 1,
-        };
-        parts.add_system(Part::Tower(tower).system(alloc), Vec::new(alloc), 1)?;
-        let gate = Part::Gate(lane.breaks, lives());
-        parts.add_system(gate.system(alloc), Vec::new(alloc), 1)?;
+        add_lane(&mut parts, alloc, number)?;
     }
     Ok(parts)
 }
@@ -101,25 +127,31 @@ fn defend<R: Threads + Sync>(
         parts.rules (length world.types) w) [] r.1.items r.0) }
 {
     let mut engine = parts.build(world)?;
-    let mut logs = Vec::new(alloc);
     anyhow::ensure!(
         engine.all_fit(frames),
         "a post is to a type that isn't there"
     );
+    let mut logs = Vec::new(alloc);
     engine.run_frames(rt, frames, workers, &NoGate, &mut logs)?;
     Ok((engine, logs))
 }
 
-fn main(rt: HostRuntime) -> anyhow::Result<()> {
-    let (alloc, workers) = (rt.alloc(), Workers::new(4).unwrap());
-    let world = World::new(alloc, &[100; 9], &[Event::Lives(LIVES)])?;
+/// Frames before which the host posts nothing.
+fn quiet_frames(alloc: Global) -> anyhow::Result<Vec<Frame<Event>>> {
     let mut frames = Vec::new(alloc);
-    for _ in 0..10 {
+    for _ in 0..FRAMES {
         frames.push(Frame {
             posts: Items::from_vec(Vec::new(alloc)),
         })?;
     }
-    let (engine, _logs) = defend(&rt, alloc, lanes(alloc)?, world, &frames, workers)?;
+    Ok(frames)
+}
+
+/// Prints how many broke in.
+fn tell_lanes<R: Print>(
+    rt: &R,
+    engine: &EngineOf<BehaviorSystem<Part>, Event>,
+) -> anyhow::Result<()> {
     let accounts = engine.accounts()?;
     for number in 0..LANES {
         for account in &accounts {
@@ -128,8 +160,38 @@ fn main(rt: HostRuntime) -> anyhow::Result<()> {
             }
         }
     }
+    Ok(())
+}
+
+/// Prints how many lives are left.
+fn tell_lives<R: Print>(
+    rt: &R,
+    engine: &EngineOf<BehaviorSystem<Part>, Event>,
+) -> anyhow::Result<()> {
     if let Some(Event::Lives(left)) = engine.world().and_then(|world| world.resource(lives())) {
         println!(rt; "{left} of {LIVES} lives are left")?;
     }
     Ok(())
+}
+
+fn tell<R: Print>(rt: &R, engine: &EngineOf<BehaviorSystem<Part>, Event>) -> anyhow::Result<()> {
+    tell_lanes(rt, engine)?;
+    tell_lives(rt, engine)
+}
+
+/// Plays these frames on four workers, and prints what came of them.
+fn play<R: Threads + AllocGlobal + Print + Sync>(
+    rt: &R,
+    frames: &[Frame<Event>],
+) -> anyhow::Result<()> {
+    let (alloc, workers) = (rt.alloc(), Workers::new(4).unwrap());
+    let parts = lanes(alloc)?;
+    let world = World::new(alloc, &[100; 9], &[Event::Lives(LIVES)])?;
+    let (engine, _logs) = defend(rt, alloc, parts, world, frames, workers)?;
+    tell(rt, &engine)
+}
+
+fn main(rt: HostRuntime) -> anyhow::Result<()> {
+    let frames = quiet_frames(rt.alloc())?;
+    play(&rt, &frames)
 }

@@ -1,7 +1,8 @@
 // The command line, as `clap` is told of it.
 ghost use Rattle.std.specs.Prelude.{◌≡◌, ◌⊎◌, [], IfOk, IfErr, OnOk, false, true};
-ghost use Rattle.clap.specs.{Words.app_of, Words.rule_of, Words.fault_of, Words.takes, Words.subcommand_of, Words.subcommand_rows_of, Words.kind_of, declared.Command.out-Command as fields_of, declared.error.ErrorKind.TheVariants.OutOfMemory};
-ghost use Rattle.msg_command.specs.Prelude.{IsHelp, IsShown, IsToldOf, dot_rule, file_app, file_rule, frame_rule, msgrun_app, plan_app, run_app, running_app, texts_of, workers_rule};
+ghost use Rattle.clap.specs.{Words.App, Words.app_of, Words.with_subcommand, Words.rule_of, Words.fault_of, Words.takes, Words.subcommand_of, Words.subcommand_rows_of, Words.kind_of, declared.Command.out-Command as fields_of, declared.error.ErrorKind.TheVariants.OutOfMemory};
+ghost use Rattle.msg_command.specs.CommandLine.{bare_app};
+ghost use Rattle.msg_command.specs.Prelude.{IsHelp, IsShown, IsToldOf, buffer_app, check_app, dot_rule, file_app, file_rule, frame_rule, msgrun_app, plan_app, run_app, texts_of, workers_rule};
 
 use crate::words::{WordFault, help};
 use clap::error::ErrorKind;
@@ -114,46 +115,73 @@ fn plan_command<'a>(alloc: Global) -> Result<Command<'a>, AllocError>
     command.arg(dot_arg(alloc))?.arg(frame_arg(alloc))
 }
 
-/// The command with the subcommands that answer calls or run frames.
-fn running_command<'a>(alloc: Global) -> Result<Command<'a>, AllocError>
-    ensures app { IfOk result (λ c. app_of c ≡ running_app) }
+fn buffer_command<'a>(alloc: Global) -> Result<Command<'a>, AllocError>
+    ensures app { IfOk result (λ c. app_of c ≡ buffer_app) }
     ensures local { IfOk result (λ c. (fields_of c).has_globals ≡ false) }
 {
-    let buffer = file_command(
+    file_command(
         alloc,
         "buffer",
         "The calls file",
         "Answers the calls file FILE",
         help::BUFFER,
         help::BUFFER_IN_FULL,
-    )?;
-    let run = run_command(alloc)?;
-    let bare = Command::new(alloc, "msgrun").no_binary_name(true);
-    let bare = bare.bin_name("msgrun")?.version(VERSION);
-    let command = with_texts(
-        bare,
-        "Runs scenarios of message systems, and answers calls of a message buffer",
-        help::PROGRAM,
-        help::PROGRAM_IN_FULL,
-    );
-    let command = command.subcommand(buffer)?;
-    command.subcommand(run)
+    )
 }
 
-fn command<'a>(alloc: Global) -> Result<Command<'a>, AllocError>
-    ensures app { IfOk result (λ c. app_of c ≡ msgrun_app) }
+fn check_command<'a>(alloc: Global) -> Result<Command<'a>, AllocError>
+    ensures app { IfOk result (λ c. app_of c ≡ check_app) }
     ensures local { IfOk result (λ c. (fields_of c).has_globals ≡ false) }
 {
-    let check = file_command(
+    file_command(
         alloc,
         "check",
         "The scenario file or calls file",
         "Checks the file FILE, and says where and why it is refused",
         help::CHECK,
         help::CHECK,
-    )?;
-    let plan = plan_command(alloc)?;
-    running_command(alloc)?.subcommand(check)?.subcommand(plan)
+    )
+}
+
+/// The command without its subcommands.
+fn bare_command<'a>(alloc: Global) -> Result<Command<'a>, AllocError>
+    ensures app { IfOk result (λ c. app_of c ≡ bare_app) }
+    ensures local { IfOk result (λ c. (fields_of c).has_globals ≡ false) }
+{
+    let bare = Command::new(alloc, "msgrun").no_binary_name(true);
+    let bare = bare.bin_name("msgrun")?.version(VERSION);
+    Ok(with_texts(
+        bare,
+        "Runs scenarios of message systems, and answers calls of a message buffer",
+        help::PROGRAM,
+        help::PROGRAM_IN_FULL,
+    ))
+}
+
+/// The first command with the second as its next subcommand.
+fn with_subcommand<'a>(
+    command: Result<Command<'a>, AllocError>,
+    subcommand: Result<Command<'a>, AllocError>,
+) -> Result<Command<'a>, AllocError>
+    requires local { IfOk subcommand (λ s. (fields_of s).has_globals ≡ false) }
+    ensures app { (a s : App) → IfOk command.entry (λ c. app_of c ≡ a)
+        → IfOk subcommand.entry (λ c. app_of c ≡ s)
+        → IfOk result (λ c. app_of c ≡ with_subcommand a s.top) }
+    ensures local { IfOk command.entry (λ c. (fields_of c).has_globals ≡ false)
+        → IfOk result (λ c. (fields_of c).has_globals ≡ false) }
+{
+    let subcommand = subcommand?;
+    command?.subcommand(subcommand)
+}
+
+fn command<'a>(alloc: Global) -> Result<Command<'a>, AllocError>
+    ensures app { IfOk result (λ c. app_of c ≡ msgrun_app) }
+    ensures local { IfOk result (λ c. (fields_of c).has_globals ≡ false) }
+{
+    let command = with_subcommand(bare_command(alloc), buffer_command(alloc));
+    let command = with_subcommand(command, run_command(alloc));
+    let command = with_subcommand(command, check_command(alloc));
+    with_subcommand(command, plan_command(alloc))
 }
 
 fn fault(alloc: Global, error: clap::Error) -> WordFault

@@ -20,7 +20,9 @@ pub fn parse_words(alloc: Global, words: &[String]) -> Result<Action, WordFault>
     ensures found { IfErr result (IsToldOf (fault_of msgrun_app (texts_of words.now))) }
 {
     let matches = matches(alloc, words)?;
-    action_of(alloc, &matches)
+    let action = action_of(alloc, &matches);
+    drop(matches);
+    action
 }
 
 fn action_of(alloc: Global, matches: &ArgMatches<'_>) -> Result<Action, WordFault>

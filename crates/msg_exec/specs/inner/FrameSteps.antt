@@ -33,7 +33,7 @@ module _ {S V : Type 0} {values : Values V} where
   PlansNext c s plan = IsPlanOf c.lender.accesses.items s.rules
       (join_flags (one_frame_more (after_joining s))) plan
 
-  -- the number of the next frame and its plan, where some join with it; none where nobody does
+  -- the number of the next frame and its plan, if some join with it; none if nobody does
   abbrev pub IsNextPlan : Core S V → State values → Option (ℕ × PlanView) → Type 0
   IsNextPlan c s None = NobodyJoins s
   IsNextPlan c s (Some next) = (0 < s.frames) × (next.0 ≡ suc s.frames) × PlansNext c s next.1

@@ -1,12 +1,13 @@
 // Calls made one after another. Their lines are gathered, and put into the sink in large pieces.
-ghost use Rattle.std.specs.Prelude.{◌≡◌, ◌⊎◌, ◌++◌, if◌then◌else◌, Err, IfErr, OnOk, OnErr};
+ghost use Rattle.std.specs.Prelude.{◌≡◌, ◌⊎◌, ◌++◌, if◌then◌else◌, Err, IfErr, OnOk, OnErr, length, true};
 ghost use Rattle.std.specs.Io.KnownBytes.{Appends};
 ghost use Rattle.msg_text.specs.Prelude.{AppendsPrefix, one_failure_more};
-ghost use Rattle.msg_files.specs.{inner.Running.TakesFront, Prelude.calls_text};
+ghost use Rattle.msg_files.specs.{inner.Running.AreIn, inner.Running.TakesFront, Prelude.BufferState, Prelude.after, Prelude.calls_text, Prelude.has_cursor, Prelude.line as line_of_call};
 
+use crate::call::Call;
 use crate::calls::Calls;
 use crate::calls::answer::answer;
-use msg_buffer::Messages;
+use msg_buffer::{MessageCursor, Messages};
 use msg_text::{ReportFault, Sink, put_text};
 use std::alloc::Global;
 
@@ -17,8 +18,8 @@ const FULL: usize = 65536;
 ///
 /// # Errors
 ///
-/// `NoMemory` where there was no memory for a call; the lines of the calls before it were put then.
-/// `Write` where the sink failed.
+/// `NoMemory` if there was no memory for a call; the lines of the calls before it were put then.
+/// `Write` if the sink failed.
 pub fn run_calls<S: Sink>(alloc: Global, calls: &Calls, sink: &mut S) -> Result<(), ReportFault>
     ensures ok { OnOk result
         (Appends (S.contents sink.old) (S.contents sink.new) (calls_text calls.now)) }
@@ -26,7 +27,7 @@ pub fn run_calls<S: Sink>(alloc: Global, calls: &Calls, sink: &mut S) -> Result<
     ensures prefix { OnErr result
         (AppendsPrefix (S.contents sink.old) (S.contents sink.new) (calls_text calls.now)) }
 
-    // The sink failed where the fault is `Write`, and not where it is `NoMemory`.
+    // The sink failed if the fault is `Write`, and not if it is `NoMemory`.
     ensures write { result ≡ Err ReportFault.Write
         → S.failures sink.new ≡ one_failure_more (S.failures sink.old) }
     ensures memory { result ≡ Err ReportFault.NoMemory → S.failures sink.new ≡ S.failures sink.old }
@@ -40,19 +41,55 @@ pub fn run_calls<S: Sink>(alloc: Global, calls: &Calls, sink: &mut S) -> Result<
     }
     let (mut line, mut gathered) = (Vec::new(alloc), Vec::new(alloc));
     for call in calls.calls() {
-        line.clear();
-        match answer(alloc, call, &mut messages, &mut cursors, &mut line) {
-            Ok(()) => gather(&mut gathered, line.as_slice(), sink)?,
-            Err(_) => {
-                put_text(gathered.as_slice(), sink)?;
-                return Err(ReportFault::NoMemory);
-            }
-        }
+        answer_next(
+            call,
+            &mut messages,
+            &mut cursors,
+            &mut line,
+            &mut gathered,
+            sink,
+        )?;
     }
     put_text(gathered.as_slice(), sink)
 }
 
-/// Adds a line to the gathered bytes. Where there are `FULL` of them or more, or no memory for the
+/// Makes a call, and gathers its line, which is made in `line` first. If there is no memory for
+/// the call, it puts the lines that were gathered.
+fn answer_next<S: Sink>(
+    call: &Call,
+    messages: &mut Messages<i64>,
+    cursors: &mut Vec<MessageCursor>,
+    line: &mut Vec<u8>,
+    gathered: &mut Vec<u8>,
+    sink: &mut S,
+) -> Result<(), ReportFault>
+    requires { has_cursor (length cursors.old.items) call.now ≡ true }
+    ensures ok { OnOk result ((s : BufferState) → AreIn messages.old cursors.old.items s
+        → TakesFront (S.contents sink.old) (S.contents sink.new)
+        (gathered.old.items ++ line_of_call call.now s) gathered.new.items) }
+    ensures state { OnOk result ((s : BufferState) → AreIn messages.old cursors.old.items s
+        → AreIn messages.new cursors.new.items (after call.now s)) }
+    ensures quiet { OnOk result (S.failures sink.new ≡ S.failures sink.old) }
+    ensures prefix { OnErr result ((s : BufferState) → AreIn messages.old cursors.old.items s
+        → AppendsPrefix (S.contents sink.old) (S.contents sink.new)
+        (gathered.old.items ++ line_of_call call.now s)) }
+    ensures write { result ≡ Err ReportFault.Write
+        → S.failures sink.new ≡ one_failure_more (S.failures sink.old) }
+    ensures memory { result ≡ Err ReportFault.NoMemory → S.failures sink.new ≡ S.failures sink.old }
+    ensures faults { IfErr result
+        (λ fault. (fault ≡ ReportFault.Write) ⊎ (fault ≡ ReportFault.NoMemory)) }
+{
+    line.clear();
+    match answer(*gathered.allocator(), call, messages, cursors, line) {
+        Ok(()) => gather(gathered, line.as_slice(), sink),
+        Err(_) => {
+            put_text(gathered.as_slice(), sink)?;
+            Err(ReportFault::NoMemory)
+        }
+    }
+}
+
+/// Adds a line to the gathered bytes. If there are `FULL` of them or more, or no memory for the
 /// line, it puts them into the sink, and then the line.
 fn gather<S: Sink>(gathered: &mut Vec<u8>, line: &[u8], sink: &mut S) -> Result<(), ReportFault>
     ensures ok { OnOk result (TakesFront (S.contents sink.old) (S.contents sink.new)

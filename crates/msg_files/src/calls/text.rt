@@ -47,7 +47,7 @@ fn add_more(text: &mut Vec<u8>, items: &[Instance<i64>]) -> Result<(), NoMemory>
     Ok(())
 }
 
-/// The unread messages, or the first of them where there is a limit, as items.
+/// The unread messages, or the first of them if there is a limit, as items.
 pub fn add_unread(
     text: &mut Vec<u8>,
     cursor: &mut MessageCursor,
@@ -74,7 +74,7 @@ pub fn add_unread(
     Ok(())
 }
 
-/// How many messages a read gives, where so many are unread.
+/// How many messages a read gives, if so many are unread.
 fn number_given(limit: Option<u32>, unread: u64) -> u64
     ensures { (xs : List (Instance ℤ)) → length xs ≡ unread
         → result ≡ length (at_most limit xs) }

@@ -11,7 +11,7 @@ use std::alloc::Global;
 /// How many bytes of a text are shown at most.
 const LONGEST: usize = 60;
 
-/// Adds a value in short: as JSON, where that is short.
+/// Adds a value in short: as JSON, if that is short.
 #[tactic(auto, using(crate::proofs::WalksOverLists::list_steps), unfolding(crate::specs::Told::shown))]
 pub fn add_shown(alloc: Global, text: &mut Vec<u8>, value: &Value) -> Result<(), NoMemory>
     ensures appends { OnOk result (text.new.items ≡ text.old.items ++ Spec.shown (view value.now)) }

@@ -2,10 +2,12 @@
 ghost use Rattle.std.specs.Prelude.{◌≡◌, ◌/◌, ◌≤◌, ℕ, length};
 
 use super::{Runs, run_jobs};
+use crate::outcome::expect_eq;
 use msg_board::{MAX_JOBS, NoMemory, Work};
 use std::alloc::Global;
 use std::marker::PhantomData;
 use std::panic::Expect;
+use std::process::Abort;
 use std::thread::Threads;
 
 trait Tool: Send + Drop {
@@ -98,20 +100,19 @@ fn values<R: Threads + Sync, T: Tool>(
     Ok(values)
 }
 
+fn boxed<T: Drop>(rt: &(impl Abort + AllocGlobal), tool: T) -> Box<T> {
+    Box::new(rt.alloc(), tool).expect(rt, "a box")
+}
+
 #[test]
 fn boxes_of_two_kinds(rt: HostRuntime) {
-    let mut tools: Vec<Box<dyn Tool>> = Vec::new(rt.alloc());
-    tools
-        .push(Box::new(rt.alloc(), Half).expect(&rt, "a box"))
-        .expect(&rt, "a list");
-    tools
-        .push(Box::new(rt.alloc(), Constant(7)).expect(&rt, "a box"))
-        .expect(&rt, "a list");
-    tools
-        .push(Box::new(rt.alloc(), Half).expect(&rt, "a box"))
-        .expect(&rt, "a list");
-    let base = 20u64;
+    let tools: Result<Vec<Box<dyn Tool>>, _> = vec![in rt.alloc();
+        boxed(&rt, Half),
+        boxed(&rt, Constant(7)),
+        boxed(&rt, Half),
+    ];
+    let (tools, base) = (tools.expect(&rt, "a list"), 20u64);
     assert!(rt; tools.len() == 3);
     let values = values(&rt, rt.alloc(), &base, tools).expect(&rt, "values");
-    assert_eq!(rt; values.as_slice(), [10, 7, 10].as_slice());
+    expect_eq(&rt, &values.as_slice(), &[10, 7, 10].as_slice());
 }

@@ -1,10 +1,13 @@
 // A board that can't be made drops the jobs; one that can't be closed drops the results.
-ghost use Rattle.std.specs.Prelude.{◌≡◌, ◌+◌, IfOk, length};
+ghost use Rattle.std.specs.Prelude.{◌≡◌, ◌+◌, All, IfOk, length};
 ghost use Rattle.msg_board.specs.Prelude.{HasEnded, IsIdle};
+ghost use Rattle.msg_board.specs.Board.{IsNewPass};
 
-use crate::outcome::tell;
+use super::{draw_next, draw_none};
+use crate::outcome::{expect_eq, tell};
 use msg_board::{Board, Pass, Work};
 use std::alloc::{AllocError, Global};
+use std::panic::Expect;
 use std::process::Abort;
 use std::sync::atomic::{AtomicU64, Ordering};
 use std::test::Fail;
@@ -39,11 +42,11 @@ impl<'a> Work for AddOne<'a> {
 fn three_jobs<'a>(alloc: Global, dropped: &'a AtomicU64) -> Result<Vec<Counted<'a>>, AllocError>
     ensures { IfOk result (λ jobs. length jobs.items ≡ 3) }
 {
-    let mut jobs = Vec::with_capacity(alloc, 3)?;
-    jobs.push(Counted { value: 10, dropped })?;
-    jobs.push(Counted { value: 20, dropped })?;
-    jobs.push(Counted { value: 30, dropped })?;
-    Ok(jobs)
+    Ok(vec![in alloc;
+        Counted { value: 10, dropped },
+        Counted { value: 20, dropped },
+        Counted { value: 30, dropped },
+    ]?)
 }
 
 /// The result of a drawn job: its successor. The job is dropped.
@@ -63,7 +66,8 @@ fn expect_successors(rt: &impl Abort, results: &[Counted]) {
     let [first, second, third] = results else {
         panic!(rt; "three results")
     };
-    assert_eq!(rt; (first.value, second.value, third.value), (11, 21, 31));
+    let values = (first.value, second.value, third.value);
+    expect_eq(rt, &values, &(11, 21, 31));
 }
 
 /// Draws the three jobs by two passes, hands in their successors, and ends both passes.
@@ -79,51 +83,70 @@ fn work_off<'a>(
     ensures a { HasEnded board.now a.new }
     ensures b { HasEnded board.now b.new }
 {
-    let (Some((0, first)), Some((1, second))) = (board.draw(a), board.draw(b)) else {
-        panic!(rt; "the first job and the second")
-    };
-    let second = finish(rt, second, 20, dropped);
+    let first = draw_next(rt, board, a, 0);
+    let second = draw_next(rt, board, b, 1);
     board.hand_in(a, 0, finish(rt, first, 10, dropped));
-    let Some((2, third)) = board.draw(a) else {
-        panic!(rt; "the third job")
-    };
+    let third = draw_next(rt, board, a, 2);
     board.hand_in(a, 2, finish(rt, third, 30, dropped));
-    assert!(rt; board.draw(a).is_none());
-    board.hand_in(b, 1, second);
-    assert!(rt; board.draw(b).is_none());
+    draw_none(rt, board, a);
+    board.hand_in(b, 1, finish(rt, second, 20, dropped));
+    draw_none(rt, board, b);
 }
 
-/// Works off a board of three jobs, and says whether there was no memory for the board or for its
-/// results. The counts are of the dropped jobs and of the dropped results.
-fn is_refused<'a>(
+/// Draws the three jobs by the two passes in turn, and ends both.
+fn work_off_both<'a>(
     rt: &impl Abort,
-    alloc: Global,
-    jobs_dropped: &'a AtomicU64,
-    results_dropped: &'a AtomicU64,
-) -> Result<bool, AllocError> {
-    let jobs = three_jobs(alloc, jobs_dropped)?;
-    let Ok((board, mut passes)) = Board::<AddOne>::new(alloc, jobs, 2) else {
-        assert_eq!(rt; jobs_dropped.load(Ordering::SeqCst), 3);
-        return Ok(true);
-    };
+    board: &Board<AddOne<'a>>,
+    passes: &mut Vec<Pass<Counted<'a>, Counted<'a>>>,
+    dropped: &'a AtomicU64,
+)
+    requires two { length passes.old.items ≡ 2 }
+    requires fresh { All (IsNewPass board.now) passes.old.items }
+    ensures two { length passes.new.items ≡ 2 }
+    ensures ended { All (HasEnded board.now) passes.new.items }
+{
     let (Some(mut b), Some(mut a)) = (passes.pop(), passes.pop()) else {
         panic!(rt; "two passes")
     };
-    work_off(rt, &board, &mut a, &mut b, results_dropped);
-    passes.push(a)?;
-    passes.push(b)?;
-    assert_eq!(rt; results_dropped.load(Ordering::SeqCst), 0);
+    work_off(rt, board, &mut a, &mut b, dropped);
+    passes.push(a).expect(rt, "a list");
+    passes.push(b).expect(rt, "a list");
+}
+
+/// So many jobs, or results, were dropped.
+fn expect_dropped(rt: &impl Abort, dropped: &AtomicU64, number: u64) {
+    expect_eq(rt, &dropped.load(Ordering::SeqCst), &number);
+}
+
+/// Works off a board of these three jobs, and says whether there was no memory for the board or for
+/// its results. The counts are of the dropped jobs and of the dropped results.
+fn is_refused<'a>(
+    rt: &impl Abort,
+    alloc: Global,
+    jobs: Vec<Counted<'a>>,
+    jobs_dropped: &'a AtomicU64,
+    results_dropped: &'a AtomicU64,
+) -> bool
+    requires three { length jobs.items ≡ 3 }
+{
+    let Ok((board, mut passes)) = Board::<AddOne>::new(alloc, jobs, 2) else {
+        expect_dropped(rt, jobs_dropped, 3);
+        return true;
+    };
+    work_off_both(rt, &board, &mut passes, results_dropped);
+    expect_dropped(rt, results_dropped, 0);
     let Ok(results) = board.close(alloc, passes) else {
-        assert_eq!(rt; results_dropped.load(Ordering::SeqCst), 3);
-        return Ok(true);
+        expect_dropped(rt, results_dropped, 3);
+        return true;
     };
     expect_successors(rt, results.as_slice());
-    Ok(false)
+    false
 }
 
 #[test]
 fn worked_board(rt: HostRuntime) -> Result<(), Fail> {
-    let (jobs, results) = (AtomicU64::new(0), AtomicU64::new(0));
-    let is_refused = is_refused(&rt, rt.alloc(), &jobs, &results)?;
+    let (jobs_dropped, results_dropped) = (AtomicU64::new(0), AtomicU64::new(0));
+    let jobs = three_jobs(rt.alloc(), &jobs_dropped)?;
+    let is_refused = is_refused(&rt, rt.alloc(), jobs, &jobs_dropped, &results_dropped);
     tell(&rt, is_refused)
 }

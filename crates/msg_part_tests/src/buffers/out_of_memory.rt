@@ -1,6 +1,6 @@
 // What a refused write, batch or drain leaves: the buffer and its cursor as they were, and what was
 // passed is handed back. A call that was refused memory is made again, and then there is memory.
-use crate::outcome::tell;
+use crate::outcome::{expect_eq, tell};
 use msg_buffer::{
     BatchRefusal, Instance, MessageCursor, MessageId, Messages, NoMemory, WriteRefusal, Written,
 };
@@ -49,7 +49,12 @@ impl Tried {
         }
     }
 
-    /// Writes a message. None where no number is left.
+    /// All is as it was seen before.
+    fn expect_seen(&self, rt: &impl Abort, before: &Seen) {
+        expect_eq(rt, &self.look_at(), before);
+    }
+
+    /// Writes a message. None if no number is left.
     fn write(&mut self, rt: &impl Abort, value: i64) -> Option<MessageId> {
         let before = self.look_at();
         let (back, is_spent) = match self.buffer.write(value) {
@@ -57,7 +62,8 @@ impl Tried {
             Err(WriteRefusal::NumbersSpent(back)) => (back, true),
             Err(WriteRefusal::NoMemory(back)) => (back, false),
         };
-        assert_eq!(rt; (back, self.look_at()), (value, before));
+        expect_eq(rt, &back, &value);
+        self.expect_seen(rt, &before);
         if is_spent {
             return None;
         }
@@ -65,7 +71,14 @@ impl Tried {
         self.buffer.write(back).ok()
     }
 
-    /// Writes a batch of these values. None where too few numbers are left. What is handed back is
+    /// Writes messages, which get these numbers and have these values.
+    fn expect_written(&mut self, rt: &impl Abort, want: &[(u64, i64)]) {
+        for (number, value) in want {
+            expect_eq(rt, &self.write(rt, *value), &Some(MessageId(*number)));
+        }
+    }
+
+    /// Writes a batch of these values. None if too few numbers are left. What is handed back is
     /// the very list: it has the memory that it had.
     fn write_batch(&mut self, rt: &impl Abort, batch: Vec<i64>, values: &[i64]) -> Option<Written> {
         let (before, capacity) = (self.look_at(), batch.capacity());
@@ -74,8 +87,8 @@ impl Tried {
             Err(BatchRefusal::NumbersSpent(back)) => (back, true),
             Err(BatchRefusal::NoMemory(back)) => (back, false),
         };
-        assert_eq!(rt; back.as_slice(), values);
-        assert_eq!(rt; (back.capacity(), self.look_at()), (capacity, before));
+        expect_eq(rt, &(back.as_slice(), back.capacity()), &(values, capacity));
+        self.expect_seen(rt, &before);
         if is_spent {
             return None;
         }
@@ -89,17 +102,37 @@ impl Tried {
         if let Ok(drained) = self.buffer.drain() {
             return drained;
         }
-        assert_eq!(rt; self.look_at(), before);
+        self.expect_seen(rt, &before);
         self.is_refused = true;
         match self.buffer.drain() {
             Ok(drained) => drained,
             Err(NoMemory) => panic!(rt; "there is memory now"),
         }
     }
+
+    /// Takes out all messages, which have these numbers and values.
+    fn expect_drained(&mut self, rt: &impl Abort, want: &[(u64, i64)]) {
+        let drained = self.drain(rt);
+        expect_eq(rt, &drained.len(), &want.len());
+        for (instance, item) in drained.iter().zip(want) {
+            expect_message(rt, instance.id, instance.message, item);
+        }
+    }
+
+    /// Reads the next messages, which have these numbers and values.
+    fn expect_read(&mut self, rt: &impl Abort, want: &[(u64, i64)]) {
+        expect_next(rt, &mut self.cursor, &self.buffer, want);
+    }
+
+    /// Reads all messages that are left, which have these numbers and values.
+    fn expect_rest(&mut self, rt: &impl Abort, want: &[(u64, i64)]) {
+        self.expect_read(rt, want);
+        assert!(rt; self.cursor.is_empty(&self.buffer));
+    }
 }
 
-/// Reads the next messages, which have these numbers and values.
-fn expect_read(
+/// The next messages for this cursor have these numbers and values.
+fn expect_next(
     rt: &impl Abort,
     cursor: &mut MessageCursor,
     buffer: &Messages<i64>,
@@ -110,8 +143,13 @@ fn expect_read(
         let Some((id, value)) = unread.next() else {
             panic!(rt; "a message")
         };
-        assert_eq!(rt; (id.0, *value), *item);
+        expect_message(rt, id, *value, item);
     }
+}
+
+/// A message has this number and this value.
+fn expect_message(rt: &impl Abort, id: MessageId, value: i64, want: &(u64, i64)) {
+    expect_eq(rt, &(id.0, value), want);
 }
 
 #[test]
@@ -120,16 +158,10 @@ fn items_left_unread(rt: HostRuntime) -> Result<(), Fail> {
     let batch = Vec::from_slice(rt.alloc(), &values)?;
     let mut tried = Tried::new(rt.alloc(), 10);
     let written = tried.write_batch(&rt, batch, &values);
-    assert_eq!(rt; written, Some(Written { first: 0, n: 5 }));
-    expect_read(&rt, &mut tried.cursor, &tried.buffer, &[(0, 1), (1, 2)]);
+    expect_eq(&rt, &written, &Some(Written { first: 0, n: 5 }));
+    tried.expect_read(&rt, &[(0, 1), (1, 2)]);
     tried.buffer.update();
-    expect_read(
-        &rt,
-        &mut tried.cursor,
-        &tried.buffer,
-        &[(2, 3), (3, 4), (4, 5)],
-    );
-    assert!(rt; tried.cursor.is_empty(&tried.buffer));
+    tried.expect_rest(&rt, &[(2, 3), (3, 4), (4, 5)]);
     tell(&rt, tried.is_refused)
 }
 
@@ -137,41 +169,31 @@ fn items_left_unread(rt: HostRuntime) -> Result<(), Fail> {
 fn last_number(rt: HostRuntime) -> Result<(), Fail> {
     let batch = Vec::from_slice(rt.alloc(), &[1, 2, 3])?;
     let mut tried = Tried::new(rt.alloc(), 2);
-    assert_eq!(rt; tried.write_batch(&rt, batch, &[1, 2, 3]), None);
-    assert_eq!(rt; tried.write(&rt, 4), Some(MessageId(0)));
-    assert_eq!(rt; tried.write(&rt, 5), Some(MessageId(1)));
-    assert_eq!(rt; tried.write(&rt, 6), None);
+    expect_eq(&rt, &tried.write_batch(&rt, batch, &[1, 2, 3]), &None);
+    tried.expect_written(&rt, &[(0, 4), (1, 5)]);
+    expect_eq(&rt, &tried.write(&rt, 6), &None);
     let written = tried.write_batch(&rt, Vec::new(rt.alloc()), &[]);
-    assert_eq!(rt; written, Some(Written { first: 2, n: 0 }));
-    assert_eq!(rt; tried.buffer.get(MessageId(u64::MAX)), None);
-    expect_read(&rt, &mut tried.cursor, &tried.buffer, &[(0, 4), (1, 5)]);
-    assert!(rt; tried.cursor.is_empty(&tried.buffer));
+    expect_eq(&rt, &written, &Some(Written { first: 2, n: 0 }));
+    expect_eq(&rt, &tried.buffer.get(MessageId(u64::MAX)), &None);
+    tried.expect_rest(&rt, &[(0, 4), (1, 5)]);
     tell(&rt, tried.is_refused)
-}
-
-/// The messages have these numbers and values.
-fn expect_drained(rt: &impl Abort, drained: &[Instance<i64>], want: &[(u64, i64)]) {
-    assert_eq!(rt; drained.len(), want.len());
-    for (instance, item) in drained.iter().zip(want) {
-        assert_eq!(rt; (instance.id.0, instance.message), *item);
-    }
 }
 
 #[test]
 fn drain_both_halves(rt: HostRuntime) -> Result<(), Fail> {
     let mut tried = Tried::new(rt.alloc(), 10);
-    assert_eq!(rt; tried.write(&rt, 1), Some(MessageId(0)));
+    tried.expect_written(&rt, &[(0, 1)]);
     tried.buffer.update();
-    assert_eq!(rt; tried.write(&rt, 2), Some(MessageId(1)));
-    expect_drained(&rt, &tried.drain(&rt), &[(0, 1), (1, 2)]);
-    assert_eq!(rt; tried.cursor.missed(&tried.buffer), 2);
-    expect_read(&rt, &mut tried.cursor, &tried.buffer, &[]);
-    assert_eq!(rt; tried.write(&rt, 3), Some(MessageId(2)));
-    expect_read(&rt, &mut tried.cursor, &tried.buffer, &[(2, 3)]);
+    tried.expect_written(&rt, &[(1, 2)]);
+    tried.expect_drained(&rt, &[(0, 1), (1, 2)]);
+    expect_eq(&rt, &tried.cursor.missed(&tried.buffer), &2);
+    tried.expect_read(&rt, &[]);
+    tried.expect_written(&rt, &[(2, 3)]);
+    tried.expect_read(&rt, &[(2, 3)]);
     tell(&rt, tried.is_refused)
 }
 
-/// Both halves have no room left, so one of them has to grow where they are drained together.
+/// Both halves have no room left, so one of them has to grow if they are drained together.
 #[test]
 fn drain_full_halves(rt: HostRuntime) -> Result<(), Fail> {
     let mut tried = Tried::new(rt.alloc(), 10);
@@ -185,14 +207,11 @@ fn drain_full_halves(rt: HostRuntime) -> Result<(), Fail> {
         (6, 16),
         (7, 17),
     ];
-    for (number, value) in want {
-        if number == 4 {
-            tried.buffer.update();
-        }
-        assert_eq!(rt; tried.write(&rt, value), Some(MessageId(number)));
-    }
-    expect_drained(&rt, &tried.drain(&rt), &want);
+    tried.expect_written(&rt, &want[..4]);
+    tried.buffer.update();
+    tried.expect_written(&rt, &want[4..]);
+    tried.expect_drained(&rt, &want);
     assert!(rt; tried.buffer.is_empty());
-    assert_eq!(rt; tried.cursor.missed(&tried.buffer), 8);
+    expect_eq(&rt, &tried.cursor.missed(&tried.buffer), &8);
     tell(&rt, tried.is_refused)
 }

@@ -1,4 +1,4 @@
-// Where there is no memory for a plan there is none, and the same call gives it once memory is
+// If there is no memory for a plan there is none, and the same call gives it once memory is
 // there.
 use super::{contradictory_plan, has_batches};
 use crate::outcome::tell;

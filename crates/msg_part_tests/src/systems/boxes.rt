@@ -2,12 +2,13 @@
 ghost use Rattle.std.specs.Prelude.{◌≤◌, length};
 
 use crate::numbers::{res_no, type_no};
+use crate::outcome::expect_eq;
 use msg_system::{
     Items, MAX_OPS, Numbered, Op, Program, Relay, Reply, Scripted, Start, System, Tally,
     open_loans_cover,
 };
 use msg_world::laws::{lent_parts_are_a_loan, lent_parts_may_come_home};
-use msg_world::{Lent, World};
+use msg_world::{Lent, TypeNo, World};
 use std::alloc::Global;
 use std::panic::Expect;
 use std::process::Abort;
@@ -52,46 +53,58 @@ const REPLIES: &str = "[Wrote(Written { first: 0, n: 1 }), Wrote(Written { first
      Drained { first: 0, items: Items { items: [Record { writer: 4, value: 5 }, \
      Record { writer: 4, value: -6 }] } }, Drained { first: 2, items: Items { items: [] } }]";
 
+/// A script that writes two messages.
+fn writer(rt: &(impl Abort + AllocGlobal), t: TypeNo) -> Scripted {
+    let ops = vec![in rt.alloc(); Op::Write(t, 5), Op::Write(t, 6)];
+    script(ops.expect(rt, "ops"))
+}
+
+/// The system of number 4, which drains what it wrote, and then nothing.
+fn drain(rt: &(impl Abort + AllocGlobal), t: TypeNo) -> Scripted {
+    let ops = vec![in rt.alloc();
+        Op::Write(t, 5),
+        Op::Write(t, -6),
+        Op::Drain(t),
+        Op::Drain(t),
+    ];
+    let mut drain = script(ops.expect(rt, "ops"));
+    drain.set_number(4);
+    drain
+}
+
+fn boxed<S>(rt: &(impl Abort + AllocGlobal), system: S) -> Box<S> {
+    Box::new(rt.alloc(), system).expect(rt, "a box")
+}
+
+/// What the systems reply, run one after the other.
+fn replies_of(
+    rt: &(impl Abort + AllocGlobal),
+    world: &mut World,
+    systems: &mut [Box<dyn System>],
+) -> Vec<Reply> {
+    let mut replies = Vec::new(rt.alloc());
+    for system in systems {
+        run_once(rt, rt.alloc(), world, system, &mut replies);
+    }
+    replies
+}
+
 /// A writer, a relay, a tally, and one that drains what it wrote.
 #[test]
 fn a_list_of_four_boxes(rt: HostRuntime) {
-    let alloc = rt.alloc();
     let (t, u, v, r) = (type_no(0), type_no(1), type_no(2), res_no(0));
-    let ops = vec![in alloc; Op::Write(t, 5), Op::Write(t, 6)];
-    let writer = script(ops.expect(&rt, "ops"));
-    let ops = vec![in alloc;
-        Op::Write(v, 5),
-        Op::Write(v, -6),
-        Op::Drain(v),
-        Op::Drain(v),
+    let boxes: Result<Vec<Box<dyn System>>, _> = vec![in rt.alloc();
+        boxed(&rt, writer(&rt, t)),
+        boxed(&rt, Relay::new(t, u, Start::Zero, 1)),
+        boxed(&rt, Tally::new(u, r, Start::Zero, 2)),
+        boxed(&rt, drain(&rt, v)),
     ];
-    let mut drain = script(ops.expect(&rt, "ops"));
-    drain.set_number(4);
-    let (relay, tally) = (
-        Relay::new(t, u, Start::Zero, 1),
-        Tally::new(u, r, Start::Zero, 2),
-    );
-    let mut boxes: Vec<Box<dyn System>> = Vec::new(alloc);
-    boxes
-        .push(Box::new(alloc, writer).expect(&rt, "a box"))
-        .expect(&rt, "a list");
-    boxes
-        .push(Box::new(alloc, relay).expect(&rt, "a box"))
-        .expect(&rt, "a list");
-    boxes
-        .push(Box::new(alloc, tally).expect(&rt, "a box"))
-        .expect(&rt, "a list");
-    boxes
-        .push(Box::new(alloc, drain).expect(&rt, "a box"))
-        .expect(&rt, "a list");
-    let mut world = World::new(alloc, &[9, 9, 9], &[7]).expect(&rt, "a world");
-    let mut replies = Vec::new(alloc);
-    for system in boxes.iter_mut() {
-        run_once(&rt, alloc, &mut world, system, &mut replies);
-    }
-    let text = format!(in alloc; "{replies:?}").expect(&rt, "a text");
-    assert_eq!(rt; text.as_str(), REPLIES);
-    assert_eq!(rt; world.resource(r), Some(18));
+    let mut boxes = boxes.expect(&rt, "a list");
+    let mut world = World::new(rt.alloc(), &[9, 9, 9], &[7]).expect(&rt, "a world");
+    let replies = replies_of(&rt, &mut world, boxes.as_mut_slice());
+    let text = format!(in rt.alloc(); "{replies:?}").expect(&rt, "a text");
+    expect_eq(&rt, &text.as_str(), &REPLIES);
+    expect_eq(&rt, &world.resource(r), &Some(18));
 }
 
 /// Each op, copied.

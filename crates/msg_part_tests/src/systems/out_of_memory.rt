@@ -1,6 +1,6 @@
-// Where there is no memory for a copy of a program there is none, and the program is as before.
+// If there is no memory for a copy of a program there is none, and the program is as before.
 use crate::numbers::type_no;
-use crate::outcome::tell;
+use crate::outcome::{expect_eq, tell};
 use msg_system::{Items, NoMemory, Op, Program, Start};
 use std::process::Abort;
 use std::test::Fail;
@@ -11,9 +11,9 @@ fn expect_program(rt: &impl Abort, program: &Program) {
     let [Op::Batch(t, values), Op::Write(u, value)] = program.ops.as_slice() else {
         panic!(rt; "a batch and a write")
     };
-    assert_eq!(rt; (*t, *u, *value), (type_no(0), type_no(0), 5));
-    assert_eq!(rt; values.as_slice(), [2, 3].as_slice());
-    assert_eq!(rt; program.start, Start::Current);
+    expect_eq(rt, &(*t, *u, *value), &(type_no(0), type_no(0), 5));
+    expect_eq(rt, &values.as_slice(), &[2, 3].as_slice());
+    expect_eq(rt, &program.start, &Start::Current);
 }
 
 #[test]

@@ -2,12 +2,12 @@
 // message is handed back.
 ghost use Rattle.msg_world.specs.Prelude.{IsWhole, SameLoan};
 
-use super::set;
+use super::{expect_all_home, expect_home, expect_resource, set};
 use crate::numbers::{res_no, type_no};
-use crate::outcome::tell;
-use msg_buffer::{MessageCursor, MessageId, WriteRefusal};
+use crate::outcome::{expect_eq, tell};
+use msg_buffer::{MessageCursor, MessageId, Messages, WriteRefusal};
 use msg_world::laws::{lent_parts_are_a_loan, lent_parts_may_come_home, writes_stand};
-use msg_world::{Access, HOST, Lent, NoMemory, Record, TypeNo, World};
+use msg_world::{Access, HOST, Lent, NoMemory, Record, ResNo, TypeNo, World};
 use std::process::Abort;
 use std::test::Fail;
 
@@ -18,18 +18,43 @@ fn by_host(value: i64) -> Record {
     }
 }
 
+/// Whether a message was written, and got this number. If it wasn't there was no memory, and it
+/// was handed back.
+fn is_written(
+    rt: &impl Abort,
+    came: Result<MessageId, WriteRefusal<Record>>,
+    number: u64,
+    record: Record,
+) -> bool {
+    match came {
+        Ok(id) => {
+            expect_eq(rt, &id, &MessageId(number));
+            true
+        }
+        Err(WriteRefusal::NoMemory(back)) => {
+            expect_eq(rt, &back, &record);
+            false
+        }
+        Err(WriteRefusal::NumbersSpent(_)) => panic!(rt; "four numbers are there"),
+    }
+}
+
 /// Posts the first message, and updates the world: so the next write finds an empty half.
 fn begin(rt: &impl Abort, world: &mut World, t: TypeNo) -> Result<(), NoMemory>
     requires whole { IsWhole world.old }
 {
     assert!(rt; world.messages(t).is_some());
-    match world.post(t, 5) {
-        Ok(id) => assert_eq!(rt; id, MessageId(0)),
-        Err(WriteRefusal::NoMemory(_)) => return Err(NoMemory),
-        Err(WriteRefusal::NumbersSpent(_)) => panic!(rt; "four numbers are there"),
+    let came = world.post(t, 5);
+    if !is_written(rt, came, 0, by_host(5)) {
+        return Err(NoMemory);
     }
     world.update_all();
     Ok(())
+}
+
+/// The numbers of the oldest message and of the next.
+fn expect_numbers(rt: &impl Abort, messages: &Messages<Record>, numbers: (u64, u64)) {
+    expect_eq(rt, &(messages.oldest(), messages.count()), &numbers);
 }
 
 /// The type is home, and has these messages, numbered from 0, of which none was dropped.
@@ -37,21 +62,18 @@ fn expect_messages(rt: &impl Abort, world: &World, t: TypeNo, records: &[Record]
     let Some(messages) = world.messages(t) else {
         panic!(rt; "type 0 is home")
     };
-    assert_eq!(rt;
-        (messages.oldest(), messages.count()),
-        (0, records.len() as u64)
-    );
+    expect_numbers(rt, messages, (0, records.len() as u64));
     let mut cursor = MessageCursor::new(0);
     let mut unread = cursor.read(messages);
     for record in records {
         let Some((_, kept)) = unread.next() else {
             panic!(rt; "each is kept")
         };
-        assert_eq!(rt; kept, record);
+        expect_eq(rt, &kept, &record);
     }
 }
 
-/// Writes a message where its type is lent for writing. It is false where there was no memory, and
+/// Writes a message if its type is lent for writing. It is false if there was no memory, and
 /// then the message was handed back.
 fn write(rt: &impl Abort, lent: &mut Lent, t: TypeNo, record: Record) -> bool
     ensures same { SameLoan lent.old lent.new }
@@ -60,17 +82,15 @@ fn write(rt: &impl Abort, lent: &mut Lent, t: TypeNo, record: Record) -> bool
     let Some(messages) = lent.writer(t) else {
         panic!(rt; "type 0 is lent")
     };
-    match messages.write(record) {
-        Ok(id) => {
-            assert_eq!(rt; id, MessageId(1));
-            true
-        }
-        Err(WriteRefusal::NoMemory(back)) => {
-            assert_eq!(rt; back, record);
-            false
-        }
-        Err(WriteRefusal::NumbersSpent(_)) => panic!(rt; "four numbers are there"),
-    }
+    is_written(rt, messages.write(record), 1, record)
+}
+
+/// Makes the resource 8, and writes a message: it is false if there was no memory for that.
+fn write_both(rt: &impl Abort, lent: &mut Lent, t: TypeNo, r: ResNo, record: Record) -> bool
+    ensures same { SameLoan lent.old lent.new }
+{
+    expect_eq(rt, &set(lent, r, 8), &Some(7));
+    write(rt, lent, t, record)
 }
 
 #[test]
@@ -90,17 +110,17 @@ fn lending(rt: HostRuntime) -> Result<(), Fail> {
     };
     let (mut value, mut wrote) = (7, false);
     if let Ok(taken) = world.lend_out(&access) {
-        assert!(rt; world.messages(t).is_none() && world.resource(r).is_none());
+        expect_home(&rt, &world, t, false);
+        expect_resource(&rt, &world, r, None);
         let mut lent = Lent::open(&world, &access, taken);
         value = 8;
-        assert_eq!(rt; set(&mut lent, r, value), Some(7));
-        wrote = write(&rt, &mut lent, t, record);
+        wrote = write_both(&rt, &mut lent, t, r, record);
         lent_parts_may_come_home::<i64>();
         let taken = lent.into_taken();
         world.take_back(taken);
     }
-    assert!(rt; world.is_home(&access));
-    assert_eq!(rt; world.resource(r), Some(value));
+    expect_all_home(&rt, &world, &access, true);
+    expect_resource(&rt, &world, r, Some(value));
     expect_messages(&rt, &world, t, &[by_host(5), record][..1 + wrote as usize]);
     tell(&rt, !wrote)
 }
@@ -111,18 +131,10 @@ fn a_post(rt: HostRuntime) -> Result<(), Fail> {
     let mut world = World::new(rt.alloc(), &[4], &[7])?;
     begin(&rt, &mut world, t)?;
     assert!(rt; world.messages(t).is_some());
-    let posted = match world.post(t, 6) {
-        Ok(id) => {
-            assert_eq!(rt; id, MessageId(1));
-            2
-        }
-        Err(WriteRefusal::NoMemory(back)) => {
-            assert_eq!(rt; back, by_host(6));
-            1
-        }
-        Err(WriteRefusal::NumbersSpent(_)) => panic!(rt; "four numbers are there"),
-    };
-    expect_messages(&rt, &world, t, &[by_host(5), by_host(6)][..posted]);
-    assert_eq!(rt; world.resource(r), Some(7));
-    tell(&rt, posted == 1)
+    let came = world.post(t, 6);
+    let is_posted = is_written(&rt, came, 1, by_host(6));
+    let records = [by_host(5), by_host(6)];
+    expect_messages(&rt, &world, t, &records[..1 + is_posted as usize]);
+    expect_resource(&rt, &world, r, Some(7));
+    tell(&rt, !is_posted)
 }

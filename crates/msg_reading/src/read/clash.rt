@@ -6,7 +6,7 @@ ghost use Rattle.msg_json.specs.declared.reason.Reason.TheVariants.{Clash};
 use crate::{Fault, SystemSpec};
 use msg_json::fault::inside;
 use msg_json::{Key, Reason, Step};
-use msg_scenario_data::MAX_SYSTEMS;
+use msg_world::MAX_SYSTEMS;
 
 /// Checks that no program reads and writes one type; else `Clash` with the lowest system whose
 /// program does.

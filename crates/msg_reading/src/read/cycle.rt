@@ -8,7 +8,7 @@ use crate::Fault;
 use msg_json::fault::inside;
 use msg_json::{Key, Reason, Step};
 use msg_order::{Rule, lowest_on_cycle};
-use msg_scenario_data::MAX_SYSTEMS;
+use msg_world::MAX_SYSTEMS;
 
 /// Checks that the rules of so many systems make no cycle; else `Cycle` with the lowest system on
 /// one. It takes no memory.

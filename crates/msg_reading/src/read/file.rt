@@ -14,7 +14,7 @@ use msg_json::fault::inside;
 use msg_json::json::{Keys, check_keys, needed};
 use msg_json::{Key, Reason, Step};
 use msg_order::Rule;
-use msg_scenario_data::{MAX_RESOURCES, MAX_SYSTEMS, MAX_TYPES};
+use msg_world::{MAX_RESOURCES, MAX_SYSTEMS, MAX_TYPES};
 use serde_json::Value;
 use std::alloc::Global;
 
@@ -45,7 +45,7 @@ pub fn read_sections(alloc: Global, file: &Value) -> Result<Scenario, Fault>
 }
 
 /// The sections of a file whose keys are known. (The names are lent to it, since a proof goes
-/// through all that is dropped where a section is refused.)
+/// through all that is dropped if a section is refused.)
 fn read_in_turn(
     alloc: Global,
     names: &mut Declarations,

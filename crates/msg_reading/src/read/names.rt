@@ -7,8 +7,7 @@ ghost use Rattle.msg_json.specs.Prelude.{Reads, only_below};
 use crate::{Fault, Name};
 use indexmap::IndexSet;
 use msg_json::{Reason, Refusal};
-use msg_scenario_data::{MAX_RESOURCES, MAX_SYSTEMS, MAX_TYPES};
-use msg_world::{ResNo, TypeNo};
+use msg_world::{MAX_RESOURCES, MAX_SYSTEMS, MAX_TYPES, ResNo, TypeNo};
 use std::alloc::Global;
 use std::marker::Model;
 
@@ -54,7 +53,7 @@ impl NameSpace {
         self.names.get_index_of(name)
     }
 
-    /// The place of a name, where that is below an end.
+    /// The place of a name, if that is below an end.
     fn place_below(&self, name: &str, end: usize) -> Option<u32>
         requires few { end ≤ MAX_SYSTEMS }
         ensures place { result

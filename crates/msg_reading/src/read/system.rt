@@ -13,8 +13,7 @@ use msg_frames::Place;
 use msg_json::fault::inside;
 use msg_json::json::{Keys, check_keys, needed, text};
 use msg_json::{Key, Reason, Step};
-use msg_scenario_data::MAX_OPS;
-use msg_system::{Items, Op, Program};
+use msg_system::{Items, MAX_OPS, Op, Program};
 use serde_json::Value;
 use std::alloc::Global;
 

@@ -2,12 +2,13 @@
 use crate::narrow::Narrow;
 use msg_command::{InputFault, MainFault, WordFault, print_fault};
 use msg_json::Refusal;
+use msg_part_tests::outcome::{expect_eq, expect_text};
 use msg_text::{MemorySink, PutFault, ReportFault};
 use msg_world::RunFault;
 use std::panic::Expect;
 use std::process::Abort;
 
-/// The fault prints this line behind the program's name, gives this status, also where nothing can
+/// The fault prints this line behind the program's name, gives this status, also if nothing can
 /// be printed, and shows itself as this text.
 fn expect_line(
     rt: &(impl Abort + AllocGlobal),
@@ -16,14 +17,19 @@ fn expect_line(
     status: u8,
     text: &str,
 ) {
-    let mut sink = MemorySink::new();
-    assert_eq!(rt; print_fault(&fault, &mut sink), status);
     let mut failing = Narrow::new(0, 0, false);
-    assert_eq!(rt; print_fault(&fault, &mut failing), status, "{line}");
+    let unprinted = print_fault(&fault, &mut failing);
+    expect_eq(rt, &(line, unprinted), &(line, status));
     let printed = format!(in rt.alloc(); "msgrun: {line}\n").expect(rt, "memory");
-    assert!(rt; sink.bytes() == printed.as_bytes(), "{line}");
-    let shown = format!(in rt.alloc(); "{fault}").expect(rt, "memory");
-    assert!(rt; shown.as_str() == text, "{shown}");
+    expect_printed(rt, &fault, printed.as_str(), status);
+    expect_text(rt, &fault, text);
+}
+
+/// The fault prints this, and gives this status.
+fn expect_printed(rt: &impl Abort, fault: &MainFault, printed: &str, status: u8) {
+    let mut sink = MemorySink::new();
+    let came = print_fault(fault, &mut sink);
+    expect_eq(rt, &(came, sink.bytes()), &(status, printed.as_bytes()));
 }
 
 /// A refusal, the line of it, and what its text has behind that.
@@ -42,51 +48,46 @@ const REFUSALS: [(Refusal, &str, &str); 10] = [
 
 #[test]
 fn refused_files(rt: HostRuntime) {
-    for (refusal, line, behind) in REFUSALS {
+    for (refusal, line, behind) in &REFUSALS {
         let text = format!(in rt.alloc(); "{line}{behind}").expect(&rt, "memory");
-        expect_line(&rt, MainFault::Refused(refusal), line, 2, text.as_str());
+        expect_line(&rt, MainFault::Refused(*refusal), line, 2, text.as_str());
     }
     let refused = MainFault::Refused(Refusal::NoMemory);
     expect_line(&rt, refused, "want of memory", 1, "refused 11 NoMemory");
 }
 
+fn expect_run_fault(rt: &(impl Abort + AllocGlobal), fault: RunFault, line: &str, text: &str) {
+    let fault = MainFault::Report(ReportFault::Run(fault));
+    expect_line(rt, fault, line, 1, text);
+}
+
 #[test]
 fn reports_that_stop(rt: HostRuntime) {
-    for (fault, line, text) in [
-        (
-            ReportFault::Run(RunFault::Spoiled),
-            "run fault 1 Spoiled",
-            "run fault: the engine is spoiled",
-        ),
-        (
-            ReportFault::Run(RunFault::BadOrder),
-            "run fault 2 BadOrder",
-            "run fault: the order isn't lawful",
-        ),
-        (
-            ReportFault::Run(RunFault::NoMemory),
-            "run fault 3 NoMemory",
-            "run fault: want of memory",
-        ),
-        (ReportFault::Write, "write fault", "write fault"),
-        (ReportFault::NoMemory, "want of memory", "want of memory"),
-    ] {
-        expect_line(&rt, MainFault::Report(fault), line, 1, text);
-    }
+    let spoiled = "run fault: the engine is spoiled";
+    expect_run_fault(&rt, RunFault::Spoiled, "run fault 1 Spoiled", spoiled);
+    let unlawful = "run fault: the order isn't lawful";
+    expect_run_fault(&rt, RunFault::BadOrder, "run fault 2 BadOrder", unlawful);
+    let refused = "run fault: want of memory";
+    expect_run_fault(&rt, RunFault::NoMemory, "run fault 3 NoMemory", refused);
+    let write = MainFault::Report(ReportFault::Write);
+    expect_line(&rt, write, "write fault", 1, "write fault");
+    let refused = MainFault::Report(ReportFault::NoMemory);
+    expect_line(&rt, refused, "want of memory", 1, "want of memory");
     expect_line(&rt, MainFault::Built, "want of memory", 1, "want of memory");
 }
 
 #[test]
 fn inputs_and_words(rt: HostRuntime) {
-    for (fault, status, line) in [
-        (MainFault::Input(InputFault::Failed), 1, "cannot read input"),
-        (MainFault::Input(InputFault::TooLarge), 2, "input too large"),
-        (MainFault::Input(InputFault::NoMemory), 1, "want of memory"),
-        (MainFault::Words(WordFault::Bad), 2, "bad command line"),
-        (MainFault::Words(WordFault::NoMemory), 1, "want of memory"),
-    ] {
-        expect_line(&rt, fault, line, status, line);
-    }
+    let failed = MainFault::Input(InputFault::Failed);
+    expect_line(&rt, failed, "cannot read input", 1, "cannot read input");
+    let large = MainFault::Input(InputFault::TooLarge);
+    expect_line(&rt, large, "input too large", 2, "input too large");
+    let refused = MainFault::Input(InputFault::NoMemory);
+    expect_line(&rt, refused, "want of memory", 1, "want of memory");
+    let bad = MainFault::Words(WordFault::Bad);
+    expect_line(&rt, bad, "bad command line", 2, "bad command line");
+    let refused = MainFault::Words(WordFault::NoMemory);
+    expect_line(&rt, refused, "want of memory", 1, "want of memory");
 }
 
 /// Help is no fault: it has no line, status 0, and its own text.
@@ -94,12 +95,7 @@ fn inputs_and_words(rt: HostRuntime) {
 fn help(rt: HostRuntime) {
     let text = "its text".to_string(rt.alloc()).expect(&rt, "memory");
     let help = MainFault::Words(WordFault::Help(text));
-    let mut sink = MemorySink::new();
-    assert_eq!(rt; print_fault(&help, &mut sink), 0);
-    assert!(rt; sink.bytes().is_empty());
-    let shown = format!(in rt.alloc(); "{help}, {PutFault}");
-    assert_eq!(rt;
-        shown.expect(&rt, "memory").as_str(),
-        "its text, the sink failed"
-    );
+    expect_printed(&rt, &help, "", 0);
+    expect_text(&rt, &help, "its text");
+    expect_text(&rt, &PutFault, "the sink failed");
 }

@@ -1,8 +1,10 @@
 // Readers that give a few bytes at each read, that fail, and one that never ends.
 use msg_command::{InputFault, MAX_BYTES, read_all};
+use msg_part_tests::outcome::expect_eq;
 use std::io;
 use std::io::{Error, ErrorKind, Read};
 use std::panic::Expect;
+use std::process::Abort;
 
 /// Gives `left` bytes, each of them 7, at most `at_once` at each read; then an error or the end.
 #[derive(Drop)]
@@ -29,20 +31,25 @@ impl Read for Drips {
 /// How many bytes there are, and how many come at each read.
 #[test]
 fn whole_inputs(rt: HostRuntime) {
-    for (left, at_once) in [(0, 1), (5, 2), (MAX_BYTES, 1), (MAX_BYTES, 4096)] {
-        let fails = false;
-        let mut input = Drips {
-            left,
-            at_once,
-            fails,
-        };
-        let all = read_all(rt.alloc(), &mut input).expect(&rt, "all bytes");
-        assert_eq!(rt; all.len(), left);
-        assert!(rt; all.iter().all(|byte| *byte == 7));
-    }
+    expect_whole(&rt, 0, 1);
+    expect_whole(&rt, 5, 2);
+    expect_whole(&rt, MAX_BYTES, 1);
+    expect_whole(&rt, MAX_BYTES, 4096);
     let text = b"{\"limit\":1}".as_slice();
     let all = read_all(rt.alloc(), &mut b"{\"limit\":1}".as_slice()).expect(&rt, "all bytes");
-    assert_eq!(rt; all.as_slice(), text);
+    expect_eq(&rt, &all.as_slice(), &text);
+}
+
+fn expect_whole(rt: &(impl Abort + AllocGlobal), left: usize, at_once: usize) {
+    let fails = false;
+    let mut input = Drips {
+        left,
+        at_once,
+        fails,
+    };
+    let all = read_all(rt.alloc(), &mut input).expect(rt, "all bytes");
+    expect_eq(rt, &all.len(), &left);
+    assert!(rt; all.iter().all(|byte| *byte == 7));
 }
 
 /// How many bytes there are, how many come at each read, whether the reader fails after them, and
@@ -62,6 +69,6 @@ fn faults(rt: HostRuntime) {
             at_once,
             fails,
         };
-        assert_eq!(rt; read_all(rt.alloc(), &mut input).err(), Some(want));
+        expect_eq(&rt, &read_all(rt.alloc(), &mut input).err(), &Some(want));
     }
 }

@@ -1,5 +1,6 @@
 // What command lines ask for.
 use msg_command::{WordFault, parse_words};
+use msg_part_tests::outcome::expect_eq;
 use std::panic::Expect;
 use std::process::Abort;
 
@@ -80,16 +81,16 @@ const ACTIONS: [(&str, &str); 45] = [
 
 #[test]
 fn actions(rt: HostRuntime) {
-    for (line, want) in ACTIONS {
+    for (line, want) in &ACTIONS {
         let words = words_of(&rt, line);
         let parsed = parse_words(rt.alloc(), words.as_slice());
         let text = format!(in rt.alloc(); "{parsed:?}").expect(&rt, "memory");
-        assert!(rt; text.as_str() == want, "{line}: {text}");
+        expect_eq(&rt, &(*line, text.as_str()), &(*line, *want));
     }
 }
 
 /// Command lines that ask for help, and pieces of the help that they get. The examples have the
-/// whole text where it is asked for by `--help`.
+/// whole text if it is asked for by `--help`.
 const HELPS: [(&str, [&str; 3]); 6] = [
     ("-h", ["msgrun [COMMAND]", "buffer", "docs/FORMATS.md"]),
     ("help", ["msgrun [COMMAND]", "buffer", "docs/FORMATS.md"]),
@@ -118,12 +119,12 @@ const HELPS: [(&str, [&str; 3]); 6] = [
 
 #[test]
 fn help(rt: HostRuntime) {
-    for (line, pieces) in HELPS {
+    for (line, pieces) in &HELPS {
         let words = words_of(&rt, line);
         match parse_words(rt.alloc(), words.as_slice()) {
             Err(WordFault::Help(text)) => {
                 for piece in pieces {
-                    assert!(rt; text.contains(piece), "{line}: {text}");
+                    assert!(rt; text.contains(*piece), "{line}: {text}");
                 }
             }
             other => panic!(rt; "{line}: {other:?}"),

@@ -29,7 +29,7 @@ pub fn put_frame<S: Sink>(
     ensures prefix { OnErr result (AppendsPrefix (S.contents sink.old) (S.contents sink.new)
         (frame_text scenario.now number frame.now log.now)) }
 
-    // The sink failed where the fault is `Write`, and was given nothing where it is `NoMemory`.
+    // The sink failed if the fault is `Write`, and was given nothing if it is `NoMemory`.
     ensures write { result ≡ Err ReportFault.Write
         → S.failures sink.new ≡ one_failure_more (S.failures sink.old) }
     ensures memory { result ≡ Err ReportFault.NoMemory → sink.new ≡ sink.old }
@@ -54,7 +54,7 @@ pub fn put_accounts<S: Sink>(
     ensures prefix { OnErr result (AppendsPrefix (S.contents sink.old) (S.contents sink.new)
         (accounts_text scenario.now accounts.now)) }
 
-    // The sink failed where the fault is `Write`, and was given nothing where it is `NoMemory`.
+    // The sink failed if the fault is `Write`, and was given nothing if it is `NoMemory`.
     ensures write { result ≡ Err ReportFault.Write
         → S.failures sink.new ≡ one_failure_more (S.failures sink.old) }
     ensures memory { result ≡ Err ReportFault.NoMemory → sink.new ≡ sink.old }

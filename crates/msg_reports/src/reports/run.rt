@@ -67,8 +67,8 @@ fn report_frame<R: Threads + Sync, X: SystemOf<Value = i64> + Send, S: Sink, G: 
 ///
 /// # Errors
 ///
-/// `Run` where a frame or the accounts had no memory, `Write` where the sink failed, and `NoMemory`
-/// where a text had none: that of a frame or of the readers, or what is made once for all frames.
+/// `Run` if a frame or the accounts had no memory, `Write` if the sink failed, and `NoMemory`
+/// if a text had none: that of a frame or of the readers, or what is made once for all frames.
 pub fn report<R: Threads + Sync, X: SystemOf<Value = i64> + Send, S: Sink, G: Gate>(
     rt: &R,
     alloc: Global,

@@ -1,7 +1,7 @@
 -- What the private functions of programs and turns say. No public contract cites these.
-use Rattle.std.specs.Prelude.{◌≡◌, ℕ, ◌++◌, List, Option, length}
+use Rattle.std.specs.Prelude.{◌≡◌, ℕ, ◌++◌, List, [], ◌∷◌, Option, length}
 use Rattle.msg_world.specs.{Prelude.LoanStands, Prelude.WorldState, declared.lent.Lent.Lent, Prelude.Values}
-use Rattle.msg_system.specs.{declared.behavior_system.BehaviorSystem.BehaviorSystem, declared.limits.TheConstants.MAX_OPS, declared.op.Op.Op, declared.reply.Reply.Reply, Needs.Needs, Programs.AfterProgram, Programs.after_program, Systems.after_at_most, Systems.if_kept, Systems.ops_answered}
+use Rattle.msg_system.specs.{declared.behavior_system.BehaviorSystem.BehaviorSystem, declared.limits.TheConstants.MAX_OPS, declared.op.Op.Op, declared.reply.Reply.Reply, Needs.Needs, OpRuns.OpRan, Programs.AfterProgram, Programs.after_program, Systems.after_at_most, Systems.if_kept, Systems.ops_answered}
 
 -- the places, the loan and the replies are those after a program
 pub record IsAfterProgram {V : Type 0} {values : Values V} (after : AfterProgram values)
@@ -10,6 +10,14 @@ pub record IsAfterProgram {V : Type 0} {values : Values V} (after : AfterProgram
   pub same_places : places ≡ after.places
   pub stands : LoanStands lent after.state
   pub same_replies : answers ≡ before ++ after.replies
+
+-- an op ran, and its reply was appended
+pub record OpAnswered {V : Type 0} (values : Values V) (op : Op V) (writer : ℕ)
+    (old_places new_places : ℕ → ℕ) (old new : Lent V)
+    (before answers : List (Reply V)) : Type 0 where
+  pub reply : Reply V
+  pub ran : OpRan values op writer old_places new_places old new reply
+  pub appended : answers ≡ before ++ reply ∷ []
 
 -- For each state that the loan stood for, the new places, loan and replies are those after the ops.
 abbrev pub ProgramRan : {V : Type 0} (values : Values V) → List (Op V) → ℕ → (ℕ → ℕ) → (ℕ → ℕ)

@@ -21,8 +21,8 @@ join_those-requires g c =
     let fresh = about_to_join s stands.sound next.0 in
     record { stands = (s, (stands.lender, rw c.deref.ensures.value stands.schedule.joins, rw next.1 fresh)) }
 
-pub returns-clause-begun : goal.returns-clause-begun
-returns-clause-begun g c s stands is =
+pub returns-in-Some-clause-begun : goal.returns-in-Some-clause-begun
+returns-in-Some-clause-begun g c s stands is =
     let next = rw c.in-Some.is at (c.in_ok-next.ensures.plan s stands is) in
     let lender = c.join_those.ensures.joined s stands.lender (rw c.deref.ensures.value stands.schedule.joins)
     (rw next.1 (about_to_join s stands.sound next.0)) in

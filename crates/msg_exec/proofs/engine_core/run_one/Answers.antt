@@ -8,7 +8,7 @@ use Rattle.msg_exec.proofs.engine_core.run_one.Goals as goal
 
 pub run_batches-requires-clause-stands : goal.run_batches-requires-clause-stands
 run_batches-requires-clause-stands g c κs within =
-    let has = c.in_ok-core.ensures.opened _ c.requires.stands.1.0 c.requires.stands.1.1 in
+    let has = c.in_ok-posts.ensures.opened _ c.requires.stands.1.0 c.requires.stands.1.1 in
     let batches = c.batches-batches.result.now in
     let bt = before_turns c.args.frame.now.posts c.requires.stands.0 in (
       bt,
@@ -23,29 +23,29 @@ run_batches-requires-clause-stands g c κs within =
 pub run_batches-requires-clause-once : goal.run_batches-requires-clause-once
 run_batches-requires-clause-once g c κs within =
     rw c.batches-batches.ensures.items
-    (c.in_ok-core.ensures.opened _ c.requires.stands.1.0 c.requires.stands.1.1).plan.lawful.once
+    (c.in_ok-posts.ensures.opened _ c.requires.stands.1.0 c.requires.stands.1.1).plan.lawful.once
 
 pub run_batches-requires-clause-apart : goal.run_batches-requires-clause-apart
 run_batches-requires-clause-apart g c κs within =
     rw c.batches-batches.ensures.items
-    (c.in_ok-core.ensures.opened _ c.requires.stands.1.0 c.requires.stands.1.1).plan.apart
+    (c.in_ok-posts.ensures.opened _ c.requires.stands.1.0 c.requires.stands.1.1).plan.apart
 
 pub returns : goal.returns
 returns g c =
     let frame = c.args.frame.now in
-    let order = concat c.in_ok-core.core.plan.batches in
-    let replies = c.in_ok-core.posts.items in
+    let order = concat c.open.new.core.plan.batches in
+    let replies = c.in_ok-posts.posts.items in
     let turns = rw c.batches-batches.ensures.items at c.in_ok-turns.ensures in
     record {
       ran = λ s stands is.
-          let has = c.in_ok-core.ensures.opened s stands is in
+          let has = c.in_ok-posts.ensures.opened s stands is in
           let same = in_turn g.S.SystemOf.meaning has stands.sound in
           frame_ran g.S.SystemOf.meaning has stands.sound c.states_stay_sound.ensures.frame
           (rw same at (turns.state _ has.lender)) (rw same at (logged_in frame order s _ replies
           c.from_vec.ensures.items has.posts (c.from_vec-2.ensures.items ∙ turns.turns _ has.lender))) turns.accesses;
       gate_passed =
           let (s, (stands, is)) = c.requires.stands in
-          let has = c.in_ok-core.ensures.opened s stands is in
+          let has = c.in_ok-posts.ensures.opened s stands is in
           rw (in_that_order frame order s _ (logged_in frame order s _ replies c.from_vec.ensures.items has.posts
           (c.from_vec-2.ensures.items ∙ turns.turns _ has.lender))) turns.gate_passed;
     }

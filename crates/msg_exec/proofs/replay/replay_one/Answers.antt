@@ -14,7 +14,7 @@ run_turns-requires-clause-stands g c κs within =
     let bt : State g.V.Value.values = before_turns c.args.frame.now.posts s in (
       bt,
       (
-        (c.in_ok-core.ensures.opened s stands is).lender,
+        (c.in_ok-posts.ensures.opened s stands is).lender,
         λ k d lt. joined_below bt _ ((lawful.of_joined _).0 (Contains-get_or c.args.order.now k d lt)),
       ),
     )
@@ -25,13 +25,13 @@ returns g c = record {
       let m = g.S.SystemOf.meaning in
       let frame = c.args.frame.now in
       let order = c.args.order.now in
-      let has = c.in_ok-core.ensures.opened s stands is in
+      let has = c.in_ok-posts.ensures.opened s stands is in
       let lawful = c.requires.lawful s stands is in
       let bt : State g.V.Value.values = before_turns frame.posts s in
-      let told = logged_in frame order s _ c.in_ok-core.posts.items c.from_vec.ensures.items has.posts
+      let told = logged_in frame order s _ c.in_ok-posts.posts.items c.from_vec.ensures.items has.posts
       (c.from_vec-2.ensures.items ∙ c.in_ok-run_turns.ensures.turns bt has.lender
       ∙ ap (λ ts. ts ++ (after_turns_of order bt).turns) c.in_ok-turns.ensures.empty) in
-      let alike = c.frames_agree_in_lawful_orders.ensures.law frame s c.args.core.lender.accesses.items order
+      let alike = c.frames_agree_in_lawful_orders.ensures.law frame s c.args.core.now.lender.accesses.items order
       stands.sound.uses stands.sound.no_cycle (accesses_of m stands) lawful in
       frame_ran m has stands.sound c.states_stay_sound.ensures.frame
       (rw alike.0 at (c.in_ok-run_turns.ensures.state bt has.lender))

@@ -14,7 +14,7 @@ use msg_json::{Fault, Reason, Step};
 use serde_json::Value;
 use std::alloc::Global;
 
-/// The call of this number, where so many cursors were made before.
+/// The call of this number, if so many cursors were made before.
 pub fn read_call(alloc: Global, made: u32, number: usize, value: &Value) -> Result<Call, Fault>
     ensures call { Reads (in_element number (Spec.call_of made (view value.now))) result }
     ensures fits { IfOk result (FitsCursors made) }
@@ -69,7 +69,7 @@ fn read_bare(made: u32, head: &str) -> Result<Call, Fault>
 /// Whether one cursor more may be made.
 fn room_for_cursor(made: u32) -> Result<(), Fault>
     ensures room { MatchResult result (λ _. made < MAX_CURSORS)
-        (λ e. (e ≡ fault (Reason.AtMost 64)) × (MAX_CURSORS ≤ made)) }
+        (λ e. (e ≡ fault (Reason.AtMost MAX_CURSORS)) × (MAX_CURSORS ≤ made)) }
 {
     if made < MAX_CURSORS {
         Ok(())

@@ -15,3 +15,11 @@ enough_copied f unread copied limit rest split long =
 
 pub returns-clause-items : goal.returns-clause-items
 returns-clause-items g c = grind (arith, common_steps, enough_copied, append-nil, length-map)
+
+pub returns-clause-place : goal.returns-clause-place
+returns-clause-place g c h stands =
+    let from = c.read-rest.ensures.first h stands in
+    elim c.loop-copied-test.branch [
+      | else-loop-copied-test w ↦ grind (arith, from, w.cursor-is)
+      | then-loop-copied-test+in_default w ↦ grind (arith, from, w.cursor-is, w.next.ensures)
+    ]

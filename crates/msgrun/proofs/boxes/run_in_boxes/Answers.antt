@@ -10,3 +10,7 @@ loop-spec-preserved g c = record {
 -- what the run by an engine left, without the engine
 pub returns-clause-leaves : goal.returns-clause-leaves
 returns-clause-leaves g c = if_ok_by c.run_scenario.result _ (λ came is. (rw is at c.run_scenario.ensures.leaves).0)
+
+-- the invariant says it as it stands
+pub add_system-requires-clause-so_far : goal.add_system-requires-clause-so_far
+add_system-requires-clause-so_far g c = c.loop-spec.invariant.each

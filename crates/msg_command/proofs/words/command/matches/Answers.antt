@@ -4,7 +4,7 @@ use Rattle.msg_command.specs.Prelude.{texts_of}
 use Rattle.msg_command.proofs.ClapErrors.{accepted_in, found_in, found_as}
 use Rattle.msg_command.proofs.words.command.matches.Goals as goal
 
--- where clap takes the words, its only error is want of memory
+-- if clap takes the words, its only error is want of memory
 pub returns-in-Err-clause-refused : goal.returns-in-Err-clause-refused
 returns-in-Err-clause-refused c = λ taken.
     let words = texts_of c.args.words.now in

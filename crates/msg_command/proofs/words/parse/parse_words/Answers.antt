@@ -8,17 +8,17 @@ use Rattle.msg_command.proofs.words.parse.parse_words.Goals as goal
 pub returns-clause-refused : goal.returns-clause-refused
 returns-clause-refused c =
     let rows = c.in_ok-matches.ensures.rows in
-    IfErr-weaker c.action_of.result _ _
+    IfErr-weaker c.action_of-action.result _ _
     (λ fault refused taken. grind (arith, refused, rows, takes_asks (texts_of c.args.words.now) taken))
-    c.action_of.ensures.refused
+    c.action_of-action.ensures.refused
 
 -- and clap found nothing in them
 pub returns-clause-found : goal.returns-clause-found
 returns-clause-found c =
-    IfErr-weaker c.action_of.result _ _ (λ fault refused. grind (arith, refused, c.in_ok-matches.ensures.accepted))
-    c.action_of.ensures.refused
+    IfErr-weaker c.action_of-action.result _ _ (λ fault refused. grind (arith, refused, c.in_ok-matches.ensures.accepted))
+    c.action_of-action.ensures.refused
 
--- where clap refuses the words, and takes them, memory was refused
+-- if clap refuses the words, and takes them, memory was refused
 pub returns-in_err-matches-clause-refused : goal.returns-in_err-matches-clause-refused
 returns-in_err-matches-clause-refused c =
     told_on c.from_residual.result c.in_err-matches.field-0.0 _ _ c.from_residual.ensures.1 c.in_err-matches.ensures.refused

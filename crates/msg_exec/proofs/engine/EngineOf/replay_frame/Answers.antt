@@ -13,16 +13,16 @@ accepts_next-requires g c = record {
 
 pub replay_one-requires-clause-stands : goal.replay_one-requires-clause-stands
 replay_one-requires-clause-stands g c =
-    its_core g.S.SystemOf.meaning c.args.self.now _ (sym c.take.ensures.value ∙ c.in-Some-take.is) c.requires.engine
+    its_core g.S.SystemOf.meaning c.args.self.now _ c.in-Some-core.is c.requires.engine
 
 pub replay_one-requires-clause-lawful : goal.replay_one-requires-clause-lawful
 replay_one-requires-clause-lawful g c s stands is =
-    let same : c.in-Some.core ≡ c.in-Some-take.core = cc (c.in-Some.is, c.take.ensures.value, c.in-Some-take.is) in
+    let same : c.in-Some.core ≡ c.in-Some-core.core = cc (c.in-Some.is, c.in-Some-core.is) in
     (c.in-Ok.ensures.lawful s (rw same stands) is c.args.frame.now).0 c.if-not-is_lawful.false
 
 pub returns-clause-replayed : goal.returns-clause-replayed
 returns-clause-replayed g c s stands =
-    let core = rw (sym c.take.ensures.value ∙ c.in-Some-take.is) at stands.core in
+    let core = rw c.in-Some-core.is at stands.core in
     let ran = c.in-Ok-replay_one.ensures.replayed s core stands.frames in
     let frame = c.args.frame.now in
     let replay = ran.told in
@@ -33,7 +33,7 @@ returns-clause-replayed g c s stands =
       alike = c.replays_tell_the_same.ensures.law (frame ∷ []) s (_ ∷ []) (replay.tells, tt);
       complete = c.runs_are_complete.ensures.law (frame ∷ []) s core.sound;
       stands =
-          record { core = rw c.end_frame.ensures.core ran.stands; frames = omega (arith, stands.frames, ran.frames) };
+          record { core = rw c.count_frame.ensures.core ran.stands; frames = omega (arith, stands.frames, ran.frames) };
     }
 
 pub returns-clause-engine : goal.returns-clause-engine

@@ -6,22 +6,22 @@ use Rattle.msg_exec.proofs.engine.EngineOf.run_frame.Goals as goal
 
 pub run_one-requires-clause-stands : goal.run_one-requires-clause-stands
 run_one-requires-clause-stands g c κs within =
-    its_core g.S.SystemOf.meaning c.args.self.now _ (sym c.take.ensures.value ∙ c.in-Some.is) c.requires.engine
+    its_core g.S.SystemOf.meaning c.args.self.now _ c.in-Some.is c.requires.engine
 
 pub returns-clause-ran : goal.returns-clause-ran
 returns-clause-ran g c s stands =
-    let core = rw (sym c.take.ensures.value ∙ c.in-Some.is) at stands.core in
+    let core = rw c.in-Some.is at stands.core in
     let ran = c.in-Ok.ensures.ran s core stands.frames in
     record {
       tells = ran.told;
       complete = c.runs_are_complete.ensures.law (c.args.frame.now ∷ []) s core.sound;
       stands =
-          record { core = rw c.end_frame.ensures.core ran.stands; frames = omega (arith, stands.frames, ran.frames) };
+          record { core = rw c.count_frame.ensures.core ran.stands; frames = omega (arith, stands.frames, ran.frames) };
     }
 
 pub returns-clause-engine : goal.returns-clause-engine
 returns-clause-engine g c =
-    let some = ap is_some (sym c.take.ensures.value ∙ c.in-Some.is) in
+    let some = ap is_some c.in-Some.is in
     let was = stood g.S.SystemOf.meaning c.args.self.now some c.requires.engine in
     let ran = returns-clause-ran g c was.0 was.1 in
     inr (_, ran.stands)
@@ -32,12 +32,12 @@ returns-clause-since g c = since_frame g.S.SystemOf.meaning _ _ c.args.frame.now
 pub returns-clause-alive : goal.returns-clause-alive
 returns-clause-alive g c =
     let m = g.S.SystemOf.meaning in
-    let was = stood m c.args.self.now (ap is_some (sym c.take.ensures.value ∙ c.in-Some.is)) c.requires.engine in
+    let was = stood m c.args.self.now (ap is_some c.in-Some.is) c.requires.engine in
     is_alive m _ _ (returns-clause-ran g c was.0 was.1).stands
 
 pub returns-clause-fits : goal.returns-clause-fits
 returns-clause-fits g c =
     let m = g.S.SystemOf.meaning in
     let frame = c.args.frame.now in
-    let was = stood m c.args.self.now (ap is_some (sym c.take.ensures.value ∙ c.in-Some.is)) c.requires.engine in
+    let was = stood m c.args.self.now (ap is_some c.in-Some.is) c.requires.engine in
     still_fit m _ _ was.0 _ was.1 (returns-clause-ran g c was.0 was.1).stands (run_keeps (frame ∷ []) was.0).types
