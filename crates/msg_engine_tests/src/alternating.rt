@@ -3,11 +3,11 @@ ghost use Rattle.std.specs.Prelude.{◌<◌};
 ghost use Rattle.msg_exec.specs.Prelude.{IsEngine};
 ghost use Rattle.msg_world.specs.Prelude.{i64_values};
 
+use crate::equal::expect_eq;
 use crate::expecting::replies_of;
 use crate::making::{NUMBERS, add, engine_over, frame_of, quiet, replay, run_frame};
 use msg_exec::{EngineBuilder, EngineOf, Frame, Log, NoGate, Outcome, Turn};
 use msg_part_tests::numbers::type_no;
-use msg_part_tests::outcome::expect_eq;
 use msg_system::{
     Access, Behavior, BehaviorSystem, Condition, NoMemory, Op, Probe, Reply, Start, SystemOf,
 };

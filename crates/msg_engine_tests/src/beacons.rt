@@ -2,12 +2,12 @@
 ghost use Rattle.msg_exec.specs.Prelude.{IsEngine};
 ghost use Rattle.msg_world.specs.Prelude.{i64_values};
 
+use crate::equal::expect_eq;
 use crate::expecting::{expect_frame, wrote};
 use crate::making::{NUMBERS, add, engine_over, quiet};
 use crate::prefaced::{Before, Prefaced};
 use msg_exec::{EngineBuilder, EngineOf};
 use msg_part_tests::numbers::type_no;
-use msg_part_tests::outcome::expect_eq;
 use msg_system::{
     Access, Cursors, NoMemory, Numbered, Op, Reply, Start, SystemOf, one_op_is_a_turn,
 };

@@ -2,12 +2,12 @@
 ghost use Rattle.msg_exec.specs.Prelude.{IsEngine};
 ghost use Rattle.msg_world.specs.Prelude.{i64_values};
 
+use crate::equal::{expect_eq, expect_text};
 use crate::expecting::{expect_frame, posted, read};
 use crate::making::{add, engine_of, quiet, reader};
 use msg_exec::{Account, BuildError, BuildRefusal, EngineBuilder, EngineOf, Workers};
 use msg_order::Rule;
 use msg_part_tests::numbers::type_no;
-use msg_part_tests::outcome::{expect_eq, expect_text};
 use msg_system::{Op, Scripted, Start, SystemOf};
 use msg_world::World;
 use std::alloc::Global;

@@ -2,12 +2,12 @@
 ghost use Rattle.msg_exec.specs.Prelude.{IsEngine};
 ghost use Rattle.msg_world.specs.Prelude.{i64_values};
 
+use crate::equal::expect_eq;
 use crate::expecting::{Step, by, expect_frame, posted, read, replies_of, wrote};
 use crate::making::{NUMBERS, add, engine_of, frame_of, quiet, run_frame, scripted};
 use msg_exec::{EngineBuilder, EngineOf, NoGate};
 use msg_order::Rule;
 use msg_part_tests::numbers::{res_no, type_no};
-use msg_part_tests::outcome::expect_eq;
 use msg_system::{Items, Op, Reply, Scripted, Start, SystemOf};
 use msg_world::World;
 use std::alloc::Global;

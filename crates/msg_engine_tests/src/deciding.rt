@@ -3,11 +3,11 @@ ghost use Rattle.msg_exec.specs.Prelude.{IsEngine};
 ghost use Rattle.msg_world.specs.Prelude.{i64_values};
 
 use crate::adders::Adder;
+use crate::equal::expect_eq;
 use crate::expecting::by;
 use crate::making::{NUMBERS, add, engine_over, frame_of, run_frame};
 use msg_exec::{EngineBuilder, EngineOf, NoGate};
 use msg_part_tests::numbers::type_no;
-use msg_part_tests::outcome::expect_eq;
 use msg_system::{Access, BehaviorSystem, Start, SystemOf};
 use msg_world::{TypeNo, World};
 use std::alloc::Global;

@@ -2,10 +2,10 @@
 ghost use Rattle.msg_exec.specs.Prelude.{IsEngine};
 ghost use Rattle.msg_world.specs.Prelude.{i64_values};
 
+use crate::equal::expect_eq;
 use crate::making::{replay, run_frame};
 use msg_buffer::Written;
 use msg_exec::{EngineOf, Frame, Log, NoGate, Outcome, Turn};
-use msg_part_tests::outcome::expect_eq;
 use msg_system::{Reply, SystemOf};
 use msg_world::{HOST, Record};
 use std::panic::Expect;

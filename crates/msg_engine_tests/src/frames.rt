@@ -2,13 +2,13 @@
 ghost use Rattle.msg_exec.specs.Prelude.{IsEngine};
 ghost use Rattle.msg_world.specs.Prelude.{i64_values};
 
+use crate::equal::expect_eq;
 use crate::expecting::{expect_log, posted, read};
 use crate::gates::{FirstGate, HoldGate, MeetGate, NotingGate, OneByOne};
 use crate::making::{frame_of, quiet, readers, run_frame, run_frames};
 use crate::prefaced::{add_counts, noting_engine, prefaced_readers};
 use msg_exec::{EngineOf, Frame, Gate, Log};
 use msg_part_tests::numbers::type_no;
-use msg_part_tests::outcome::expect_eq;
 use msg_system::{Op, Start, SystemOf};
 use std::alloc::Global;
 use std::panic::Expect;

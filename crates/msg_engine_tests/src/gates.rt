@@ -1,7 +1,7 @@
 // Gates that see which threads run the jobs of a batch.
+use crate::equal::expect_eq;
 use crate::prefaced::note;
 use msg_exec::Gate;
-use msg_part_tests::outcome::expect_eq;
 use std::process::Abort;
 use std::sync::atomic::{AtomicU64, Ordering};
 use std::thread::yield_now;

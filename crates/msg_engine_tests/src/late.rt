@@ -2,12 +2,12 @@
 ghost use Rattle.msg_exec.specs.Prelude.{IsEngine};
 ghost use Rattle.msg_world.specs.Prelude.{i64_values};
 
+use crate::equal::expect_eq;
 use crate::expecting::{posted, replies_of};
 use crate::making::{NUMBERS, add, engine_over, frame_of, run_frames};
 use msg_buffer::Written;
 use msg_exec::{EngineBuilder, EngineOf, Log, NoGate};
 use msg_part_tests::numbers::{res_no, type_no};
-use msg_part_tests::outcome::expect_eq;
 use msg_system::{Numbered, Relay, Reply, Start, SystemOf, Tally, Took};
 use std::alloc::Global;
 use std::panic::Expect;

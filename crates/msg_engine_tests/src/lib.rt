@@ -16,6 +16,8 @@ pub mod clients;
 #[cfg(test)]
 mod deciding;
 #[cfg(test)]
+mod equal;
+#[cfg(test)]
 mod expecting;
 #[cfg(test)]
 mod frames;

@@ -7,6 +7,7 @@ ghost use Rattle.std.specs.Prelude.{◌<◌};
 ghost use Rattle.msg_exec.specs.Prelude.{IsEngine};
 ghost use Rattle.msg_world.specs.Prelude.{i64_values};
 
+use crate::equal::expect_eq;
 use crate::expecting::{by, expect_frame, posted, read, replies_of, wrote};
 use crate::making::{
     add, engine_of, engine_over, frame_of, quiet, reader, readers, replay, run_frame, run_frames,
@@ -18,7 +19,6 @@ use msg_exec::{
 };
 use msg_order::Rule;
 use msg_part_tests::numbers::{res_no, type_no};
-use msg_part_tests::outcome::expect_eq;
 use msg_system::{Condition, MAX_OPS, Op, Probe, Reply, Scripted, Start, SystemOf};
 use msg_world::{MAX_RESOURCES, MAX_SYSTEMS, MAX_TYPES, Record, World};
 use std::alloc::Global;

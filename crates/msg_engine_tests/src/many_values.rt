@@ -3,11 +3,11 @@
 ghost use Rattle.std.specs.Prelude.{◌≡◌, length};
 ghost use Rattle.msg_exec.specs.Prelude.{IsEngine};
 
+use crate::equal::expect_eq;
 use crate::game_values::{Blow, Force};
 use crate::making::{NUMBERS, add, engine_over, replay, run_frame, scripted};
 use msg_exec::{EngineBuilder, EngineOf, Frame, Log, NoGate, Outcome};
 use msg_part_tests::numbers::{res_no, type_no};
-use msg_part_tests::outcome::expect_eq;
 use msg_system::{Condition, Items, Op, Probe, Reply, Scripted, Start, SystemOf, Took};
 use msg_world::{HOST, Record, ResNo, Value};
 use std::alloc::Global;

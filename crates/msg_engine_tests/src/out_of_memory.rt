@@ -4,6 +4,7 @@ ghost use Rattle.std.specs.Prelude.{◌≡◌, IfOk, Ok};
 ghost use Rattle.msg_world.specs.Prelude.{IsWhole, i64_values};
 ghost use Rattle.msg_exec.specs.Prelude.{IsEngine};
 
+use crate::equal::expect_eq;
 use crate::expecting::{by, expect_log, read, wrote};
 use crate::making::{engine_of, quiet, replay, run_frames, scripts};
 use crate::spoiled::expect_spoiled;
@@ -12,7 +13,7 @@ use msg_exec::{
 };
 use msg_order::Rule;
 use msg_part_tests::numbers::type_no;
-use msg_part_tests::outcome::{expect_eq, tell};
+use msg_part_tests::outcome::tell;
 use msg_system::{Op, Scripted, SystemOf};
 use msg_world::World;
 use std::alloc::Global;

@@ -2,13 +2,13 @@
 ghost use Rattle.msg_exec.specs.Prelude.{IsEngine};
 ghost use Rattle.msg_world.specs.Prelude.{i64_values};
 
+use crate::equal::expect_eq;
 use crate::expecting::{Step, by, expect_log, expect_replay, posted, read, wrote};
 use crate::making::{frame_of, quiet, replay, run_frame, run_frames};
 use crate::prefaced::{Prefaced, noting_engine};
 use msg_buffer::MessageId;
 use msg_exec::{Account, EngineOf, Frame, Log, NoGate, RunFault};
 use msg_part_tests::numbers::type_no;
-use msg_part_tests::outcome::expect_eq;
 use msg_system::{Op, Scripted, Start, SystemOf};
 use msg_world::{Record, TypeNo};
 use std::alloc::Global;

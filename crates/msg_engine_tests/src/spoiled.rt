@@ -2,11 +2,11 @@
 ghost use Rattle.msg_exec.specs.Prelude.{IsEngine};
 ghost use Rattle.msg_world.specs.Prelude.{i64_values};
 
+use crate::equal::expect_eq;
 use crate::gates::HoldGate;
 use crate::making::{quiet, replay, run_frame, run_frames};
 use crate::prefaced::{Before, Prefaced, add_counts, prefaced_readers};
 use msg_exec::{EngineOf, NoGate, RunFault};
-use msg_part_tests::outcome::expect_eq;
 use msg_system::{Scripted, SystemOf};
 use std::alloc::Global;
 use std::panic::Expect;

@@ -1,6 +1,6 @@
 // Accesses, and the numbers of types and resources.
+use crate::equal::expect_eq;
 use crate::numbers::{of_types, res_no, type_no};
-use crate::outcome::expect_eq;
 use msg_world::{Access, ResNo, TypeNo};
 use std::process::Abort;
 

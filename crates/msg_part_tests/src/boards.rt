@@ -5,7 +5,7 @@ ghost use Rattle.msg_board.specs.Prelude.{HasEnded, IsIdle, IsOf, jobs_of};
 mod boxes;
 mod out_of_memory;
 
-use crate::outcome::expect_eq;
+use crate::equal::expect_eq;
 use msg_board::{Board, MAX_JOBS, MAX_PASSES, NoMemory, Pass, Work};
 use std::alloc::{Allocator, Global};
 use std::panic::Expect;

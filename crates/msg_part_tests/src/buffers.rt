@@ -1,7 +1,7 @@
 // Buffers: what calls files can't show, and the texts of refusals.
 mod out_of_memory;
 
-use crate::outcome::{expect_eq, expect_text};
+use crate::equal::{expect_eq, expect_text};
 use msg_buffer::laws::{
     histories_only_grow, messages_outlive_one_update, readers_tile, reads_may_be_left,
 };

@@ -9,6 +9,8 @@ mod accesses;
 mod boards;
 #[cfg(test)]
 mod buffers;
+#[cfg(test)]
+mod equal;
 pub mod numbers;
 pub mod outcome;
 #[cfg(test)]

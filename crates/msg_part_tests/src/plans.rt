@@ -4,8 +4,8 @@ ghost use Rattle.msg_order.specs.Prelude.{NameSystemsBelow};
 
 mod out_of_memory;
 
+use crate::equal::{expect_eq, expect_text};
 use crate::numbers::of_types as uses;
-use crate::outcome::{expect_eq, expect_text};
 use msg_order::{Plan, PlanRefusal, Rule, lowest_on_cycle};
 use msg_world::{Access, MAX_SYSTEMS};
 use std::alloc::Global;

@@ -2,8 +2,8 @@
 mod boxes;
 mod out_of_memory;
 
+use crate::equal::expect_eq;
 use crate::numbers::{res_no, type_no};
-use crate::outcome::expect_eq;
 use msg_system::{Items, Op, Program, Start};
 use std::panic::Expect;
 

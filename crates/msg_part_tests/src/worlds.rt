@@ -3,8 +3,8 @@ ghost use Rattle.msg_world.specs.Prelude.{IsLoanOf, IsWhole, LendsOut, SameLoan,
 
 mod out_of_memory;
 
+use crate::equal::expect_eq;
 use crate::numbers::{res_no, type_no};
-use crate::outcome::expect_eq;
 use msg_buffer::{MessageId, WriteRefusal};
 use msg_world::laws::{
     lent_parts_are_a_loan, lent_parts_may_come_home, loans_end, loans_stand_side_by_side,

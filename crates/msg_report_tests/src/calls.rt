@@ -1,8 +1,8 @@
 // The text that a calls file is answered with, and the pieces that it is put in.
 use crate::counting::Counting;
+use crate::equal::expect_eq;
 use crate::narrow::Narrow;
 use crate::texts::long_file;
-use msg_part_tests::outcome::expect_eq;
 use msg_scenario::{Calls, MemorySink, ReportFault, read_calls, run_calls};
 use std::process::Abort;
 

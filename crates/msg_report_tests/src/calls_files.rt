@@ -1,7 +1,7 @@
 // What a calls file denotes, and which are refused.
 use crate::calls::calls_of;
+use crate::equal::expect_eq;
 use crate::texts::{expect_refusal, long_file, nested, wanted};
-use msg_part_tests::outcome::expect_eq;
 use msg_scenario::{Refusal, read_calls};
 use std::panic::Expect;
 use std::process::Abort;

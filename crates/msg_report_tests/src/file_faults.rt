@@ -1,5 +1,5 @@
 // Why files are refused, and where in them.
-use msg_part_tests::outcome::expect_eq;
+use crate::equal::expect_eq;
 use msg_scenario::Step::{Element, Item, Nots, Part, Section, Value};
 use msg_scenario::{Fault, FileFault, Key, Location, Reason, Step, check_calls, check_scenario};
 use std::panic::Expect;

@@ -10,6 +10,8 @@ mod command;
 #[cfg(test)]
 mod counting;
 #[cfg(test)]
+mod equal;
+#[cfg(test)]
 mod file_faults;
 #[cfg(test)]
 mod made;

@@ -1,9 +1,9 @@
 // Scenarios that are made in code, and never were files.
+use crate::equal::expect_eq;
 use crate::sparing::{sparing_engine, workers};
 use msg_exec::NoGate;
 use msg_frames::{Frame, Items, Place};
 use msg_order::Rule;
-use msg_part_tests::outcome::expect_eq;
 use msg_scenario::{Kind, MemorySink, Name, Scenario, SystemSpec, report};
 use msg_system::{Op, Program, Start};
 use msg_world::TypeNo;

@@ -1,7 +1,7 @@
 // A sink that takes little, or fails.
 ghost use Rattle.std.specs.Prelude.{None};
 
-use msg_part_tests::outcome::expect_eq;
+use crate::equal::expect_eq;
 use msg_scenario::{MemorySink, PutFault, Sink};
 use std::process::Abort;
 

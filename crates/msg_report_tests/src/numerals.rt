@@ -1,5 +1,5 @@
 // Numbers in decimal: of each length up to the greatest, and the least.
-use msg_part_tests::outcome::expect_eq;
+use crate::equal::expect_eq;
 use msg_text::numerals::{add_number, add_value};
 use std::panic::Expect;
 

@@ -2,11 +2,11 @@
 ghost use Rattle.std.specs.Prelude.{◌≤◌};
 ghost use Rattle.msg_scenario_data.specs.Prelude.{IsRunnable};
 
+use crate::equal::expect_eq;
 use crate::narrow::Narrow;
 use crate::scenario_files::accepted;
 use crate::sparing::{sparing_engine, sparing_systems, workers};
 use msg_exec::{Gate, NoGate, RunFault, Workers};
-use msg_part_tests::outcome::expect_eq;
 use msg_scenario::{MemorySink, ReportFault, Scenario, Sink, report, run_scenario};
 use std::panic::Expect;
 use std::process::Abort;

@@ -1,8 +1,8 @@
 // What a scenario file denotes, and which are refused.
 ghost use Rattle.msg_scenario_data.specs.Prelude.{IsRunnable};
 
+use crate::equal::expect_eq;
 use crate::texts::{expect_refusal, long_file, nested, wanted};
-use msg_part_tests::outcome::expect_eq;
 use msg_scenario::{Refusal, Scenario, read_scenario};
 use std::panic::Expect;
 use std::process::Abort;

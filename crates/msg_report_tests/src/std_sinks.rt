@@ -1,5 +1,5 @@
 // A sink over a writer of std: one put is one write.
-use msg_part_tests::outcome::expect_eq;
+use crate::equal::expect_eq;
 use msg_scenario::{PutFault, Sink, StdSink, put_all};
 use std::io;
 use std::io::{Error, ErrorKind, Write};

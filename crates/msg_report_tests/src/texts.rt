@@ -1,5 +1,5 @@
 // Rows of tables of files, and texts made of pieces.
-use msg_part_tests::outcome::expect_eq;
+use crate::equal::expect_eq;
 use msg_scenario::Refusal;
 use std::panic::Expect;
 use std::process::Abort;

@@ -2,7 +2,7 @@
 ghost use Rattle.std.specs.Prelude.{◌≡◌, ◌/◌, ◌≤◌, ℕ, length};
 
 use super::{Runs, run_jobs};
-use crate::outcome::expect_eq;
+use crate::equal::expect_eq;
 use msg_board::{MAX_JOBS, NoMemory, Work};
 use std::alloc::Global;
 use std::marker::PhantomData;

@@ -4,7 +4,8 @@ ghost use Rattle.msg_board.specs.Prelude.{HasEnded, IsIdle};
 ghost use Rattle.msg_board.specs.Board.{IsNewPass};
 
 use super::{draw_next, draw_none};
-use crate::outcome::{expect_eq, tell};
+use crate::equal::expect_eq;
+use crate::outcome::tell;
 use msg_board::{Board, Pass, Work};
 use std::alloc::{AllocError, Global};
 use std::panic::Expect;

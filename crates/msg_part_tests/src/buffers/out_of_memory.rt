@@ -1,6 +1,7 @@
 // What a refused write, batch or drain leaves: the buffer and its cursor as they were, and what was
 // passed is handed back. A call that was refused memory is made again, and then there is memory.
-use crate::outcome::{expect_eq, tell};
+use crate::equal::expect_eq;
+use crate::outcome::tell;
 use msg_buffer::{
     BatchRefusal, Instance, MessageCursor, MessageId, Messages, NoMemory, WriteRefusal, Written,
 };

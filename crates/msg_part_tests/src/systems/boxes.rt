@@ -1,8 +1,8 @@
 // Boxed systems of the three kinds, each run on a loan of its own.
 ghost use Rattle.std.specs.Prelude.{◌≤◌, length};
 
+use crate::equal::expect_eq;
 use crate::numbers::{res_no, type_no};
-use crate::outcome::expect_eq;
 use msg_system::{
     Items, MAX_OPS, Numbered, Op, Program, Relay, Reply, Scripted, Start, System, Tally,
     open_loans_cover,

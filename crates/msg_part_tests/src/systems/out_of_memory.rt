@@ -1,6 +1,7 @@
 // If there is no memory for a copy of a program there is none, and the program is as before.
+use crate::equal::expect_eq;
 use crate::numbers::type_no;
-use crate::outcome::{expect_eq, tell};
+use crate::outcome::tell;
 use msg_system::{Items, NoMemory, Op, Program, Start};
 use std::process::Abort;
 use std::test::Fail;

@@ -3,8 +3,9 @@
 ghost use Rattle.msg_world.specs.Prelude.{IsWhole, SameLoan};
 
 use super::{expect_all_home, expect_home, expect_resource, set};
+use crate::equal::expect_eq;
 use crate::numbers::{res_no, type_no};
-use crate::outcome::{expect_eq, tell};
+use crate::outcome::tell;
 use msg_buffer::{MessageCursor, MessageId, Messages, WriteRefusal};
 use msg_world::laws::{lent_parts_are_a_loan, lent_parts_may_come_home, writes_stand};
 use msg_world::{Access, HOST, Lent, NoMemory, Record, ResNo, TypeNo, World};

@@ -1,8 +1,8 @@
 // The line and the status of each fault, and the text that it shows itself as.
+use crate::equal::{expect_eq, expect_text};
 use crate::narrow::Narrow;
 use msg_command::{InputFault, MainFault, WordFault, print_fault};
 use msg_json::Refusal;
-use msg_part_tests::outcome::{expect_eq, expect_text};
 use msg_text::{MemorySink, PutFault, ReportFault};
 use msg_world::RunFault;
 use std::panic::Expect;

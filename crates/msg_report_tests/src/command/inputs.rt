@@ -1,6 +1,6 @@
 // Readers that give a few bytes at each read, that fail, and one that never ends.
+use crate::equal::expect_eq;
 use msg_command::{InputFault, MAX_BYTES, read_all};
-use msg_part_tests::outcome::expect_eq;
 use std::io;
 use std::io::{Error, ErrorKind, Read};
 use std::panic::Expect;

@@ -1,6 +1,6 @@
 // What command lines ask for.
+use crate::equal::expect_eq;
 use msg_command::{WordFault, parse_words};
-use msg_part_tests::outcome::expect_eq;
 use std::panic::Expect;
 use std::process::Abort;
 
