@@ -60,7 +60,7 @@ fn report_by_engine<R: Threads + Sync + Abort + AllocGlobal, S: Sink, G: Gate>(
     requires runnable { IsRunnable scenario.now }
 {
     let mut engine = sparing_engine(rt.alloc(), scenario, runs).expect(rt, "an engine");
-    let put = report(rt, rt.alloc(), &mut engine, scenario, workers, gate, sink);
+    let put = report(rt, &mut engine, scenario, workers, gate, sink);
     (put, (engine.frames_run(), engine.world().is_none()))
 }
 
@@ -76,7 +76,7 @@ fn report_by_systems<R: Threads + Sync + Abort + AllocGlobal, S: Sink, G: Gate>(
     requires runnable { IsRunnable scenario.now }
 {
     let systems = sparing_systems(rt.alloc(), scenario, runs).expect(rt, "systems");
-    let put = run_scenario(rt, rt.alloc(), scenario, systems, workers, gate, sink);
+    let put = run_scenario(rt, scenario, systems, workers, gate, sink);
     put.expect(rt, "an engine")
 }
 

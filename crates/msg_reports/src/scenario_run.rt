@@ -11,7 +11,6 @@ use msg_exec::{Gate, NoMemory, Workers};
 use msg_scenario_data::Scenario;
 use msg_system::SystemOf;
 use msg_text::{ReportFault, Sink};
-use std::alloc::Global;
 use std::thread::Threads;
 
 /// Makes the engine of a scenario of its systems, as `engine_of` does, and reports the scenario by
@@ -21,9 +20,13 @@ use std::thread::Threads;
 ///
 /// `NoMemory` if there was no engine. What the report came to, a fault of it too, is within
 /// `Ok`.
-pub fn run_scenario<R: Threads + Sync, X: SystemOf<Value = i64> + Send, S: Sink, G: Gate>(
+pub fn run_scenario<
+    R: Threads + Sync + AllocGlobal,
+    X: SystemOf<Value = i64> + Send,
+    S: Sink,
+    G: Gate,
+>(
     rt: &R,
-    alloc: Global,
     scenario: &Scenario,
     systems: Vec<X>,
     workers: Workers,
@@ -41,8 +44,8 @@ pub fn run_scenario<R: Threads + Sync, X: SystemOf<Value = i64> + Send, S: Sink,
         × LeavesEngine X.meaning left before after) }
     ensures no_engine { OnErr result (sink.new ≡ sink.old) }
 {
-    let mut engine = engine_of(alloc, scenario, systems)?;
-    let came = report(rt, alloc, &mut engine, scenario, workers, gate, sink);
+    let mut engine = engine_of(rt.alloc(), scenario, systems)?;
+    let came = report(rt, &mut engine, scenario, workers, gate, sink);
     drop(engine);
     Ok(came)
 }

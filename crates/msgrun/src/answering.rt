@@ -34,9 +34,8 @@ pub(crate) fn answer_bytes<S: Sink>(
 }
 
 /// Runs the scenario of a scenario file, and reports it.
-pub(crate) fn report_bytes<R: Threads + Sync, S: Sink>(
+pub(crate) fn report_bytes<R: Threads + Sync + AllocGlobal, S: Sink>(
     rt: &R,
-    alloc: Global,
     bytes: &[u8],
     workers: Workers,
     sink: &mut S,
@@ -49,8 +48,8 @@ pub(crate) fn report_bytes<R: Threads + Sync, S: Sink>(
         (fault : FaultView) × (result ≡ Err (MainFault.Report fault))
         × LeavesReport S.contents S.failures scenario (Err fault) sink.old sink.new)) }
 {
-    let scenario = read_scenario(alloc, bytes)?;
-    let came = run_in_boxes(rt, alloc, &scenario, workers, sink);
+    let scenario = read_scenario(rt.alloc(), bytes)?;
+    let came = run_in_boxes(rt, &scenario, workers, sink);
     drop(scenario);
     as_main_fault(came)
 }

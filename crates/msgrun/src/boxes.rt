@@ -11,7 +11,6 @@ use msg_reports::{add_system, run_scenario};
 use msg_scenario_data::{Kind, Scenario};
 use msg_system::System;
 use msg_text::{ReportFault, Sink};
-use std::alloc::Global;
 use std::thread::Threads;
 
 /// Puts each system of a scenario into a box of its kind, and runs the scenario by these.
@@ -20,9 +19,8 @@ use std::thread::Threads;
 ///
 /// `NoMemory` if there was no engine. What the report came to, a fault of it too, is within
 /// `Ok`.
-pub(crate) fn run_in_boxes<R: Threads + Sync, S: Sink>(
+pub(crate) fn run_in_boxes<R: Threads + Sync + AllocGlobal, S: Sink>(
     rt: &R,
-    alloc: Global,
     scenario: &Scenario,
     workers: Workers,
     sink: &mut S,
@@ -34,6 +32,7 @@ pub(crate) fn run_in_boxes<R: Threads + Sync, S: Sink>(
         LeavesReport S.contents S.failures scenario.now came sink.old sink.new) }
     ensures no_engine { OnErr result (sink.new ≡ sink.old) }
 {
+    let alloc = rt.alloc();
     let mut systems: Vec<Box<dyn System>> = Vec::new(alloc);
     let specs = scenario.systems.as_slice();
     for spec in specs {
@@ -45,7 +44,7 @@ pub(crate) fn run_in_boxes<R: Threads + Sync, S: Sink>(
         };
         add_system(specs, spec, &mut systems, system)?;
     }
-    run_scenario(rt, alloc, scenario, systems, workers, &NoGate, sink)
+    run_scenario(rt, scenario, systems, workers, &NoGate, sink)
 }
 
 /// What a run comes to, as the fault that ends the program.

@@ -85,7 +85,7 @@ fn answer_scenario<R: AllocGlobal + Files + Input + Print + Sync + Threads>(
     };
     let bytes = bytes_of(rt, Some(file))?;
     let mut output = StdSink::new(io::writer(rt));
-    report_bytes(rt, rt.alloc(), bytes.as_slice(), workers, &mut output)
+    report_bytes(rt, bytes.as_slice(), workers, &mut output)
 }
 
 /// Checks a file, and puts its counts on standard output.

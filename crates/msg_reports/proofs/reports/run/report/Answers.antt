@@ -5,8 +5,8 @@ use Rattle.std.proofs.KnownBytes.{Appends-nil}
 use Rattle.msg_reports.proofs.{TextsByPieces.zip-nil, Reporting.ended, Reporting.no_memory_for_accounts, Reporting.readers_done, Reporting.stopped_before_all}
 use Rattle.msg_reports.proofs.reports.run.report.Goals as goal
 
-pub loop-reported-init : goal.loop-reported-init
-loop-reported-init g c = record {
+pub loop-init : goal.loop-init
+loop-init g c = (record {
   begun = c.requires.engine;
   logs = [];
   state = state_of c.args.scenario.now;
@@ -19,7 +19,7 @@ loop-reported-init g c = record {
   stands = c.requires.engine;
   counted = c.engines_stand.ensures.counted _ _ c.requires.engine;
   alive = c.engines_stand.ensures.alive _ _ c.requires.engine;
-}
+}, record { scenario = refl; lines = refl; reported = refl; })
 
 pub returns-in_err-lines : goal.returns-in_err-lines
 returns-in_err-lines g c =
@@ -31,29 +31,32 @@ returns-in_err-lines g c =
           (c.engines_stand.ensures.counted _ _ c.requires.engine));
     }
 
-pub loop-reported-preserved : goal.loop-reported-preserved
-loop-reported-preserved g c = c.in_ok-report_frame.ensures.ok _ _ c.loop-reported.invariant
 
 pub returns-in_err-report_frame : goal.returns-in_err-report_frame
 returns-in_err-report_frame g c =
     let r = c.from_residual-in_err-report_frame in
     let passed = err_from_is_err_and r.result r.ensures.1 in
-    record { leaves = rw (passed.1 ∙ ap ended passed.2) (c.in_err-report_frame.ensures.leaves _ _ c.loop-reported.invariant) }
+    let same = c.loop.invariant.1 in
+    record {
+      leaves = rw (passed.1 ∙ ap ended passed.2)
+          ((rw (same.scenario, same.reported) at c.in_err-report_frame.ensures.leaves) _ _ c.loop.invariant.0);
+    }
 
 pub returns-in-Ok : goal.returns-in-Ok
 returns-in-Ok g c =
     let put = c.put_accounts.ensures in
+    let same = c.loop.invariant.1 in
     record {
-      leaves = readers_done _ _ _ _ _ _ _ _ _ c.loop-reported.invariant _ c.as_slice-in-Ok.result.now
-          (omega (arith, ap length c.as_slice-reported-end.ensures.items))
-          (λ u stands. c.as_slice-in-Ok.ensures.value ∙ c.in-Ok.ensures.accounts u stands) _
+      leaves = readers_done _ _ _ _ _ _ _ _ _ c.loop.invariant.0 _ c.as_slice.result.now
+          (omega (arith, ap length c.as_slice-items.ensures.items))
+          (λ u stands. c.as_slice.ensures.value ∙ c.in-Ok.ensures.accounts u stands) _
           (c.engines_stand.ensures.since _ (state_of c.args.scenario.now) c.requires.engine).complete
-          put.ok put.quiet put.prefix put.write put.memory put.faults;
+          (rw same.scenario at put.ok) put.quiet (rw same.scenario at put.prefix) put.write put.memory put.faults;
     }
 
 pub returns : goal.returns
 returns g c = record {
-  leaves = no_memory_for_accounts _ _ _ _ _ _ _ _ _ c.loop-reported.invariant _ _
-      (omega (arith, ap length c.as_slice-reported-end.ensures.items)) c.in-Err.is
+  leaves = no_memory_for_accounts _ _ _ _ _ _ _ _ _ c.loop.invariant.0 _ _
+      (omega (arith, ap length c.as_slice-items.ensures.items)) c.in-Err.is
       (λ e. c.accounts.ensures.spoiled.0 e) c.accounts.ensures.no_bad_order;
 }
