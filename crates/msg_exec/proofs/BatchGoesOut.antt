@@ -2,7 +2,7 @@
 use Rattle.std.proofs.Common.{◌≡◌, ℕ, ◌<◌, true, List, [], ◌∷◌, ◌++◌, length, refl, ap, ◌∙◌, arith, All, Contains, IsSome, is_some, slice_get, ◌≢◌, ◌+◌, AllPairs, get_or, sym, take}
 use Rattle.std.proofs.lemmas.{Bool.cases_Bool, Bool.cases_eq, Bool.or_left, List.get_or-set_other, List.length-set, Slice.Zip.AllZip-right, Option.get_or_from_slice_get, Option.slice_get_within, List.Elements.Contains-get_or, List.Elements.Contains-append_left, List.Elements.All-contains, List.Elements.Contains-push, Slice.Zip.all_zipped_more, List.take_more}
 use Rattle.msg_exec.proofs.{ItemsOfLists.some_of, BatchWritesApart.any_more, BatchWritesApart.earlier_write_not, BatchWritesApart.others_write_not, BatchWritesApart.written_is_used, BatchWritesApart.each_before, BatchWritesApart.Free}
-use Rattle.msg_world.specs.Prelude.{IsHome, Part, PartsStand, slot, writes, Values}
+use Rattle.msg_world.specs.{declared.part.Part.Part, Prelude.IsHome, Prelude.PartsStand, Prelude.slot, Prelude.writes, Prelude.Values}
 use Rattle.msg_order.specs.Prelude.{NoneConflict, access_of}
 use Rattle.msg_system.specs.Prelude.{Meaning}
 use Rattle.msg_exec.specs.Prelude.{JobView, Lender, LenderStands, MayRun, system_at}

@@ -3,7 +3,7 @@ use Rattle.std.proofs.Common.{◌≡◌, ℕ, ◌<◌, ◌||◌, false, List, []
 use Rattle.std.proofs.Math.Bool.{or-false, or_assoc}
 use Rattle.std.proofs.lemmas.{Bool.and_from, Bool.false_from_ne_true, Bool.or_right, List.get_or-take, List.get_or_default, List.length-take-le, List.Elements.All-contains, List.Elements.All-head, List.Elements.All-tail}
 use Rattle.msg_world.specs.declared.access.Access.{Access}
-use Rattle.msg_world.specs.Prelude.{Part, Conflict, reads, uses, writes}
+use Rattle.msg_world.specs.{declared.part.Part.Part, Prelude.Conflict, Prelude.reads, Prelude.uses, Prelude.writes}
 use Rattle.msg_order.specs.Prelude.{NoneConflict, access_of}
 use Rattle.msg_exec.specs.inner.SystemsOut.{any_writes}
 use Rattle.msg_frames.proofs.ElementsAndPairs.{pairs_head, pairs_tail}

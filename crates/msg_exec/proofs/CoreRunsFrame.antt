@@ -5,7 +5,7 @@ use Rattle.std.proofs.lemmas.{Bool.lt-leb, Bool.Decides.nat_tests, List.FromFn.f
 use Rattle.msg_order.specs.Prelude.{IsLawfulOrder, PlanView}
 use Rattle.msg_system.specs.declared.reply.Reply.{Reply}
 use Rattle.msg_system.specs.Prelude.{Meaning}
-use Rattle.msg_exec.specs.Prelude.{AreJoins, Core, CoreStands, Lender, LenderStands, Schedule}
+use Rattle.msg_exec.specs.Prelude.{AreJoins, Core, CoreStands, Lender, LenderStands, FixedParts}
 use Rattle.msg_frames.specs.{declared.frame.Frame.Frame}
 use Rattle.msg_exec.specs.{inner.FrameSteps.HasLeft, inner.FrameSteps.HasOpened, inner.FrameSteps.NobodyJoins, inner.FrameSteps.one_frame_more, inner.SystemsOut.HaveReadNothing, inner.FrameSteps.PlansNext}
 use Rattle.msg_frames.specs.Prelude.{FrameStaysSound, IsLawfulFor, IsSoundState, SameSystems, State, after_joining, before_turns, frame, has_begun, join_flags}
@@ -14,13 +14,13 @@ use Rattle.msg_frames.proofs.{Functions.plan_order, Functions.plan_turns, System
 use Rattle.msg_frames.proofs.{SystemsStay.accesses_stay, SystemsStay.before_keeps, SystemsStay.joined_stay, SystemsStay.joining_keeps, SystemsStay.joining_makes_no_frame, SystemsStay.turns_keep_systems, SystemsStay.turns_make_no_frame}
 use Rattle.msg_world.specs.Prelude.{Values}
 
--- ---- the schedule
+-- ---- what no frame changes
 
 module _ {V : Type 0} {values : Values V} where
-  -- the schedule of a core is that of a later core and state with the same joins, rules and systems
-  pub schedule_along : {S : Type 0} {c d : Core S V} {s u : State values} → d.joins ≡ c.joins → d.rules ≡ c.rules
-      → SameSystems s u → Schedule c s → Schedule d u
-  schedule_along {s = s} {u} joins rules same has = record {
+  -- the fixed parts of a core is that of a later core and state with the same joins, rules and systems
+  pub fixed_along : {S : Type 0} {c d : Core S V} {s u : State values} → d.joins ≡ c.joins → d.rules ≡ c.rules
+      → SameSystems s u → FixedParts c s → FixedParts d u
+  fixed_along {s = s} {u} joins rules same has = record {
     joins = rw joins (grind (arith, has.joins, same.members));
     rules = rw (rules, same.rules) has.rules;
     few = rw same.systems has.few;
@@ -79,7 +79,7 @@ module _ {S V : Type 0} {values : Values V} (meaning : S → Meaning V) where
           told = told;
           stands = record {
             lender = lender;
-            schedule = schedule_along refl refl same has.schedule;
+            fixed = fixed_along refl refl same has.fixed;
             plan = rw (accesses, same.rules, joined_stay bt _ same (turns_make_no_frame order bt)) has.plan;
             sound = stays f s sound;
           };

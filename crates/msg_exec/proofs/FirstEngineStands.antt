@@ -2,7 +2,7 @@
 use Rattle.std.proofs.Common.{◌≡◌, ℕ, ◌<◌, ◌≤◌, Bool, true, false, List, length, map, Option, Some, None, refl, sym, ap, ◌∙◌, arith, inl, inr, le_refl, replicate, slice_get, take, slice_index_or}
 use Rattle.std.proofs.lemmas.{Bool.cases_lt, Bool.false≢true, List.get_or-map, List.get_or-replicate, List.get_or_past, List.get_or-take, List.length-map, Option.get_or_from_slice_get, Option.slice_get-get_or, List.map-id, Simd.map-map}
 use Rattle.std.specs.Global.{Box, Vec}
-use Rattle.msg_world.specs.Prelude.{Has, HasPart, IsWhole, OfResource, OfType, Part, Parts, PartsStand, Registry, WorldState, Values}
+use Rattle.msg_world.specs.{declared.part.Part.Part, declared.part.Part.TheVariants.OfResource, declared.part.Part.TheVariants.OfType, declared.part.Part.TheVariants.Registry, Prelude.Has, Prelude.HasPart, Prelude.IsWhole, Prelude.Parts, Prelude.PartsStand, Prelude.WorldState, Prelude.Values}
 use Rattle.msg_world.specs.declared.limits.TheConstants.{MAX_RESOURCES, MAX_SYSTEMS, MAX_TYPES}
 use Rattle.msg_order.specs.declared.rule.Rule.{Rule}
 use Rattle.msg_order.specs.Prelude.{FewerSystemsMakeNoCycle, IsAcyclic, NameSystemsBelow, access_of, edges_of, rules_among}
@@ -10,9 +10,9 @@ use Rattle.msg_system.specs.Prelude.{Meaning, new_asked}
 use Rattle.msg_order.proofs.SetPaths.{all_rules}
 use Rattle.msg_system.proofs.AccessesUseNeeds.{uses_needs}
 use Rattle.msg_frames.specs.declared.place.Place.{Place}
-use Rattle.msg_exec.specs.Prelude.{AreJoins, Core, EachIs, GuardedSystem, Lender, LenderStands, MayBeAdded, Schedule}
+use Rattle.msg_exec.specs.Prelude.{AreJoins, Core, EachIs, GuardedSystem, Lender, LenderStands, MayBeAdded, FixedParts}
 use Rattle.msg_exec.specs.{declared.building.Prepared.Prepared, inner.EngineParts.IsPreparedFor, inner.EngineParts.IsGuardedAt, inner.SystemsOut.HaveReadNothing}
-use Rattle.msg_frames.specs.Prelude.{AreNew, nobody, nowhere, before_joining, State}
+use Rattle.msg_frames.specs.Prelude.{AreNew, default_system, default_place, before_joining, State}
 use Rattle.msg_exec.proofs.ItemsOfLists.{item_at}
 use Rattle.msg_system.specs.declared.condition.Condition.{Condition}
 
@@ -29,8 +29,8 @@ module _ {S V : Type 0} (meaning : S → Meaning V) where
       place : Place V
       sx : slice_get systems i ≡ Some x
       sp : slice_get places i ≡ Some place
-      is : slice_index_or (map meaning systems) i nobody ≡ meaning x
-      at : slice_index_or places i nowhere ≡ place
+      is : slice_index_or (map meaning systems) i default_system ≡ meaning x
+      at : slice_index_or places i default_place ≡ place
       may : MayBeAdded meaning world places i x
 
     found : (i : ℕ) → i < length systems → Found i
@@ -42,8 +42,8 @@ module _ {S V : Type 0} (meaning : S → Meaning V) where
           place = q.0;
           sx = x.1;
           sp = q.1;
-          is = get_or-map meaning systems i x.0 nobody lt ∙ ap meaning (get_or_from_slice_get systems i x.0 x.0 x.1);
-          at = get_or_from_slice_get places i q.0 nowhere q.1;
+          is = get_or-map meaning systems i x.0 default_system lt ∙ ap meaning (get_or_from_slice_get systems i x.0 x.0 x.1);
+          at = get_or_from_slice_get places i q.0 default_place q.1;
           may = each i x.0 x.1;
         }
 
@@ -87,7 +87,7 @@ module _ {S V : Type 0} (meaning : S → Meaning V) where
             λ i t joins. elim (cases_lt i (length systems)) [
               | inl lt ↦ (let f = found i lt in ap (λ (m : Meaning V). m.places t) f.is ∙ f.may.new.places t)
               | inr past ↦ ap (λ (m : Meaning V). m.places t)
-                  (get_or_past (map meaning systems) i nobody (omega (arith, past, n)))
+                  (get_or_past (map meaning systems) i default_system (omega (arith, past, n)))
             ],
           )
 
@@ -113,10 +113,10 @@ module _ {S V : Type 0} (meaning : S → Meaning V) where
           rw (get_or_from_slice_get places k f.place d f.sp) (f.may.joins f.place f.sp).0;
     }
 
-    -- the schedule of a new engine
-    pub schedule_first : {values : Values V} (c : Core S V) (rules : List Rule) (w : WorldState values) → length systems ≤ MAX_SYSTEMS
-        → NameSystemsBelow (length systems) rules → c.rules.items ≡ rules → AreJoins c.joins.items (first rules w) → Schedule c (first rules w)
-    schedule_first c rules w few named same joins =
+    -- the fixed parts of a new engine
+    pub fixed_first : {values : Values V} (c : Core S V) (rules : List Rule) (w : WorldState values) → length systems ≤ MAX_SYSTEMS
+        → NameSystemsBelow (length systems) rules → c.rules.items ≡ rules → AreJoins c.joins.items (first rules w) → FixedParts c (first rules w)
+    fixed_first c rules w few named same joins =
         let n : length (map meaning systems) ≡ length systems = length-map systems meaning in
         record {
           joins = joins;

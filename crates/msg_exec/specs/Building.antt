@@ -1,6 +1,6 @@
 -- What a new engine is made of, and when there is none.
 use Rattle.std.specs.Prelude.{◌≡◌, ℕ, ◌+◌, ◌<◌, ◌≤◌, List, [], ◌∷◌, length, Some, slice_get, IsTrue}
-use Rattle.msg_world.specs.{Prelude.Has, Prelude.Part, Prelude.Parts, declared.limits.TheConstants.MAX_SYSTEMS}
+use Rattle.msg_world.specs.{Prelude.Has, declared.part.Part.Part, Prelude.Parts, declared.limits.TheConstants.MAX_SYSTEMS}
 use Rattle.msg_order.specs.declared.rule.Rule.{Rule}
 use Rattle.msg_order.specs.Prelude.{IsAcyclic, IsLowestOnCycle, NameSystemsBelow, edges_of}
 use Rattle.msg_system.specs.Prelude.{HasClash, Meaning, needs_any, with_conditions}

@@ -19,7 +19,7 @@ module _ {V : Type 0} {values : Values V} where
 module _ {S V : Type 0} {values : Values V} where
   -- The parts of a core that no frame changes are what the state says, and keep to the bounds of an
   -- engine.
-  pub record Schedule (c : Core S V) (s : State values) : Type 0 where
+  pub record FixedParts (c : Core S V) (s : State values) : Type 0 where
     pub joins : AreJoins c.joins.items s
     pub rules : c.rules.items ≡ s.rules
     pub few : s.systems ≤ MAX_SYSTEMS
@@ -30,6 +30,6 @@ module _ {S V : Type 0} {values : Values V} (meaning : S → Meaning V) where
   -- Part by part, the core is what the state says, and the state is sound.
   pub record CoreStands (c : Core S V) (s : State values) : Type 0 where
     pub lender : LenderStands meaning c.lender s
-    pub schedule : Schedule c s
+    pub fixed : FixedParts c s
     pub plan : IsPlanOf c.lender.accesses.items s.rules (join_flags s) c.plan
     pub sound : IsSoundState s

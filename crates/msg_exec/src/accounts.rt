@@ -2,7 +2,7 @@
 ghost use Rattle.std.specs.Prelude.{◌≡◌, ◌<◌, ◌++◌, ◌^◌, IfSome, OnOk, IfOk, length};
 ghost use Rattle.msg_buffer.specs.Prelude.{History, StandsFor as BufferStandsFor, count};
 ghost use Rattle.msg_world.specs.declared.record.Record.{Record};
-ghost use Rattle.msg_world.specs.Prelude.{OfType, slot};
+ghost use Rattle.msg_world.specs.{declared.part.Part.TheVariants.OfType, Prelude.slot};
 ghost use Rattle.msg_frames.specs.Prelude.{State, account_of, accounts_of, accounts_of_system};
 ghost use Rattle.msg_exec.specs.Prelude.{CoreStands, capped_totals};
 

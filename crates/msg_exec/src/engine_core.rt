@@ -95,7 +95,7 @@ pub(crate) fn next_plan<V: Value, S: SystemOf<Value = V>>(
 }
 
 /// Starts those that join with the next frame, and takes the plan of it.
-fn begin<V: Value, S: SystemOf<Value = V>>(
+fn join_next<V: Value, S: SystemOf<Value = V>>(
     alloc: Global,
     core: &mut Core<S, V>,
     frames: u32,
@@ -115,7 +115,7 @@ fn begin<V: Value, S: SystemOf<Value = V>>(
 
 /// Opens the next frame: those that join do so, the types are updated, and the host's posts are
 /// written. Gives what they were answered.
-pub(crate) fn open<V: Value, S: SystemOf<Value = V>>(
+pub(crate) fn open_frame<V: Value, S: SystemOf<Value = V>>(
     alloc: Global,
     core: &mut Core<S, V>,
     frames: u32,
@@ -127,7 +127,7 @@ pub(crate) fn open<V: Value, S: SystemOf<Value = V>>(
     ensures opened { IfOk result (λ posts. (s : State V.values) → CoreStands S.meaning core.old s
         → frames ≡ frame_count s → HasOpened S.meaning frame.now s core.new posts.items) }
 {
-    begin(alloc, core, frames)?;
+    join_next(alloc, core, frames)?;
     core.lender.world.update_all();
     let posts = frame.posts.as_slice();
     let mut replies = Vec::with_capacity(alloc, posts.len())?;
@@ -159,7 +159,7 @@ pub(crate) fn run_one<
         (turn_order_in log)) }
 {
     states_stay_sound::<V>();
-    let posts = open(crew.alloc, core, frames, frame)?;
+    let posts = open_frame(crew.alloc, core, frames, frame)?;
     let batches = core.plan.batches();
     let turns = run_batches(crew, &mut core.lender, batches, spares)?;
     Ok(Log {

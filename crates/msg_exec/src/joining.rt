@@ -21,7 +21,7 @@ fn start_guards<V: Value>(guards: &mut [Guard<V>], counts: &Counts, start: Start
 }
 
 /// Sets the cursors of a system and of its conditions to where they start.
-fn start<V: Value, S: SystemOf<Value = V>>(guarded: &mut GuardedSystem<S, V>, counts: &Counts)
+fn start_job<V: Value, S: SystemOf<Value = V>>(guarded: &mut GuardedSystem<S, V>, counts: &Counts)
     ensures begun { job_state S.meaning guarded.new
         ≡ job_begun counts.now (job_state S.meaning guarded.old) }
 {
@@ -31,7 +31,7 @@ fn start<V: Value, S: SystemOf<Value = V>>(guarded: &mut GuardedSystem<S, V>, co
 }
 
 /// Where a cursor of a type starts.
-fn place_of(start: Start, counts: &Counts, t: TypeNo) -> u64
+fn start_place(start: Start, counts: &Counts, t: TypeNo) -> u64
     ensures place { result ≡ start_place start counts.now t }
 {
     match start {
@@ -49,14 +49,18 @@ fn first_place<V: Value, S: SystemOf<Value = V>>(system: &S, counts: &Counts, t:
         unreachable!()
     };
     if system.access().reads_type(t) {
-        place_of(system.begins(), counts, t)
+        start_place(system.begins(), counts, t)
     } else {
         0
     }
 }
 
 /// Opens the accounts of a system where its cursors start.
-fn open<V: Value, S: SystemOf<Value = V>>(system: &S, counts: &Counts, totals: &mut [Totals])
+fn open_accounts<V: Value, S: SystemOf<Value = V>>(
+    system: &S,
+    counts: &Counts,
+    totals: &mut [Totals],
+)
     requires few { length totals.old ≤ MAX_TYPES }
     ensures as_many { length totals.new ≡ length totals.old }
     ensures opened { (t : ℕ) → t < length totals.old → totals_at totals.new t
@@ -73,7 +77,7 @@ fn open<V: Value, S: SystemOf<Value = V>>(system: &S, counts: &Counts, totals: &
 }
 
 /// Starts a system, and opens its accounts.
-fn begin<V: Value, S: SystemOf<Value = V>>(
+fn join_one<V: Value, S: SystemOf<Value = V>>(
     slot: &mut Option<Box<GuardedSystem<S, V>>>,
     counts: &Counts,
     totals: &mut [Totals],
@@ -86,8 +90,8 @@ fn begin<V: Value, S: SystemOf<Value = V>>(
         ≡ totals_from (first_place (S.meaning a.value.system) counts.now t)) }
 {
     if let Some(mut guarded) = slot.take() {
-        start(&mut guarded, counts);
-        open(&guarded.system, counts, totals);
+        start_job(&mut guarded, counts);
+        open_accounts(&guarded.system, counts, totals);
         *slot = Some(guarded);
     }
 }
@@ -112,6 +116,6 @@ pub(crate) fn join_those<V: Value, S: SystemOf<Value = V>>(
         if joins[i] != frame {
             continue;
         }
-        begin(&mut lender.systems[i], &counts, &mut lender.totals[i]);
+        join_one(&mut lender.systems[i], &counts, &mut lender.totals[i]);
     }
 }

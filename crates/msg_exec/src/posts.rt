@@ -2,7 +2,7 @@
 ghost use Rattle.std.specs.Prelude.{◌≡◌, ◌<◌, ◌≤◌, ◌∷◌, [], All, IfOk, IsSome, OnErr, OnOk, length, vec_capacity};
 ghost use Rattle.msg_buffer.specs.Prelude.{write};
 ghost use Rattle.msg_world.specs.declared.record.TheConstants.{HOST};
-ghost use Rattle.msg_world.specs.Prelude.{IsWhole, OfType, PartsStand, SameShape, WorldState, by, slot, with_history};
+ghost use Rattle.msg_world.specs.{declared.part.Part.TheVariants.OfType, Prelude.IsWhole, Prelude.PartsStand, Prelude.SameShape, Prelude.WorldState, Prelude.by, Prelude.slot, Prelude.with_history};
 ghost use Rattle.msg_system.specs.Prelude.{numbers_for, write_reply};
 ghost use Rattle.msg_frames.specs.Prelude.{after_posts, post_replies};
 ghost use Rattle.msg_exec.specs.inner.Posts.{HasRoom, SomeFindsRoom};

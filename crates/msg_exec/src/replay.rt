@@ -6,7 +6,7 @@ ghost use Rattle.msg_exec.specs.inner.FrameSteps.{HasLeft, IsReplay};
 ghost use Rattle.msg_frames.specs.Prelude.{IsLawfulFor, State};
 
 use crate::batch::run_turns;
-use crate::engine_core::{Core, next_plan, open};
+use crate::engine_core::{Core, next_plan, open_frame};
 use crate::spares::Spares;
 use crate::{Frame, Items, Log, NoGate, NoMemory};
 use msg_frames::laws::frames_agree_in_lawful_orders;
@@ -56,7 +56,7 @@ pub(crate) fn replay_one<V: Value, S: SystemOf<Value = V>>(
 {
     states_stay_sound::<V>();
     frames_agree_in_lawful_orders::<V>();
-    let posts = open(alloc, core, frames, frame)?;
+    let posts = open_frame(alloc, core, frames, frame)?;
     let mut turns = spares.turns(alloc, order.len())?;
     run_turns(alloc, &mut core.lender, order, &NoGate, spares, &mut turns)?;
     Ok(Log {

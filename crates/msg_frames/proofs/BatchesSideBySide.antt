@@ -2,7 +2,7 @@
 use Rattle.std.proofs.Common.{◌≡◌, ◌≢◌, ℕ, suc, ◌<◌, List, [], ◌∷◌, ◌++◌, map, slice_index_or, refl, arith, All, AllPairs}
 use Rattle.std.specs.List.{concat}
 use Rattle.std.proofs.lemmas.{Bool.cases_Bool, List.Elements.All-tail, Bool.Decides.eqb_tells}
-use Rattle.msg_world.specs.{Prelude.Conflict, Prelude.Part, Prelude.merge, declared.access.Access.Access, Prelude.Values}
+use Rattle.msg_world.specs.{Prelude.Conflict, declared.part.Part.Part, Prelude.merge, declared.access.Access.Access, Prelude.Values}
 use Rattle.msg_world.proofs.Loans.{content_merged}
 use Rattle.msg_order.specs.Prelude.{NoneConflict, access_of}
 use Rattle.msg_system.specs.Prelude.{Agree, JobFootprint, needs_any}

@@ -1,7 +1,7 @@
 -- Turns of systems whose accesses don't conflict can be swapped.
 use Rattle.std.proofs.Common.{arith, ◌≡◌, ◌≢◌, ◌∙◌, ap, List, Option, ℕ, false, sym, ne_eqb, IsTrue}
 use Rattle.std.proofs.lemmas.{Bool.and_from, Bool.cases_Bool, Bool.Decides.eqb_tells}
-use Rattle.msg_world.specs.{Prelude.Conflict, Prelude.OfResource, Prelude.OfType, Prelude.Part, Prelude.Registry, Prelude.WorldState, Prelude.content, declared.access.Access.Access, Prelude.Values}
+use Rattle.msg_world.specs.{Prelude.Conflict, declared.part.Part.TheVariants.OfResource, declared.part.Part.TheVariants.OfType, declared.part.Part.Part, declared.part.Part.TheVariants.Registry, Prelude.WorldState, Prelude.content, declared.access.Access.Access, Prelude.Values}
 use Rattle.msg_system.specs.Prelude.{AfterJob, HasFootprint, IsAccessOf, Job, after_job, JobFootprint, Needs, needs_any}
 use Rattle.msg_system.specs.declared.reply.Reply.{Reply}
 use Rattle.msg_frames.proofs.EntriesOfSteps.{job_logged, outcome_entries}

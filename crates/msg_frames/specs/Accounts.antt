@@ -1,7 +1,7 @@
 -- What callers see of what each reader was given.
 use Rattle.std.specs.Prelude.{◌≡◌, ℕ, ◌+◌, Bool, List, map, flat_map, unwrap_or}
 use Rattle.std.specs.List.{filter, range_with_len}
-use Rattle.msg_world.specs.Prelude.{OfType, Values}
+use Rattle.msg_world.specs.{declared.part.Part.TheVariants.OfType, Prelude.Values}
 use Rattle.msg_frames.specs.{declared.account.Account.Account, declared.totals.Totals.Totals, Frames.State, Moments.reader_place}
 
 module _ {V : Type 0} {values : Values V} where

@@ -3,7 +3,7 @@
 use Rattle.std.specs.Prelude.{ℕ, ◌+◌, ◌-◌, false, Bool, List, [], ◌++◌, length, flat_map, Option, Some, None, is_some, option_to_list, if◌then◌else◌}
 use Rattle.std.specs.List.{range_with_len}
 use Rattle.msg_buffer.specs.Prelude.{Stretch}
-use Rattle.msg_world.specs.{Prelude.OfType, Prelude.same_part, declared.record.Record.Record, Prelude.Values}
+use Rattle.msg_world.specs.{declared.part.Part.TheVariants.OfType, Prelude.same_part, declared.record.Record.Record, Prelude.Values}
 use Rattle.msg_system.specs.{Prelude.Step, Prelude.op_parts, declared.op.Op.Op, declared.reply.Reply.Reply, declared.reply.Reply.TheVariants.Read, declared.reply.Reply.TheVariants.Cleared, declared.reply.Reply.TheVariants.Forwarded, declared.reply.Reply.TheVariants.Summed, declared.reply.Took.Took}
 use Rattle.msg_frames.specs.{declared.totals.Totals.Totals}
 

@@ -7,12 +7,12 @@ use Rattle.msg_frames.specs.{declared.place.Place.Place, Entries.no_totals, Fram
 
 module _ {V : Type 0} where
   -- the default for a number that is no system's: no ops, writer 0
-  abbrev pub nobody : Meaning V
-  nobody = new_system (record { ops = []; start = Zero }) 0
+  abbrev pub default_system : Meaning V
+  default_system = new_system (record { ops = []; start = Zero }) 0
 
   -- the default for a number that is no place's: no conditions, join frame 1
-  abbrev pub nowhere : Place V
-  nowhere = record { conditions = []; join = 1 }
+  abbrev pub default_place : Place V
+  default_place = record { conditions = []; join = 1 }
 
 -- it writes as this number, and was given nothing
 pub record IsNew {V : Type 0} (i : ℕ) (m : Meaning V) : Type 0 where
@@ -36,7 +36,7 @@ module _ {V : Type 0} {values : Values V} where
   before_joining systems places rules types world = record {
     systems = length systems;
     members =
-        λ i. waiting_member (slice_index_or systems i nobody) (slice_index_or places i nowhere);
+        λ i. waiting_member (slice_index_or systems i default_system) (slice_index_or places i default_place);
     rules = rules;
     types = types;
     world = world;

@@ -2,7 +2,7 @@
 use Rattle.std.specs.Prelude.{◌≡◌, ℕ, suc, ◌<◌, ◌==◌, List, [], ◌∷◌, ◌++◌, ◌&&◌, ◌||◌, IsTrue, length, map, Option, Some, None, if◌then◌else◌, max, nat_le, Bool}
 use Rattle.std.specs.List.{list_any, range_with_len}
 use Rattle.msg_buffer.specs.Prelude.{count, write}
-use Rattle.msg_world.specs.{Prelude.WorldState, Prelude.after_update, Prelude.by, Prelude.with_history, Prelude.HasPart, Prelude.Part, Prelude.OfType, Prelude.OfResource, Prelude.Registry, declared.access.Access.Access, declared.limits.TheConstants.MAX_RESOURCES, declared.limits.TheConstants.MAX_TYPES, declared.record.TheConstants.HOST, Prelude.Values}
+use Rattle.msg_world.specs.{Prelude.WorldState, Prelude.after_update, Prelude.by, Prelude.with_history, Prelude.HasPart, declared.part.Part.Part, declared.part.Part.TheVariants.OfType, declared.part.Part.TheVariants.OfResource, declared.part.Part.TheVariants.Registry, declared.access.Access.Access, declared.limits.TheConstants.MAX_RESOURCES, declared.limits.TheConstants.MAX_TYPES, declared.record.TheConstants.HOST, Prelude.Values}
 use Rattle.msg_order.specs.{Prelude.Graph, Prelude.access_of, Prelude.settled, Prelude.turns, declared.rule.Rule.Rule}
 use Rattle.msg_system.specs.{declared.reply.Reply.Reply, declared.op.Op.TheVariants.Write}
 use Rattle.msg_system.specs.Prelude.{AfterJob, Step, IsAccessOf, Job, Needs, after_job, asked_started, needs_any, numbers_for, after_start, with_conditions, write_reply}

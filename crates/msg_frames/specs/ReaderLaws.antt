@@ -5,7 +5,7 @@ use Rattle.msg_buffer.specs.Prelude.{IsSound}
 use Rattle.msg_order.specs.declared.rule.Rule.{Rule}
 use Rattle.msg_world.specs.Prelude.{WorldState, Values}
 use Rattle.msg_system.specs.Prelude.{Meaning}
-use Rattle.msg_frames.specs.{declared.frame.Frame.Frame, declared.log.Log.Log, declared.place.Place.Place, Entries.no_totals, Entries.totals_from, Entries.with_entries, Frames.frame, Frames.run, Frames.State, Frames.UsesParts, Frames.has_begun, FirstState.IsNew, FirstState.before_joining, FirstState.first_state, FirstState.nobody, Replays.TellsTheSame, Soundness.IsBalanced, Steps.AreAnswered, Soundness.IsSoundState, Soundness.NoCycle, CompleteRun.IsCompleteRun, CompleteRun.entries_in_run, Fates.answers_in, Moments.found_at, Moments.reader_place}
+use Rattle.msg_frames.specs.{declared.frame.Frame.Frame, declared.log.Log.Log, declared.place.Place.Place, Entries.no_totals, Entries.totals_from, Entries.with_entries, Frames.frame, Frames.run, Frames.State, Frames.UsesParts, Frames.has_begun, FirstState.IsNew, FirstState.before_joining, FirstState.first_state, FirstState.default_system, Replays.TellsTheSame, Soundness.IsBalanced, Steps.AreAnswered, Soundness.IsSoundState, Soundness.NoCycle, CompleteRun.IsCompleteRun, CompleteRun.entries_in_run, Fates.answers_in, Moments.found_at, Moments.reader_place}
 
 -- ---- soundness
 
@@ -28,7 +28,7 @@ pub record AreNew {V : Type 0} {values : Values V} (systems : List (Meaning V))
   pub uses : UsesParts (before_joining systems places rules types world)
   pub no_cycle : NoCycle (before_joining systems places rules types world)
   pub histories : (t : ℕ) → t < types → IsSound (world.histories t)
-  pub new : EachIndex systems (λ i. IsNew i (slice_index_or systems i nobody))
+  pub new : EachIndex systems (λ i. IsNew i (slice_index_or systems i default_system))
   pub joins : All (λ place. 1 ≤ place.join) places
 
 -- The first state of new systems over a sound world is sound.

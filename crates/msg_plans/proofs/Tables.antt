@@ -3,13 +3,13 @@ use Rattle.std.proofs.Common.{◌≡◌, ℕ, zero, suc, ◌+◌, ◌<◌, Bool,
 use Rattle.std.specs.List.{concat, enumerate_from}
 use Rattle.std.proofs.lemmas.{Bool.cases_lt, Bool.false≢true, List.take_more, List.get_or_past, List.length-map, List.get_or-take, List.get_or-replicate, List.Elements.All-tail, List.FromFn.fill_by_all, List.FromFn.length-enumerate_from, Nat.Bits.bit_at-zero, Simd.map-map}
 use Rattle.std.proofs.lemmas.List.{map-id}
-use Rattle.msg_world.specs.Prelude.{HasPart, OfResource, OfType, Part, Registry, no_access, i64_values}
+use Rattle.msg_world.specs.{declared.part.Part.Part, declared.part.Part.TheVariants.OfResource, declared.part.Part.TheVariants.OfType, declared.part.Part.TheVariants.Registry, Prelude.HasPart, Prelude.no_access, Prelude.i64_values}
 use Rattle.msg_world.specs.declared.access.Access.{Access}
 use Rattle.msg_system.specs.Prelude.{IsAccessOf, Meaning, Needs, needs_any, new_asked, new_system, with_conditions}
 use Rattle.msg_order.specs.Prelude.{IsAcyclic, IsPlanOf, NameSystemsBelow, access_of, edges_of, rules_among}
 use Rattle.msg_order.specs.declared.rule.Rule.{Rule}
 use Rattle.msg_order.proofs.{PathTest.from_Path, PathTest.to_Path, SetPaths.all_rules, SettledOrders.fewer_make_none}
-use Rattle.msg_frames.specs.Prelude.{AreAccessesOf, SameSystems, State, UsesParts, before_joining, has_begun, join_flags, member_needs, nobody, nowhere, waiting_member}
+use Rattle.msg_frames.specs.Prelude.{AreAccessesOf, SameSystems, State, UsesParts, before_joining, has_begun, join_flags, member_needs, default_system, default_place, waiting_member}
 use Rattle.msg_frames.specs.TurnLaws.{SameMember}
 use Rattle.msg_frames.specs.Frames.{Member}
 use Rattle.msg_frames.specs.declared.place.Place.{Place}
@@ -46,8 +46,8 @@ one_each (x ∷ xs) (b ∷ bs) are = ap suc (one_each xs bs are.1)
 -- what system i of these needs, the first of which has number n
 abbrev needs_from : ℕ → List SystemSpec → ℕ → Needs
 needs_from n xs i =
-    with_conditions (slice_index_or (map (λ x. new_system x.1.program x.0) (enumerate_from n xs)) i nobody).needs
-    (slice_index_or (map (λ x. x.place) xs) i nowhere).conditions
+    with_conditions (slice_index_or (map (λ x. new_system x.1.program x.0) (enumerate_from n xs)) i default_system).needs
+    (slice_index_or (map (λ x. x.place) xs) i default_place).conditions
 
 nobody_needs : (n i : ℕ) (p : Part) → ((needs_from n [] i).reads p ≡ false) × ((needs_from n [] i).writes p ≡ false)
 nobody_needs n i (OfType t) = grind arith
@@ -82,7 +82,7 @@ within_from P n (x ∷ xs) each (suc i) p needed =
 -- ---- who has joined
 
 flags_from : (k : ℕ) (xs : List SystemSpec) (i : ℕ) → i < length xs
-    → get_or (joined_by xs k) i false ≡ nat_le (slice_index_or (map (λ x. x.place) xs) i nowhere).join k
+    → get_or (joined_by xs k) i false ≡ nat_le (slice_index_or (map (λ x. x.place) xs) i default_place).join k
 flags_from k [] i lt = absurd (omega arith)
 flags_from k (x ∷ xs) zero lt = refl
 flags_from k (x ∷ xs) (suc i) lt = flags_from k xs i (omega (arith, lt))
@@ -121,7 +121,7 @@ module _ (s : Scenario) where
   unfolding needs_in
   needs_are i =
       needs_stay (early.members i) ((state_of s).members i) (joined.members i)
-      ∙ waiting_needs (slice_index_or (meanings_of s) i nobody) (slice_index_or (places_of s) i nowhere)
+      ∙ waiting_needs (slice_index_or (meanings_of s) i default_system) (slice_index_or (places_of s) i default_place)
 
   access_is : (bs : List Access) → AreAccesses s.systems bs → (i : ℕ) → IsAccessOf (needs_in s i) (access_of bs i)
   access_is bs are i = rw (needs_are i) (access_from 0 s.systems bs are i)

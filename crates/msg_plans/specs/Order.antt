@@ -2,7 +2,7 @@
 -- frame, by the model's settled order.
 use Rattle.std.specs.Prelude.{ℕ, ◌∷◌, ◌++◌, Bool, false, not, ◌&&◌, ◌||◌, ◌==◌, List, [], Option, filter, find, length, map, option_to_list, slice_get}
 use Rattle.std.specs.List.{concat, list_any, range_with_len}
-use Rattle.msg_world.specs.Prelude.{OfResource, OfType, Part, Registry, i64_values}
+use Rattle.msg_world.specs.{declared.part.Part.Part, declared.part.Part.TheVariants.OfResource, declared.part.Part.TheVariants.OfType, declared.part.Part.TheVariants.Registry, Prelude.i64_values}
 use Rattle.msg_system.specs.Prelude.{Needs, needs_any}
 use Rattle.msg_order.specs.Prelude.{batches, path}
 use Rattle.msg_frames.specs.Prelude.{State, join_flags, member_needs}

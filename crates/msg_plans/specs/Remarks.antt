@@ -1,7 +1,7 @@
 -- What is remarked of a scenario that can be run: what its author may not have meant.
 use Rattle.std.specs.Prelude.{ℕ, ◌++◌, ◌&&◌, ◌||◌, ◌==◌, not, nat_lt, Bool, false, List, [], Option, find, flat_map, length, slice_get, codes, decimal, if◌then◌else◌, ℤ}
 use Rattle.std.specs.{List.list_any, List.range_with_len, Option.option_map_or}
-use Rattle.msg_world.specs.Prelude.{OfResource, OfType}
+use Rattle.msg_world.specs.{declared.part.Part.TheVariants.OfResource, declared.part.Part.TheVariants.OfType}
 use Rattle.msg_system.specs.Prelude.{needs_any, program_needs}
 use Rattle.msg_text.specs.Prelude.{Text}
 use Rattle.msg_frames.specs.declared.frame.Frame.{Frame}

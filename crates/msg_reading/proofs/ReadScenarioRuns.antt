@@ -2,7 +2,7 @@
 use Rattle.std.proofs.Common.{◌≡◌, ℕ, ℤ, ◌+◌, ◌≤◌, ◌<◌, List, length, refl, Option, Some, Ok, arith, All, IfOk, IsTrue, option_and_then}
 use Rattle.std.proofs.lemmas.{Grind.common_steps, Result.IfOk-at_ok}
 use Rattle.serde_json.specs.{Data.Data, Data.number, Data.unsigned, Find.as_i64}
-use Rattle.msg_world.specs.Prelude.{HasPart, Part}
+use Rattle.msg_world.specs.{declared.part.Part.Part, Prelude.HasPart}
 use Rattle.msg_system.specs.Prelude.{job_needs, needs_any}
 use Rattle.msg_system.specs.{declared.condition.Condition.Condition, declared.op.Op.Op}
 use Rattle.msg_order.specs.Prelude.{IsAcyclic, NameSystemsBelow, edges_of}

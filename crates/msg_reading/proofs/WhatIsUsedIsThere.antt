@@ -3,7 +3,7 @@ use Rattle.std.proofs.Common.{◌≡◌, ℕ, ℤ, ◌<◌, List, [], ◌∷◌,
 use Rattle.std.proofs.lemmas.{Bool.eqb-true, List.Elements.All-head, List.Elements.All-tail, List.Elements.All-weaker, List.Quantifiers.position-Some, Result.IfOk-at_ok}
 use Rattle.std.specs.{List.list_any, Str.bytes_eq}
 use Rattle.serde_json.specs.Data.{Data}
-use Rattle.msg_world.specs.Prelude.{HasPart, Part}
+use Rattle.msg_world.specs.{declared.part.Part.Part, Prelude.HasPart}
 use Rattle.msg_system.specs.Prelude.{is_part, job_needs, needs_any, op_parts, probe_part}
 use Rattle.msg_system.specs.{declared.condition.Condition.Condition, declared.condition.Probe.Probe, declared.op.Op.Op}
 use Rattle.msg_order.specs.declared.rule.Rule.{Rule}

@@ -45,7 +45,7 @@ fn world_of(alloc: Global, scenario: &Scenario) -> Result<World, NoMemory>
     Ok(world)
 }
 
-fn place_of(alloc: Global, place: &Place) -> Result<Place, NoMemory>
+fn copy_place(alloc: Global, place: &Place) -> Result<Place, NoMemory>
     ensures equal { IfOk result (λ p. p ≡ place.now) }
 {
     let conditions = Vec::from_slice(alloc, place.conditions.as_slice())?;
@@ -61,7 +61,7 @@ fn places_of(alloc: Global, scenario: &Scenario) -> Result<Vec<Place>, NoMemory>
 {
     let mut places = Vec::new(alloc);
     for system in scenario.systems.as_slice() {
-        places.push(place_of(alloc, &system.place)?)?;
+        places.push(copy_place(alloc, &system.place)?)?;
     }
     Ok(places)
 }

@@ -10,4 +10,4 @@ pub use msg_plans::{Cause, Clash, Form, User, add_unfit, clash_of, put_plan, rou
 pub use msg_reading::{check_scenario, read_scenario, read_sections};
 pub use msg_reports::{add_system, engine_of, report, run_scenario};
 pub use msg_scenario_data::{Kind, Name, Scenario, SystemSpec};
-pub use msg_text::{MemorySink, PutFault, ROOM, ReportFault, Sink, StdSink, put_all};
+pub use msg_text::{CAPACITY, MemorySink, PutFault, ReportFault, Sink, StdSink, put_all};

@@ -1,7 +1,7 @@
 -- The state that an engine of a scenario begins in, and what every scenario that was read keeps to.
 use Rattle.std.specs.Prelude.{◌≤◌, ◌<◌, IsTrue, All, Bool, true, false, List, [], ◌∷◌, length, map, if◌then◌else◌, ℤ}
 use Rattle.std.specs.List.{enumerate_from}
-use Rattle.msg_world.specs.Prelude.{HasPart, Part, WorldState, held_world, new_world, i64_values}
+use Rattle.msg_world.specs.{declared.part.Part.Part, Prelude.HasPart, Prelude.WorldState, Prelude.held_world, Prelude.new_world, Prelude.i64_values}
 use Rattle.msg_order.specs.Prelude.{IsAcyclic, NameSystemsBelow, edges_of}
 use Rattle.msg_system.specs.Prelude.{HasClash, Meaning, job_needs, needs_any, new_system, program_needs}
 use Rattle.msg_frames.specs.Prelude.{State, first_state}

@@ -1,6 +1,6 @@
 // Whether a scenario can be run.
 ghost use Rattle.std.specs.Prelude.{◌≤◌, ◌↔◌, All, IsTrue, length};
-ghost use Rattle.msg_world.specs.Prelude.{HasPart, Part};
+ghost use Rattle.msg_world.specs.{declared.part.Part.Part, Prelude.HasPart};
 ghost use Rattle.msg_order.specs.Prelude.{IsAcyclic, NameSystemsBelow, edges_of};
 ghost use Rattle.msg_system.specs.Prelude.{job_needs, needs_any};
 ghost use Rattle.msg_scenario_data.specs.Prelude.{IsRunnable, IsRunnableSystem, PostsAreToTypes};

@@ -1,6 +1,6 @@
 -- An access uses what is needed.
 use Rattle.std.proofs.Common.{◌≡◌, ◌||◌, ◌↔◌}
-use Rattle.msg_world.specs.{Prelude.IsClash, Prelude.Part, Prelude.uses, declared.access.Access.Access}
+use Rattle.msg_world.specs.{Prelude.IsClash, declared.part.Part.Part, Prelude.uses, declared.access.Access.Access}
 use Rattle.msg_system.specs.Prelude.{HasClash, IsAccessOf, Needs, needs_any}
 
 -- it uses what is needed, and nothing else

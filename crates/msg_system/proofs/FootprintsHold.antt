@@ -2,7 +2,7 @@
 use Rattle.std.proofs.Common.{◌≡◌, ℕ, zero, suc, Bool, false, List, [], ◌∷◌, length, map, Option, None, Some, refl, ap, ◌∙◌, arith, IfSome, IsTrue, nat_lt}
 use Rattle.std.proofs.{Math.Bool.or-false, Math.Path.fun_ext, lemmas.Bool.cases_Bool, lemmas.Bool.false≢true, lemmas.Bool.or_left, lemmas.Bool.or_right}
 use Rattle.msg_buffer.specs.Prelude.{History, count, unread}
-use Rattle.msg_world.specs.Prelude.{OfResource, OfType, Part, Registry, WorldState, content, Values}
+use Rattle.msg_world.specs.{declared.part.Part.Part, declared.part.Part.TheVariants.OfResource, declared.part.Part.TheVariants.OfType, declared.part.Part.TheVariants.Registry, Prelude.WorldState, Prelude.content, Prelude.Values}
 use Rattle.msg_world.specs.declared.record.Record.{Record}
 use Rattle.msg_system.specs.declared.limits.TheConstants.{MAX_OPS}
 use Rattle.msg_system.specs.Prelude.{AfterProgram, Agree, Asked, ConditionFootprint, HasFootprint, IsWithin, Job, JobFootprint, Meaning, OnMessage, Op, OpFootprint, Probe, Program, ProgramFootprint, Reply, ResourceEquals, TurnFootprint, Zero, after_asking, after_at_most, after_op, all_hold, conditions_of, probe_answer, given_by_program, is_part, needs_any, next_op, of_program, one_more, op_needs, op_parts, place_after, probe_part, some_condition_reads, turn, with_conditions}

@@ -3,7 +3,7 @@ use Rattle.std.proofs.Common.{◌≡◌, ℕ, List, [], ◌∷◌, map, Some, re
 use Rattle.std.specs.List.{AllZip}
 use Rattle.std.proofs.lemmas.{Bool.cases_Bool, Bool.cases_lt, Bool.false≢true, Grind.common_steps, Bool.Decides.nat_tests}
 use Rattle.msg_buffer.specs.Prelude.{Kept, StandsFor}
-use Rattle.msg_world.specs.{Prelude.LoanStands, Prelude.OfResource, Prelude.OfType, Prelude.Part, Prelude.WorldState, Prelude.shown, Prelude.writable, declared.lent.Lent.Lent, declared.record.Record.Record, Prelude.Values}
+use Rattle.msg_world.specs.{Prelude.LoanStands, declared.part.Part.TheVariants.OfResource, declared.part.Part.TheVariants.OfType, declared.part.Part.Part, Prelude.WorldState, Prelude.shown, Prelude.writable, declared.lent.Lent.Lent, declared.record.Record.Record, Prelude.Values}
 
 -- what may be written is shown
 pub writable_is_shown : {V : Type 0} (p : Part) (l : Lent V) → IsSome (writable p l) → shown p l ≡ writable p l

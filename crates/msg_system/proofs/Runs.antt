@@ -1,7 +1,7 @@
 -- Runs of ops and of programs, from one op to the next.
 use Rattle.std.proofs.Common.{◌≡◌, ℕ, ◌<◌, ◌++◌, true, List, [], ◌∷◌, length, Some, get_or, refl, ap, arith, append_assoc, IsSome, slice_set}
 use Rattle.std.proofs.lemmas.{Bool.cases_eq, Bool.eq-eqb, Bool.ne_eqb, List.get_or_default, List.get_or-set_same, List.get_or-set_other}
-use Rattle.msg_world.specs.{Prelude.Part, Prelude.SameLoan, Prelude.WorldState, Prelude.same_part, Prelude.shown, Prelude.writable, declared.limits.TheConstants.MAX_TYPES, declared.lent.Lent.Lent, Prelude.Values}
+use Rattle.msg_world.specs.{declared.part.Part.Part, Prelude.SameLoan, Prelude.WorldState, Prelude.same_part, Prelude.shown, Prelude.writable, declared.limits.TheConstants.MAX_TYPES, declared.lent.Lent.Lent, Prelude.Values}
 use Rattle.msg_system.specs.Prelude.{AfterOp, AfterProgram, Step, Covers, Cursors, Op, OpRan, Reply, after_op, after_program, one_more, op_needs, op_parts, cursor_places, with_place}
 use Rattle.msg_system.specs.inner.TurnRuns.{IsAfterProgram}
 

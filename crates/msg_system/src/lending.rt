@@ -2,7 +2,7 @@
 ghost use Rattle.std.specs.Prelude.{◌≡◌, ◌<◌, [], ◌∷◌, IfOk, OnErr, OnOk, IsSome, length, map};
 ghost use Rattle.std.specs.Fn.{FnReturnsAt};
 ghost use Rattle.msg_buffer.specs.Prelude.{StandsFor, clear, message_of, oldest, present, write};
-ghost use Rattle.msg_world.specs.Prelude.{LoanStands, OfResource, OfType, SameLoan, WorldState, shown, with_history, with_value_of, writable};
+ghost use Rattle.msg_world.specs.{declared.part.Part.TheVariants.OfResource, declared.part.Part.TheVariants.OfType, Prelude.LoanStands, Prelude.SameLoan, Prelude.WorldState, Prelude.shown, Prelude.with_history, Prelude.with_value_of, Prelude.writable};
 ghost use Rattle.msg_system.specs.Prelude.{numbers_for, sum_onto};
 
 use crate::{Items, NoMemory};

@@ -13,6 +13,7 @@ mod limits;
 mod numbered;
 mod one_op;
 mod op;
+mod op_parts;
 mod program;
 mod reading;
 mod relay;

@@ -1,8 +1,9 @@
-ghost use Rattle.std.specs.Prelude.{◌≡◌, ◌||◌, ◌<◌, ℕ, List, IfOk, OnErr, OnOk, length};
-ghost use Rattle.msg_world.specs.Prelude.{Part, reads, writes};
+ghost use Rattle.std.specs.Prelude.{◌≡◌, ◌≢◌, ◌||◌, ◌<◌, ℕ, List, Some, IfOk, OnErr, OnOk, length};
+ghost use Rattle.msg_world.specs.{declared.part.Part.Part as PartView, declared.part.Part.TheVariants.Registry, Prelude.reads, Prelude.writes};
 
+use crate::op_parts::OpParts;
 use crate::{Access, Cursors, Items, NoMemory, Reply, steps};
-use msg_world::{Lent, ResNo, TypeNo, Value};
+use msg_world::{Lent, Part, ResNo, TypeNo, Value};
 use std::alloc::Global;
 
 /// One step of a program. All reading ops of one type in a program share one place.
@@ -40,19 +41,38 @@ pub enum Op<V = i64> {
 
 impl<V: Value> Op<V> {
     ghost use Rattle.msg_world.specs.Prelude.{SameLoan};
-    ghost use Rattle.msg_system.specs.{Needs.keeps_to, Needs.needs_of, Needs.op_needs, Needs.type_read, Needs.type_written, OpRuns.MayBeRefused, OpRuns.OpRan, OpRuns.cursor_places, Promises.Covers};
+    ghost use Rattle.msg_system.specs.{Needs.keeps_to, Needs.needs_of, Needs.op_needs, Needs.op_parts, Needs.type_read, Needs.type_written, OpRuns.MayBeRefused, OpRuns.OpRan, OpRuns.cursor_places, Promises.Covers};
+
+    /// The part that it reads, and the part that it writes.
+    fn parts(&self) -> OpParts
+        ensures parts { result ≡ op_parts self.now }
+        ensures signals { result.read ≢ Some Registry }
+    {
+        let (read, written) = match self {
+            Op::Write(t, _) => (None, Some(Part::OfType(*t))),
+            Op::Batch(t, _) => (None, Some(Part::OfType(*t))),
+            Op::Read(t, _) => (Some(Part::OfType(*t)), None),
+            Op::Len(t) => (Some(Part::OfType(*t)), None),
+            Op::Missed(t) => (Some(Part::OfType(*t)), None),
+            Op::Clear(t) => (Some(Part::OfType(*t)), None),
+            Op::Forward(t, u) => (Some(Part::OfType(*t)), Some(Part::OfType(*u))),
+            Op::Sum(t, r) => (Some(Part::OfType(*t)), Some(Part::OfResource(*r))),
+            Op::Get(r) => (Some(Part::OfResource(*r)), None),
+            Op::Set(r, _) => (None, Some(Part::OfResource(*r))),
+            Op::Add(r, _) => (None, Some(Part::OfResource(*r))),
+            Op::Drain(t) => (None, Some(Part::OfType(*t))),
+            Op::Signal => (None, Some(Part::Registry)),
+        };
+        OpParts { read, written }
+    }
 
     /// The type that it reads.
     pub fn read_type(&self) -> Option<TypeNo>
         ensures type_read { result ≡ type_read self.now }
     {
-        match self {
-            Op::Read(t, _) => Some(*t),
-            Op::Len(t) => Some(*t),
-            Op::Missed(t) => Some(*t),
-            Op::Clear(t) => Some(*t),
-            Op::Forward(t, _) => Some(*t),
-            Op::Sum(t, _) => Some(*t),
+        let parts = self.parts();
+        match &parts.read {
+            Some(Part::OfType(t)) => Some(*t),
             _ => None,
         }
     }
@@ -61,11 +81,9 @@ impl<V: Value> Op<V> {
     pub fn write_type(&self) -> Option<TypeNo>
         ensures type_written { result ≡ type_written self.now }
     {
-        match self {
-            Op::Write(t, _) => Some(*t),
-            Op::Batch(t, _) => Some(*t),
-            Op::Forward(_, u) => Some(*u),
-            Op::Drain(t) => Some(*t),
+        let parts = self.parts();
+        match &parts.written {
+            Some(Part::OfType(t)) => Some(*t),
             _ => None,
         }
     }
@@ -74,45 +92,17 @@ impl<V: Value> Op<V> {
     pub fn keeps_to(&self, access: &Access) -> bool
         ensures keeps { result ≡ keeps_to (needs_of access.now) self.now }
     {
-        match self {
-            Op::Write(t, _) => access.writes_type(*t),
-            Op::Batch(t, _) => access.writes_type(*t),
-            Op::Read(t, _) => access.reads_type(*t),
-            Op::Len(t) => access.reads_type(*t),
-            Op::Missed(t) => access.reads_type(*t),
-            Op::Clear(t) => access.reads_type(*t),
-            Op::Forward(t, u) => access.reads_type(*t) && access.writes_type(*u),
-            Op::Sum(t, r) => access.reads_type(*t) && access.writes_res(*r),
-            Op::Get(r) => access.reads_res(*r) || access.writes_res(*r),
-            Op::Set(r, _) => access.writes_res(*r),
-            Op::Add(r, _) => access.writes_res(*r),
-            Op::Drain(t) => access.writes_type(*t),
-            Op::Signal => access.registry,
-        }
+        self.parts().are_in(access)
     }
 
     /// An access with what this op uses beside.
     pub(crate) fn added_to(&self, access: Access) -> Access
-        ensures reads { (p : Part)
+        ensures reads { (p : PartView)
             → reads result p ≡ ((op_needs self.now).reads p || reads access p) }
-        ensures writes { (p : Part)
+        ensures writes { (p : PartView)
             → writes result p ≡ ((op_needs self.now).writes p || writes access p) }
     {
-        match self {
-            Op::Write(t, _) => access.with_write_type(*t),
-            Op::Batch(t, _) => access.with_write_type(*t),
-            Op::Read(t, _) => access.with_read_type(*t),
-            Op::Len(t) => access.with_read_type(*t),
-            Op::Missed(t) => access.with_read_type(*t),
-            Op::Clear(t) => access.with_read_type(*t),
-            Op::Forward(t, u) => access.with_read_type(*t).with_write_type(*u),
-            Op::Sum(t, r) => access.with_read_type(*t).with_write_res(*r),
-            Op::Get(r) => access.with_read_res(*r),
-            Op::Set(r, _) => access.with_write_res(*r),
-            Op::Add(r, _) => access.with_write_res(*r),
-            Op::Drain(t) => access.with_write_type(*t),
-            Op::Signal => access.with_registry(),
-        }
+        self.parts().added_to(access)
     }
 
     /// Does this op on a loan that covers it, for the system that has these cursors and writes as

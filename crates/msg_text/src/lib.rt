@@ -7,7 +7,7 @@ mod report_fault;
 mod sink;
 mod std_sink;
 
-pub use memory_sink::{MemorySink, ROOM};
+pub use memory_sink::{CAPACITY, MemorySink};
 pub use msg_buffer::NoMemory;
 pub use msg_world::RunFault;
 pub use report_fault::ReportFault;

@@ -6,9 +6,9 @@ use crate::sink::{PutFault, Sink};
 use std::marker::Model;
 
 /// How many bytes a sink in memory has room for.
-pub const ROOM: usize = 65536;
+pub const CAPACITY: usize = 65536;
 
-/// A sink in memory, of a fixed size, `ROOM`. A put takes what there is room for; once the sink is
+/// A sink in memory, of a fixed size, `CAPACITY`. A put takes what there is room for; once the sink is
 /// full, a put of one byte or more fails.
 #[derive(Drop)]
 pub struct MemorySink {
@@ -59,15 +59,15 @@ impl Sink for MemorySink {
         ensures bytes { WriteAppends (Some self.old.contents) (Some self.new.contents)
             result piece.now }
         ensures counts { self.new.failures ≡ failures_after self.old.failures result piece.now }
-        ensures takes { length self.old.contents < ROOM
-            → result ≡ Ok (min (length piece.now) (ROOM - length self.old.contents)) }
+        ensures takes { length self.old.contents < CAPACITY
+            → result ≡ Ok (min (length piece.now) (CAPACITY - length self.old.contents)) }
         ensures nothing { piece.now ≡ [] → result ≡ Ok 0 }
-        ensures full { length self.old.contents ≡ ROOM → 0 < length piece.now → IsErr result }
+        ensures full { length self.old.contents ≡ CAPACITY → 0 < length piece.now → IsErr result }
     {
         if piece.is_empty() {
             return Ok(0);
         }
-        let room = ROOM - self.len;
+        let room = CAPACITY - self.len;
         if room == 0 {
             self.failed = self.failed.saturating_add(1);
             return Err(PutFault);

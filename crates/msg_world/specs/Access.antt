@@ -2,12 +2,8 @@
 use Rattle.std.specs.Prelude.{ℕ, ◌<◌, Bool, true, false, ◌&&◌, ◌||◌, ◌==◌, ◌⊎◌, IsTrue}
 use Rattle.std.specs.Int.{bit_at}
 use Rattle.msg_world.specs.declared.access.Access.{Access}
-
--- a part of the world: a message type, a resource, or the registry of signals
-pub data Part : Type 0 where
-  OfType : ℕ → Part
-  OfResource : ℕ → Part
-  Registry : Part
+pub use Rattle.msg_world.specs.declared.part.Part.{Part}
+pub use Rattle.msg_world.specs.declared.part.Part.TheVariants.{OfType, OfResource, Registry}
 
 -- the part is one of so many types and resources, or the registry
 abbrev pub HasPart : ℕ → ℕ → Part → Type 0

@@ -35,7 +35,7 @@ impl<T> Model for MovedParts<T> {
 }
 
 /// The place of the first part of a slot.
-fn place_of<T>(parts: &[Moved<T>], slot: usize) -> Option<usize>
+fn index_of<T>(parts: &[Moved<T>], slot: usize) -> Option<usize>
     ensures found { IfSome result (IsFirstOf slot parts.now) }
     ensures none { IfNone result (NoneOf slot parts.now) }
 {
@@ -153,7 +153,7 @@ impl<T> MovedParts<T> {
     pub(crate) fn get(&self, slot: usize) -> Option<&T>
         ensures held { option_copied result ≡ at self.now slot }
     {
-        let place = place_of(&self.parts, slot)?;
+        let place = index_of(&self.parts, slot)?;
         Some(&self.parts[place].part)
     }
 
@@ -162,7 +162,7 @@ impl<T> MovedParts<T> {
         ensures* writes_back { sem 𝓛 (LendsPart T.row self.entry slot result) }
         ensures held { option_copied_mut result ≡ at self.old slot }
     {
-        let place = place_of(&self.parts, slot)?;
+        let place = index_of(&self.parts, slot)?;
         match self.parts.get_mut(place) {
             Some(moved) => Some(&mut moved.part),
             None => None,

@@ -4,7 +4,7 @@ use Rattle.msg_order.specs.Prelude.{IsPlanOf, PlanView}
 use Rattle.msg_system.specs.declared.reply.Reply.{Reply}
 use Rattle.msg_system.specs.Prelude.{Meaning}
 use Rattle.msg_world.specs.Prelude.{after_update, Values}
-use Rattle.msg_exec.specs.{declared.engine_core.Core.Core, Lender.LenderStands, Cores.CoreStands, Cores.Schedule}
+use Rattle.msg_exec.specs.{declared.engine_core.Core.Core, Lender.LenderStands, Cores.CoreStands, Cores.FixedParts}
 use Rattle.msg_frames.specs.{declared.frame.Frame.Frame, declared.log.Log.Log}
 use Rattle.msg_frames.specs.Prelude.{IsLawfulFor, TellsTheSame, before_turns, after_joining, post_replies, State, frame, join_flags, turn_order_in}
 
@@ -42,7 +42,7 @@ module _ {S V : Type 0} {values : Values V} (meaning : S → Meaning V) where
   -- those that join with the next frame have joined, and the plan is that of the next frame
   pub record HasBegunFrame (c : Core S V) (s : State values) : Type 0 where
     pub lender : LenderStands meaning c.lender (after_joining s)
-    pub schedule : Schedule c (after_joining s)
+    pub fixed : FixedParts c (after_joining s)
     pub plan : IsPlanOf c.lender.accesses.items (after_joining s).rules
         (join_flags (one_frame_more (after_joining s))) c.plan
 
@@ -50,7 +50,7 @@ module _ {S V : Type 0} {values : Values V} (meaning : S → Meaning V) where
   pub record HasOpened (frame : Frame V) (s : State values) (c : Core S V)
       (replies : List (Reply V)) : Type 0 where
     pub lender : LenderStands meaning c.lender (before_turns frame.posts s)
-    pub schedule : Schedule c (before_turns frame.posts s)
+    pub fixed : FixedParts c (before_turns frame.posts s)
     pub plan : IsPlanOf c.lender.accesses.items (before_turns frame.posts s).rules
         (join_flags (before_turns frame.posts s)) c.plan
     pub posts : replies ≡ post_replies frame.posts (after_update s.world)

@@ -1,7 +1,7 @@
 -- What is added to totals, and where they begin.
 use Rattle.std.specs.Prelude.{ℕ, ◌≤◌, ◌==◌, List, [], length, None, Some, option_to_list, ⊤, if◌then◌else◌}
 use Rattle.msg_system.specs.{declared.limits.TheConstants.MAX_OPS, declared.op.Op.Op, declared.reply.Reply.Reply}
-use Rattle.msg_world.specs.Prelude.{OfType}
+use Rattle.msg_world.specs.{declared.part.Part.TheVariants.OfType}
 use Rattle.msg_system.specs.Prelude.{Meaning, start_place, type_read_by}
 use Rattle.msg_frames.specs.{declared.log.Outcome.Outcome, declared.log.Outcome.TheVariants.Skipped, declared.log.Outcome.TheVariants.Ran}
 use Rattle.msg_frames.specs.Prelude.{ReadEntry, entries_for, entry_of}

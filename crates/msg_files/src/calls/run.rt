@@ -12,7 +12,7 @@ use msg_text::{ReportFault, Sink, put_text};
 use std::alloc::Global;
 
 /// How many bytes are gathered before they are put.
-const FULL: usize = 65536;
+const FLUSH_BYTES: usize = 65536;
 
 /// Makes the calls of a file on a new buffer, and puts the line of each into the sink.
 ///
@@ -89,7 +89,7 @@ fn answer_next<S: Sink>(
     }
 }
 
-/// Adds a line to the gathered bytes. If there are `FULL` of them or more, or no memory for the
+/// Adds a line to the gathered bytes. If there are `FLUSH_BYTES` of them or more, or no memory for the
 /// line, it puts them into the sink, and then the line.
 fn gather<S: Sink>(gathered: &mut Vec<u8>, line: &[u8], sink: &mut S) -> Result<(), ReportFault>
     ensures ok { OnOk result (TakesFront (S.contents sink.old) (S.contents sink.new)
@@ -113,5 +113,5 @@ fn add_where_room(gathered: &mut Vec<u8>, line: &[u8]) -> bool
     ensures { gathered.new.items
         ≡ (if result then gathered.old.items ++ line.now else gathered.old.items) }
 {
-    gathered.len() < FULL && gathered.extend_from_slice(line).is_ok()
+    gathered.len() < FLUSH_BYTES && gathered.extend_from_slice(line).is_ok()
 }

@@ -1,7 +1,7 @@
 use Rattle.std.proofs.Common.{arith, ◌<◌, ◌^◌}
 use Rattle.std.proofs.lemmas.Bool.{false≢true}
 use Rattle.msg_buffer.specs.Prelude.{count}
-use Rattle.msg_world.specs.Prelude.{OfType}
+use Rattle.msg_world.specs.{declared.part.Part.TheVariants.OfType}
 use Rattle.msg_exec.proofs.AccountsTell.{adds_up}
 use Rattle.msg_exec.proofs.accounts.account.Goals as goal
 

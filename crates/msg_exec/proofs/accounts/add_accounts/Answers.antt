@@ -1,7 +1,7 @@
 use Rattle.std.proofs.Common.{refl, ◌≡◌, ◌<◌, None, ap, sym, ◌∙◌, arith}
 use Rattle.std.proofs.lemmas.List.{get_or_default}
 use Rattle.msg_order.proofs.Elements.{filter_drops}
-use Rattle.msg_world.specs.Prelude.{OfType}
+use Rattle.msg_world.specs.{declared.part.Part.TheVariants.OfType}
 use Rattle.msg_system.specs.Prelude.{Job}
 use Rattle.msg_frames.specs.Prelude.{is_reader, no_totals}
 use Rattle.msg_exec.proofs.{SystemAfterTurn.totals_there, AccountsTell.reader_more, accounts.add_accounts.Goals.then-reads_type+in_ok-push, accounts.add_accounts.Goals.else-reads_type}

@@ -33,7 +33,7 @@ run_batches-requires-clause-apart g c κs within =
 pub returns : goal.returns
 returns g c =
     let frame = c.args.frame.now in
-    let order = concat c.open.new.core.plan.batches in
+    let order = concat c.open_frame.new.core.plan.batches in
     let replies = c.in_ok-posts.posts.items in
     let turns = rw c.batches-batches.ensures.items at c.in_ok-turns.ensures in
     record {

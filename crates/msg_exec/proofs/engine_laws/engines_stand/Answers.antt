@@ -12,6 +12,6 @@ returns g c =
       since = λ e s stands. since_none m c.runs_are_complete.ensures.law e s stands;
       writers = λ e s stands i lt.
           let core = (core_of m e s stands).1.1 in
-          (core.sound.writers i lt, omega (arith, lt, core.schedule.few));
+          (core.sound.writers i lt, omega (arith, lt, core.fixed.few));
       sound = λ e s stands. (core_of m e s stands).1.1.sound;
     }

@@ -25,8 +25,8 @@ loop-i-preserved-then-joins-i g c =
       world = inv.world;
     }
 
-pub begin-requires : goal.begin-requires
-begin-requires g c =
+pub join_one-requires : goal.join_one-requires
+join_one-requires g c =
     let (s, (stands, joins, fresh)) = c.requires.stands in
     let now = c.loop-i.invariant.so_far s stands joins fresh in
     let its = totals_there g.S.SystemOf.meaning now c.index_mut-in-loop-i.ensures.value
@@ -46,14 +46,14 @@ loop-i-preserved g c =
           let m = g.S.SystemOf.meaning in
           let lender = c.loop-i.lender in
           let cs = c.counts-counts.result in
-          let x = c.begin.new.slot in
+          let x = c.join_one.new.slot in
           let member : Member g.row.V.Denot = s.members i in
           let far = c.loop-i.invariant.so_far s stands joins fresh in
           let its = totals_there m far c.index_mut-in-loop-i.ensures.value lt in
-          let w = with_items c.index_mut-in-loop-i.result.now c.begin.new.totals in
-          let read : w.items ≡ c.begin.new.totals =
-          with_items_is c.index_mut-in-loop-i.result.now c.begin.new.totals
-          (omega (arith, c.begin.ensures.as_many, c.deref_mut.ensures.len)) in
+          let w = with_items c.index_mut-in-loop-i.result.now c.join_one.new.totals in
+          let read : w.items ≡ c.join_one.new.totals =
+          with_items_is c.index_mut-in-loop-i.result.now c.join_one.new.totals
+          (omega (arith, c.join_one.ensures.as_many, c.deref_mut.ensures.len)) in
           let many : length w.items ≡ s.types = grind (arith, its.as_many, read) in
           let slot = c.index_mut.result.now in
           let there : slice_index_or lender.systems.items i None ≡ slot =
@@ -64,8 +64,8 @@ loop-i-preserved g c =
           (c.counts-counts.ensures.types ∙ stands.types) (λ k lt. grind (arith, get_or_from_slice_get)) in
           let here = rw (le-ltb i i (omega arith)) at (far.members i lt) in
           let a = some_under _ (λ (b : Box (GuardedSystem g.row.S.Denot g.row.V.Denot)). b.value) slot (rw there at here.guarded) in
-          let b = some_of x (rw a.1.0 at c.begin.ensures.begun) in
-          let opened = rw a.1.0 at c.begin.ensures.opened in
+          let b = some_of x (rw a.1.0 at c.join_one.ensures.begun) in
+          let opened = rw a.1.0 at c.join_one.ensures.opened in
           let joined : (s.members i).join ≡ c.args.frame = sym (joins.each i lt) ∙ c.if-joins-i.false in
           record {
             systems = rw length-set far.systems;
@@ -79,7 +79,7 @@ loop-i-preserved g c =
                 home = here.home;
                 totals = rw (get_same lender.totals.items i w (omega (arith, lt, far.totals))) (record {
                   as_many = many;
-                  each = λ t below. rw read (opened t (rw (← c.begin.ensures.as_many, ← read, many) below)
+                  each = λ t below. rw read (opened t (rw (← c.join_one.ensures.as_many, ← read, many) below)
                       ∙ ap (λ (j : JobState g.row.V.Denot). totals_from (first_place j.system cs t)) a.1.1
                       ∙ rw (fresh i t joined) refl);
                 });

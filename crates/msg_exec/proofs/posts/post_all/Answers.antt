@@ -1,6 +1,6 @@
 use Rattle.std.proofs.Common.{ℕ, ◌∙◌, refl, arith, take}
 use Rattle.std.proofs.lemmas.{List.length_push, List.take_all, List.take_more, Option.slice_get_read}
-use Rattle.msg_world.specs.Prelude.{OfType}
+use Rattle.msg_world.specs.{declared.part.Part.TheVariants.OfType}
 use Rattle.msg_frames.specs.Prelude.{after_posts}
 use Rattle.msg_exec.proofs.PostsAreWritten.{if_refused, posted_more, replies_more}
 use Rattle.msg_exec.proofs.posts.post_all.Goals as goal

@@ -1,5 +1,5 @@
 use Rattle.std.proofs.Common.{◌≡◌, ◌&&◌, drop, find}
-use Rattle.msg_world.specs.Prelude.{OfType}
+use Rattle.msg_world.specs.{declared.part.Part.TheVariants.OfType}
 use Rattle.msg_plans.specs.Order.{needs_in, precedes}
 use Rattle.msg_plans.specs.Remarks.{everybody}
 use Rattle.msg_plans.proofs.remarks.late_for.Given as goal

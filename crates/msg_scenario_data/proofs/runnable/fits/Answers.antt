@@ -1,5 +1,5 @@
 use Rattle.std.proofs.Common.{arith, sym, ◌∙◌}
-use Rattle.msg_world.specs.Prelude.{OfType, OfResource}
+use Rattle.msg_world.specs.{declared.part.Part.TheVariants.OfType, declared.part.Part.TheVariants.OfResource}
 use Rattle.msg_system.specs.Prelude.{program_needs}
 use Rattle.msg_system.proofs.AccessesUseNeeds.{uses_needs}
 use Rattle.msg_scenario_data.proofs.runnable.fits.Goals as goal

@@ -1,4 +1,4 @@
-use Rattle.msg_world.specs.Prelude.{OfType}
+use Rattle.msg_world.specs.{declared.part.Part.TheVariants.OfType}
 use Rattle.msg_system.proofs.lending.messages_of.Goals as goal
 
 pub returns : goal.returns

@@ -1,4 +1,4 @@
-use Rattle.msg_world.specs.Prelude.{OfResource}
+use Rattle.msg_world.specs.{declared.part.Part.TheVariants.OfResource}
 use Rattle.msg_system.proofs.lending.value_of.Goals as goal
 
 pub returns : goal.returns

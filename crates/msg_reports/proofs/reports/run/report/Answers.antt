@@ -6,20 +6,23 @@ use Rattle.msg_reports.proofs.{TextsByPieces.zip-nil, Reporting.ended, Reporting
 use Rattle.msg_reports.proofs.reports.run.report.Goals as goal
 
 pub loop-init : goal.loop-init
-loop-init g c = (record {
-  begun = c.requires.engine;
-  logs = [];
-  state = state_of c.args.scenario.now;
-  as_many = refl;
-  is_run = (refl, refl);
-  frames = refl;
-  types = refl;
-  printed = rw (zip-nil c.args.scenario.now.frames) (Appends-nil _);
-  quiet = refl;
-  stands = c.requires.engine;
-  counted = c.engines_stand.ensures.counted _ _ c.requires.engine;
-  alive = c.engines_stand.ensures.alive _ _ c.requires.engine;
-}, record { scenario = refl; lines = refl; reported = refl; })
+loop-init g c = (
+  record {
+    begun = c.requires.engine;
+    logs = [];
+    state = state_of c.args.scenario.now;
+    as_many = refl;
+    is_run = (refl, refl);
+    frames = refl;
+    types = refl;
+    printed = rw (zip-nil c.args.scenario.now.frames) (Appends-nil _);
+    quiet = refl;
+    stands = c.requires.engine;
+    counted = c.engines_stand.ensures.counted _ _ c.requires.engine;
+    alive = c.engines_stand.ensures.alive _ _ c.requires.engine;
+  },
+  record { scenario = refl; lines = refl; reported = refl },
+)
 
 pub returns-in_err-lines : goal.returns-in_err-lines
 returns-in_err-lines g c =
@@ -30,7 +33,6 @@ returns-in_err-lines g c =
           (stopped_before_all _ _ _ _ _ passed.0 passed.2 _ c.requires.engine
           (c.engines_stand.ensures.counted _ _ c.requires.engine));
     }
-
 
 pub returns-in_err-report_frame : goal.returns-in_err-report_frame
 returns-in_err-report_frame g c =

@@ -1,5 +1,5 @@
 use Rattle.std.proofs.{Common.inl, Common.inr, Common.arith, Common.rules, Math.Path.fun_ext, lemmas.Bool.cases_lt}
-use Rattle.msg_world.specs.{Prelude.OfType, declared.limits.TheConstants.MAX_TYPES}
+use Rattle.msg_world.specs.{declared.part.Part.TheVariants.OfType, declared.limits.TheConstants.MAX_TYPES}
 use Rattle.msg_world.proofs.Bits.{has_bit-above}
 use Rattle.msg_system.proofs.cursors.Cursors.start.Goals as goal
 

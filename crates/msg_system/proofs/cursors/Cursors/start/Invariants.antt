@@ -1,5 +1,5 @@
 use Rattle.std.proofs.Common.{◌≡◌, ◌<◌, ◌≤◌, ℕ, if◌then◌else◌}
-use Rattle.msg_world.specs.Prelude.{OfType, reads}
+use Rattle.msg_world.specs.{declared.part.Part.TheVariants.OfType, Prelude.reads}
 use Rattle.msg_system.specs.Prelude.{cursor_places, start_place}
 use Rattle.msg_system.proofs.cursors.Cursors.start.Given as goal
 

@@ -1,4 +1,4 @@
-use Rattle.msg_world.specs.Prelude.{OfResource, OfType}
+use Rattle.msg_world.specs.{declared.part.Part.TheVariants.OfResource, declared.part.Part.TheVariants.OfType}
 use Rattle.msg_system.proofs.Runs.{same_part_refl}
 use Rattle.msg_system.proofs.guard.Guard.check.Goals as goal
 

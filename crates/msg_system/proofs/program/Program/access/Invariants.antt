@@ -1,5 +1,5 @@
 use Rattle.std.proofs.Common.{◌≡◌, take}
-use Rattle.msg_world.specs.Prelude.{Part, reads, writes}
+use Rattle.msg_world.specs.{declared.part.Part.Part, Prelude.reads, Prelude.writes}
 use Rattle.msg_system.specs.Prelude.{some_op_reads, some_op_writes}
 use Rattle.msg_system.proofs.program.Program.access.Given as goal
 
