@@ -1,6 +1,6 @@
 //! Runs frames of 64 systems without a file and without text, so that one can count what the engine
-//! takes for a job: by `valgrind --tool=callgrind`, once for some frames and once for twice as many.
-//! It prints how many turns were taken, and how many messages were written and read.
+//! takes for a job: by `valgrind --tool=callgrind`, once for some frames and once for twice as
+//! many. It prints how many turns were taken, and how many messages were written and read.
 //!
 //! `frame_bench KIND FRAMES`, where KIND says what each system does in its turn: `idle` nothing,
 //! `skipped` has a condition that doesn't hold, `get` gets a resource, `len` asks for a length,

@@ -26,7 +26,10 @@ module _ {V : Type 0} where
   entry_of (Forwarded took wrote) = Some (entry_of_read took)
   entry_of (Summed took value) = Some (entry_of_read took)
   entry_of (Cleared missed first n) =
-      Some (record { stretch = record { missed = missed; first = first; number = n }; given = None })
+      Some (record {
+        stretch = record { missed = missed; first = first; number = n };
+        given = None;
+      })
   entry_of _ = None
 
   -- the op reads the type

@@ -36,7 +36,8 @@ module _ {V : Type 0} {values : Values V} where
   before_joining systems places rules types world = record {
     systems = length systems;
     members =
-        λ i. waiting_member (slice_index_or systems i default_system) (slice_index_or places i default_place);
+        λ i. waiting_member (slice_index_or systems i default_system)
+        (slice_index_or places i default_place);
     rules = rules;
     types = types;
     world = world;

@@ -93,8 +93,8 @@ pub fn what_is_written_is_read_in_time<V: Value>()
     ensures next { AllReadersHaveItNext V.values }
 {}
 
-/// A system whose program of at most `MAX_OPS` ops reads a type without limit does so if it runs; if
-/// it has joined and has no conditions, in each frame.
+/// A system whose program of at most `MAX_OPS` ops reads a type without limit does so if it runs;
+/// if it has joined and has no conditions, in each frame.
 pub fn programs_read_all<V: Value>()
     ensures law { WhoseProgramReadsAll V.values }
     ensures woken { WhoseProgramReadsAllWhenWoken V.values }

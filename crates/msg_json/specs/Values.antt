@@ -88,9 +88,11 @@ values_from n (d ∷ ds) =
     values_from (n + 1) ds >>= λ values.
     Ok (value ∷ values)
 
--- the values of a batch: at most 1,024
+-- the values of a batch: at most `MAX_VALUES`
 abbrev pub batch_of : List Data → Reading (List ℤ)
-batch_of ds = wanted (nat_le (length ds) MAX_VALUES) (reason.AtMost MAX_VALUES) >>= λ _. values_from 0 ds
+batch_of ds =
+    wanted (nat_le (length ds) MAX_VALUES) (reason.AtMost MAX_VALUES) >>= λ _.
+    values_from 0 ds
 
 -- a list of numbers that are the values of a batch
 abbrev pub values_of : Data → Reading (List ℤ)

@@ -21,7 +21,8 @@ type_number names name = option_and_then (only_below MAX_TYPES) (position_of nam
 
 -- the number of the resource of this name, which is below `MAX_RESOURCES`
 abbrev pub resource_number : Declared → Text → Option ℕ
-resource_number names name = option_and_then (only_below MAX_RESOURCES) (position_of names.resources name)
+resource_number names name =
+    option_and_then (only_below MAX_RESOURCES) (position_of names.resources name)
 
 -- the number of the system of this name, which is below `MAX_SYSTEMS`
 abbrev pub system_number : Declared → Text → Option ℕ

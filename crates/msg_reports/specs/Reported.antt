@@ -64,7 +64,8 @@ module _ {S : Type 0} (contents : S → Option (List ℕ)) (failures : S → ℕ
     pub quiet : came ≢ Err report_fault.Write → failures new ≡ failures old
 
 module _ {S : Type 0} {contents : S → Option (List ℕ)} {failures : S → ℕ} {s : Scenario}
-    {came : Result (Unit {0}) ReportFault} {old new : S} {X : Type 0} (meaning : X → Meaning ℤ) where
+    {came : Result (Unit {0}) ReportFault} {old new : S} {X : Type 0}
+    (meaning : X → Meaning ℤ) where
   -- How such a report leaves the engine that made it.
   pub record LeavesEngine (left : LeavesReport contents failures s came old new)
       (before after : EngineOf X ℤ) : Type 0 where

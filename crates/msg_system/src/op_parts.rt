@@ -36,7 +36,8 @@ impl OpParts {
     /// An access with these beside. (The registry is only ever written.)
     pub(crate) fn added_to(&self, access: Access) -> Access
         requires signals { self.now.read ≢ Some Registry }
-        ensures reads { (p : PartView) → reads result p ≡ (is_part self.now.read p || reads access p) }
+        ensures reads { (p : PartView)
+            → reads result p ≡ (is_part self.now.read p || reads access p) }
         ensures writes { (p : PartView)
             → writes result p ≡ (is_part self.now.written p || writes access p) }
     {

@@ -8,8 +8,8 @@ use std::marker::Model;
 /// How many bytes a sink in memory has room for.
 pub const CAPACITY: usize = 65536;
 
-/// A sink in memory, of a fixed size, `CAPACITY`. A put takes what there is room for; once the sink is
-/// full, a put of one byte or more fails.
+/// A sink in memory, of a fixed size, `CAPACITY`. A put takes what there is room for; once the sink
+/// is full, a put of one byte or more fails.
 #[derive(Drop)]
 pub struct MemorySink {
     bytes: [u8; 65536],

@@ -89,8 +89,8 @@ fn answer_next<S: Sink>(
     }
 }
 
-/// Adds a line to the gathered bytes. If there are `FLUSH_BYTES` of them or more, or no memory for the
-/// line, it puts them into the sink, and then the line.
+/// Adds a line to the gathered bytes. If there are `FLUSH_BYTES` of them or more, or no memory for
+/// the line, it puts them into the sink, and then the line.
 fn gather<S: Sink>(gathered: &mut Vec<u8>, line: &[u8], sink: &mut S) -> Result<(), ReportFault>
     ensures ok { OnOk result (TakesFront (S.contents sink.old) (S.contents sink.new)
         (gathered.old.items ++ line.now) gathered.new.items) }

@@ -65,7 +65,8 @@ pub fn add_key(
 
 /// Adds a text in short, as if it were a value.
 fn add_text(alloc: Global, text: &mut Vec<u8>, shown: &str) -> Result<(), NoMemory>
-    ensures appends { OnOk result (text.new.items ≡ text.old.items ++ Spec.shown (string shown.now)) }
+    ensures appends { OnOk result
+        (text.new.items ≡ text.old.items ++ Spec.shown (string shown.now)) }
 {
     let value = Value::try_from_str(alloc, shown)?;
     add_shown(alloc, text, &value)
