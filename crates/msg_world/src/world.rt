@@ -160,7 +160,6 @@ fn take_marks(marks: &mut Option<Marks>, lent: bool) -> Option<Marks>
 
 impl<V: Value> World<V> {
     /// A world that isn't held, with a message type for each limit and a resource for each value.
-    #[tactic(auto, using(crate::proofs::Worlds::new_stands, crate::proofs::Worlds::new_whole))]
     pub fn new(alloc: Global, limits: &[u64], resources: &[V]) -> Result<World<V>, NoMemory>
         requires types { length limits.now ≤ MAX_TYPES }
         requires resources { length resources.now ≤ MAX_RESOURCES }
