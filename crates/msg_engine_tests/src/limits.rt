@@ -21,7 +21,7 @@ use msg_exec::{
 };
 use msg_order::Rule;
 use msg_part_tests::numbers::{res_no, type_no};
-use msg_system::{Condition, MAX_OPS, Op, Probe, Reply, Scripted, Start, SystemOf, Took};
+use msg_system::{Condition, MAX_OPS, Op, Probe, Reply, Scripted, Start, SystemOf};
 use msg_world::{MAX_RESOURCES, MAX_SYSTEMS, MAX_TYPES, Record, TypeNo, World};
 use std::alloc::Global;
 use std::panic::Expect;
@@ -229,10 +229,7 @@ fn posts(rt: &impl Abort, alloc: Global, number: u32) -> Vec<(TypeNo, i64)> {
 
 /// A batch of 1,024 values, from 0 on.
 fn batch(rt: &impl Abort, alloc: Global) -> Op {
-    let mut values = Vec::new(alloc);
-    for value in 0..1_024 {
-        values.push(value).expect(rt, "a value");
-    }
+    let values: Vec<i64> = (0..1_024).collect(alloc).expect(rt, "values");
     Op::Batch(type_no(0), Items::from_vec(values))
 }
 
@@ -254,7 +251,9 @@ fn expect_all(rt: &impl Abort, items: &[Record], number: u32) {
 fn expect_posts_and_batch(rt: &impl Abort, log: &Log, number: u32) {
     expect_eq(rt, &log.posts.as_slice().len(), &(number as usize));
     expect_batch(rt, log, number as u64, 1_024);
-    expect_read_of_all(rt, took_at(rt, log, 1), number);
+    let took = took_at(rt, log, 1);
+    expect_eq(rt, &(took.missed, took.first), &(0, 0));
+    expect_all(rt, took.items.as_slice(), number);
     let [Reply::Drained { first: 0, items }] = replies_of(rt, log, 2) else {
         panic!(rt; "a drain")
     };
@@ -270,12 +269,6 @@ fn expect_batch(rt: &impl Abort, log: &Log, first: u64, n: u64) {
         &(replies.len(), written),
         &(1, Some(Written { first, n })),
     );
-}
-
-/// So many posts and the batch were read.
-fn expect_read_of_all(rt: &impl Abort, took: &Took, number: u32) {
-    expect_eq(rt, &(took.missed, took.first), &(0, 0));
-    expect_all(rt, took.items.as_slice(), number);
 }
 
 /// 1,024 posts, and a batch of 1,024 values; and reads and drains of more than 100,000 messages.
