@@ -5,8 +5,8 @@ ghost use Rattle.msg_world.specs.Prelude.{i64_values};
 
 use crate::equal::expect_eq;
 use crate::expecting::replies_of;
-use crate::making::{NUMBERS, add, engine_over, frame_of, quiet, replay, run_frame};
-use msg_exec::{EngineBuilder, EngineOf, Frame, Log, NoGate, Outcome, Turn};
+use crate::making::{NUMBERS, add, engine_over, replay, run_frame, try_frame};
+use msg_exec::{EngineBuilder, EngineOf, Log, NoGate, Outcome, Turn};
 use msg_part_tests::numbers::type_no;
 use msg_system::{
     Access, Behavior, BehaviorSystem, Condition, NoMemory, Op, Probe, Reply, Start, SystemOf,
@@ -97,10 +97,8 @@ type Wrote = Option<(usize, usize)>;
 
 /// How many messages of this type were written in this frame.
 fn written(rt: &impl Abort, world: &World, t: TypeNo) -> usize {
-    match world.messages(t) {
-        Some(messages) => messages.current().len(),
-        None => panic!(rt; "no messages"),
-    }
+    let messages = world.messages(t).expect(rt, "it is home");
+    messages.current().len()
 }
 
 /// Each system that has joined wrote as `wrote` says, by one op a message.
@@ -113,9 +111,7 @@ fn expect_wrote<S: SystemOf<Value = i64>>(
     for turn in log.turns.as_slice() {
         expect_turn(rt, turn, wrote);
     }
-    let Some(world) = engine.world() else {
-        panic!(rt; "no world");
-    };
+    let world = engine.world().expect(rt, "a world");
     expect_written(rt, world, (type_no(0), type_no(1)), wrote);
     expect_written(rt, world, (type_no(2), type_no(3)), wrote);
 }
@@ -139,10 +135,10 @@ fn expect_written(rt: &impl Abort, world: &World, types: (TypeNo, TypeNo), wrote
 
 /// Runs a frame on `number` workers, or replays it with system 1 before system 0. Each system
 /// writes as `wrote` says.
-fn expect_frame<R: Threads + Sync + Abort, S: SystemOf<Value = i64> + Send>(
+fn expect_frame<R: Threads + Sync + Abort + AllocGlobal, S: SystemOf<Value = i64> + Send>(
     rt: &R,
     engine: &mut EngineOf<S>,
-    frame: &Frame,
+    posts: &[(TypeNo, i64)],
     number: u32,
     is_replayed: bool,
     wrote: Wrote,
@@ -151,11 +147,13 @@ fn expect_frame<R: Threads + Sync + Abort, S: SystemOf<Value = i64> + Send>(
     ensures engine { IsEngine i64_values S.meaning engine.new }
 {
     let log = if is_replayed {
-        replay(rt, engine, frame, &[1, 0])
+        replay(rt, engine, posts, &[1, 0])
     } else {
-        run_frame(rt, engine, frame, number, &NoGate)
+        try_frame(rt, engine, posts, number, &NoGate)
     };
-    expect_wrote(rt, engine, &log.expect(rt, "a frame"), wrote);
+    let log = log.expect(rt, "a frame");
+    expect_wrote(rt, engine, &log, wrote);
+    drop(log);
 }
 
 /// Two systems and three frames, of which the second has no message.
@@ -221,23 +219,23 @@ const ROWS: [Row; 6] = [
     },
 ];
 
-fn expect_row<R: Threads + Sync + Abort>(rt: &R, alloc: Global, row: &Row, number: u32) {
-    let t = type_no(4);
-    let (came, none) = (frame_of(rt, alloc, &[(t, 1)]), quiet(alloc));
+fn expect_row<R: Threads + Sync + Abort + AllocGlobal>(rt: &R, row: &Row, number: u32) {
+    let (t, [first, second, third]) = (type_no(4), row.wrote);
     let probe = Probe::OnMessage(t);
     let asked = [Condition { nots: 0, probe }];
     let asked = &asked[..row.asks as usize];
-    let mut engine = engine_of_two(rt, alloc, row.writes, asked, row.join);
-    expect_frame(rt, &mut engine, &came, number, false, row.wrote[0]);
-    expect_frame(rt, &mut engine, &none, number, row.replays, row.wrote[1]);
-    expect_frame(rt, &mut engine, &came, number, false, row.wrote[2]);
+    let mut engine = engine_of_two(rt, rt.alloc(), row.writes, asked, row.join);
+    expect_frame(rt, &mut engine, &[(t, 1)], number, false, first);
+    expect_frame(rt, &mut engine, &[], number, row.replays, second);
+    expect_frame(rt, &mut engine, &[(t, 1)], number, false, third);
+    drop(engine);
 }
 
 #[test]
 fn they_take_turns(rt: HostRuntime) {
     for row in &ROWS {
         for number in NUMBERS {
-            expect_row(&rt, rt.alloc(), row, number);
+            expect_row(&rt, row, number);
         }
     }
 }
@@ -266,9 +264,8 @@ fn engine_of_one(
 
 /// Runs a frame in which it writes `wrote` messages, and then is told so often that numbers are
 /// spent.
-fn expect_spent<R: Threads + Sync + Abort, S: SystemOf<Value = i64> + Send>(
+fn expect_spent<R: Threads + Sync + Abort + AllocGlobal, S: SystemOf<Value = i64> + Send>(
     rt: &R,
-    alloc: Global,
     engine: &mut EngineOf<S>,
     number: u32,
     wrote: u32,
@@ -277,8 +274,9 @@ fn expect_spent<R: Threads + Sync + Abort, S: SystemOf<Value = i64> + Send>(
     requires engine { IsEngine i64_values S.meaning engine.old }
     ensures engine { IsEngine i64_values S.meaning engine.new }
 {
-    let log = run_frame(rt, engine, &quiet(alloc), number, &NoGate).expect(rt, "a frame");
+    let log = run_frame(rt, engine, &[], number, &NoGate);
     expect_replies(rt, replies_of(rt, &log, 0), wrote, spent);
+    drop(log);
 }
 
 /// Of so many replies the first tell of writes, and the others that numbers are spent.
@@ -289,36 +287,29 @@ fn expect_replies(rt: &impl Abort, replies: &[Reply], wrote: u32, spent: u32) {
     }
 }
 
-fn expect_cut<R: Threads + Sync + Abort>(rt: &R, alloc: Global, number: u32) {
-    let access = Access::none().with_write_type(type_no(0));
-    let mut engine = engine_of_one(rt, alloc, 2, access, 200);
-    expect_spent(rt, alloc, &mut engine, number, 2, 0);
-    expect_spent(rt, alloc, &mut engine, number, 0, 0);
-    expect_spent(rt, alloc, &mut engine, number, 2, 0);
-}
-
 /// Its second turn would write to a type outside its access: it ends before that.
 #[test]
 fn a_turn_ends_where_it_would_leave_its_access(rt: HostRuntime) {
+    let access = Access::none().with_write_type(type_no(0));
     for number in NUMBERS {
-        expect_cut(&rt, rt.alloc(), number);
+        let mut engine = engine_of_one(&rt, rt.alloc(), 2, access, 200);
+        expect_spent(&rt, &mut engine, number, 2, 0);
+        expect_spent(&rt, &mut engine, number, 0, 0);
+        expect_spent(&rt, &mut engine, number, 2, 0);
+        drop(engine);
     }
-}
-
-fn expect_limit<R: Threads + Sync + Abort>(rt: &R, alloc: Global, number: u32) {
-    let both = Access::none()
-        .with_write_type(type_no(0))
-        .with_write_type(type_no(1));
-    let mut engine = engine_of_one(rt, alloc, 4, both, 3);
-    expect_spent(rt, alloc, &mut engine, number, 3, 1);
-    expect_spent(rt, alloc, &mut engine, number, 3, 1);
-    expect_spent(rt, alloc, &mut engine, number, 0, 4);
 }
 
 /// A turn goes on after a write that meets the limit of its type.
 #[test]
 fn a_turn_goes_on_where_numbers_are_spent(rt: HostRuntime) {
+    let first = Access::none().with_write_type(type_no(0));
+    let both = first.with_write_type(type_no(1));
     for number in NUMBERS {
-        expect_limit(&rt, rt.alloc(), number);
+        let mut engine = engine_of_one(&rt, rt.alloc(), 4, both, 3);
+        expect_spent(&rt, &mut engine, number, 3, 1);
+        expect_spent(&rt, &mut engine, number, 3, 1);
+        expect_spent(&rt, &mut engine, number, 0, 4);
+        drop(engine);
     }
 }

@@ -4,8 +4,8 @@ ghost use Rattle.msg_world.specs.Prelude.{i64_values};
 
 use crate::equal::expect_eq;
 use crate::expecting::{expect_frame, wrote};
-use crate::making::{NUMBERS, add, engine_over, quiet};
-use crate::prefaced::{Before, Prefaced};
+use crate::making::{NUMBERS, add, engine_over};
+use crate::prefaced::{Before, Prefaced, shared_number};
 use msg_exec::{EngineBuilder, EngineOf};
 use msg_part_tests::numbers::type_no;
 use msg_system::{
@@ -17,7 +17,6 @@ use std::panic::Expect;
 use std::process::Abort;
 use std::sync::Arc;
 use std::sync::atomic::{AtomicU64, Ordering};
-use std::thread::Threads;
 
 /// Writes the same value to a type, turn after turn.
 #[derive(Drop)]
@@ -100,19 +99,16 @@ fn counted(rt: &impl Abort, to: TypeNo, runs: &Arc<AtomicU64>) -> Prefaced<Beaco
     Prefaced { system, before }
 }
 
-fn expect_beacons<R: Threads + Sync + Abort>(rt: &R, alloc: Global, number: u32) {
-    let runs = Arc::new(alloc, AtomicU64::new(0)).expect(rt, "a count");
-    let (mut engine, frame) = (two_beacons(rt, alloc, &runs), quiet(alloc));
-    let steps = [wrote(0, 0), wrote(1, 0)];
-    expect_frame(rt, &mut engine, &frame, number, &[], &steps);
-    let steps = [wrote(0, 1), wrote(1, 1)];
-    expect_frame(rt, &mut engine, &frame, number, &[], &steps);
-    expect_eq(rt, &runs.load(Ordering::SeqCst), &4);
-}
-
 #[test]
 fn a_system_of_ones_own(rt: HostRuntime) {
     for number in NUMBERS {
-        expect_beacons(&rt, rt.alloc(), number);
+        let runs = shared_number(&rt, rt.alloc());
+        let mut engine = two_beacons(&rt, rt.alloc(), &runs);
+        let steps = [wrote(0, 0), wrote(1, 0)];
+        expect_frame(&rt, &mut engine, number, &[], &[], &steps);
+        let steps = [wrote(0, 1), wrote(1, 1)];
+        expect_frame(&rt, &mut engine, number, &[], &[], &steps);
+        drop(engine);
+        expect_eq(&rt, &runs.load(Ordering::SeqCst), &4);
     }
 }

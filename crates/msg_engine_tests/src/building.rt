@@ -4,7 +4,7 @@ ghost use Rattle.msg_world.specs.Prelude.{i64_values};
 
 use crate::equal::{expect_eq, expect_text};
 use crate::expecting::{expect_frame, posted, read};
-use crate::making::{add, engine_of, quiet, reader};
+use crate::making::{add, engine_of, reader};
 use msg_exec::{Account, BuildError, BuildRefusal, EngineBuilder, EngineOf, Workers};
 use msg_order::Rule;
 use msg_part_tests::numbers::type_no;
@@ -21,13 +21,24 @@ fn readers_after_a_post(rt: &impl Abort, alloc: Global) -> EngineOf<Scripted>
 {
     let t = type_no(0);
     let mut systems = EngineBuilder::new(alloc);
-    let from_zero = reader(rt, alloc, Start::Zero);
-    add(rt, &mut systems, from_zero, Vec::new(alloc), 1);
-    let from_count = reader(rt, alloc, Start::Current);
-    add(rt, &mut systems, from_count, Vec::new(alloc), 1);
+    let (from_zero, from_count) = (Start::Zero, Start::Current);
+    add(
+        rt,
+        &mut systems,
+        reader(rt, alloc, from_zero),
+        Vec::new(alloc),
+        1,
+    );
+    add(
+        rt,
+        &mut systems,
+        reader(rt, alloc, from_count),
+        Vec::new(alloc),
+        1,
+    );
     let mut world = World::new(alloc, &[10], &[]).expect(rt, "a world");
     assert!(rt; world.messages(t).is_some());
-    assert!(rt; world.post(t, 5).is_ok());
+    expect_eq(rt, &world.post(t, 5).is_ok(), &true);
     systems.build(world).expect(rt, "an engine")
 }
 
@@ -37,9 +48,11 @@ fn starts_in_a_world_with_a_message(rt: HostRuntime) {
     let mut engine = readers_after_a_post(&rt, rt.alloc());
     let five = [posted(5)];
     let steps = [read(0, 0, &five), read(1, 1, &[])];
-    expect_frame(&rt, &mut engine, &quiet(rt.alloc()), 1, &[], &steps);
+    expect_frame(&rt, &mut engine, 1, &[], &[], &steps);
     let accounts = engine.accounts().expect(&rt, "accounts");
+    drop(engine);
     expect_starts(&rt, accounts.as_slice());
+    drop(accounts);
 }
 
 /// The first reader started at 0, and the second at 1.
@@ -52,9 +65,8 @@ fn expect_starts(rt: &impl Abort, accounts: &[Account]) {
 
 /// No engine is made of these scripts under these rules, and it is said why.
 fn expect_refused(rt: &impl Abort, alloc: Global, ops: &[Op], rules: &[Rule], want: &str) {
-    let Err(refused) = engine_of(rt, alloc, &[10, 10], ops, rules) else {
-        panic!(rt; "not {want}")
-    };
+    let refused = engine_of(rt, alloc, &[10, 10], ops, rules).err();
+    let refused = refused.expect(rt, want);
     let refused = format!(in alloc; "{refused:?}").expect(rt, "a text");
     expect_eq(rt, &refused.as_str(), &want);
 }

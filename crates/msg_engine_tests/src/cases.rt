@@ -4,7 +4,7 @@ ghost use Rattle.msg_world.specs.Prelude.{i64_values};
 
 use crate::equal::expect_eq;
 use crate::expecting::{Step, by, expect_frame, posted, read, replies_of, wrote};
-use crate::making::{NUMBERS, add, engine_of, frame_of, quiet, run_frame, scripted};
+use crate::making::{NUMBERS, add, run_frame, scripted, scripted_engine};
 use msg_exec::{EngineBuilder, EngineOf, NoGate};
 use msg_order::Rule;
 use msg_part_tests::numbers::{res_no, type_no};
@@ -15,22 +15,18 @@ use std::panic::Expect;
 use std::process::Abort;
 use std::thread::Threads;
 
-fn expect_lag<R: Threads + Sync + Abort>(rt: &R, alloc: Global, number: u32) {
-    let t = type_no(0);
-    let ops = [Op::Read(t, None), Op::Write(t, 5)];
-    let engine = engine_of(rt, alloc, &[10], &ops, &[Rule::before(0, 1)]);
-    let (mut engine, frame) = (engine.expect(rt, "an engine"), quiet(alloc));
-    let steps = [read(0, 0, &[]), wrote(1, 0)];
-    expect_frame(rt, &mut engine, &frame, number, &[], &steps);
-    let five = [by(1, 5)];
-    let steps = [read(0, 0, &five), wrote(1, 1)];
-    expect_frame(rt, &mut engine, &frame, number, &[], &steps);
-}
-
 #[test]
 fn one_frames_lag(rt: HostRuntime) {
+    let (t, five) = (type_no(0), [by(1, 5)]);
+    let ops = [Op::Read(t, None), Op::Write(t, 5)];
+    let rules = [Rule::before(0, 1)];
     for number in NUMBERS {
-        expect_lag(&rt, rt.alloc(), number);
+        let mut engine = scripted_engine(&rt, rt.alloc(), &[10], &ops, &rules);
+        let steps = [read(0, 0, &[]), wrote(1, 0)];
+        expect_frame(&rt, &mut engine, number, &[], &[], &steps);
+        let steps = [read(0, 0, &five), wrote(1, 1)];
+        expect_frame(&rt, &mut engine, number, &[], &[], &steps);
+        drop(engine);
     }
 }
 
@@ -42,21 +38,10 @@ fn wrote_two<'a>(first: u64) -> Step<'a> {
     }
 }
 
-fn expect_two_writers<R: Threads + Sync + Abort>(rt: &R, alloc: Global, number: u32) {
-    let t = type_no(0);
-    let two = Items::from_vec(vec![in alloc; 2, 3].expect(rt, "values"));
-    let ops = [Op::Write(t, 1), Op::Batch(t, two), Op::Read(t, None)];
-    let engine = engine_of(rt, alloc, &[20], &ops, &[]);
-    let mut engine = engine.expect(rt, "an engine");
-    expect_four(rt, alloc, &mut engine, number, 9, 0);
-    expect_four(rt, alloc, &mut engine, number, 8, 4);
-}
-
 /// Runs a frame with a post of this value, which gets the number `first`. Both writers write after
 /// it, and all four messages are read.
-fn expect_four<R: Threads + Sync + Abort, S: SystemOf<Value = i64> + Send>(
+fn expect_four<R: Threads + Sync + Abort + AllocGlobal, S: SystemOf<Value = i64> + Send>(
     rt: &R,
-    alloc: Global,
     engine: &mut EngineOf<S>,
     number: u32,
     value: i64,
@@ -68,19 +53,25 @@ fn expect_four<R: Threads + Sync + Abort, S: SystemOf<Value = i64> + Send>(
     let all = [posted(value), by(0, 1), by(1, 2), by(1, 3)];
     let (one, two) = (first.saturating_add(1), first.saturating_add(2));
     let steps = [wrote(0, one), wrote_two(two), read(2, first, &all)];
-    let frame = frame_of(rt, alloc, &[(type_no(0), value)]);
-    expect_frame(rt, engine, &frame, number, &[first], &steps);
+    expect_frame(rt, engine, number, &[(type_no(0), value)], &[first], &steps);
 }
 
 #[test]
 fn host_and_two_writers(rt: HostRuntime) {
+    let (alloc, t) = (rt.alloc(), type_no(0));
+    let two = Items::from_vec(vec![in alloc; 2, 3].expect(&rt, "values"));
+    let ops = [Op::Write(t, 1), Op::Batch(t, two), Op::Read(t, None)];
     for number in NUMBERS {
-        expect_two_writers(&rt, rt.alloc(), number);
+        let mut engine = scripted_engine(&rt, alloc, &[20], &ops, &[]);
+        expect_four(&rt, &mut engine, number, 9, 0);
+        expect_four(&rt, &mut engine, number, 8, 4);
+        drop(engine);
     }
 }
 
-fn expect_settled<R: Threads + Sync + Abort>(rt: &R, alloc: Global, number: u32) {
-    let (t, u) = (type_no(0), type_no(1));
+#[test]
+fn contradictory_order(rt: HostRuntime) {
+    let (t, u, one) = (type_no(0), type_no(1), [by(0, 1)]);
     let ops = [
         Op::Write(t, 1),
         Op::Write(u, 2),
@@ -88,17 +79,12 @@ fn expect_settled<R: Threads + Sync + Abort>(rt: &R, alloc: Global, number: u32)
         Op::Read(t, None),
     ];
     let rules = [Rule::before(3, 1), Rule::before(2, 0)];
-    let engine = engine_of(rt, alloc, &[10, 10], &ops, &rules);
-    let mut engine = engine.expect(rt, "an engine");
-    let (none, one) = (read(2, 0, &[]), [by(0, 1)]);
-    let steps = [none, wrote(0, 0), read(3, 0, &one), wrote(1, 0)];
-    expect_frame(rt, &mut engine, &quiet(alloc), number, &[], &steps);
-}
-
-#[test]
-fn contradictory_order(rt: HostRuntime) {
     for number in NUMBERS {
-        expect_settled(&rt, rt.alloc(), number);
+        let mut engine = scripted_engine(&rt, rt.alloc(), &[10, 10], &ops, &rules);
+        let none = read(2, 0, &[]);
+        let steps = [none, wrote(0, 0), read(3, 0, &one), wrote(1, 0)];
+        expect_frame(&rt, &mut engine, number, &[], &[], &steps);
+        drop(engine);
     }
 }
 
@@ -117,9 +103,8 @@ fn signalling(rt: &impl Abort, alloc: Global) -> EngineOf<Scripted>
 
 /// Runs a frame that writes, sets and signals. The message gets the number `first`, and the oldest
 /// message is `oldest` then.
-fn expect_signal<R: Threads + Sync + Abort, S: SystemOf<Value = i64> + Send>(
+fn expect_signal<R: Threads + Sync + Abort + AllocGlobal, S: SystemOf<Value = i64> + Send>(
     rt: &R,
-    alloc: Global,
     engine: &mut EngineOf<S>,
     number: u32,
     first: u64,
@@ -128,12 +113,10 @@ fn expect_signal<R: Threads + Sync + Abort, S: SystemOf<Value = i64> + Send>(
     requires engine { IsEngine i64_values S.meaning engine.old }
     ensures engine { IsEngine i64_values S.meaning engine.new }
 {
-    let log = run_frame(rt, engine, &quiet(alloc), number, &NoGate).expect(rt, "a frame");
+    let log = run_frame(rt, engine, &[], number, &NoGate);
     expect_signalled(rt, replies_of(rt, &log, 0), first);
-    match engine.world() {
-        Some(world) => expect_set(rt, world, oldest),
-        None => panic!(rt; "a world"),
-    }
+    drop(log);
+    expect_set(rt, engine.world().expect(rt, "a world"), oldest);
 }
 
 /// It wrote the message of this number, set the resource and signalled.
@@ -146,25 +129,20 @@ fn expect_signalled(rt: &impl Abort, replies: &[Reply], first: u64) {
 
 /// The resource was set, and the oldest message has this number.
 fn expect_set(rt: &impl Abort, world: &World, oldest: u64) {
-    expect_eq(rt, &world.resource(res_no(0)), &Some(8));
-    let Some(messages) = world.messages(type_no(0)) else {
-        panic!(rt; "type 0 is home")
-    };
-    expect_eq(rt, &messages.oldest(), &oldest);
+    let messages = world.messages(type_no(0)).expect(rt, "type 0 is home");
+    let found = (world.resource(res_no(0)), messages.oldest());
+    expect_eq(rt, &found, &(Some(8), oldest));
 }
 
 /// The first frame makes no update, and each later one does: so the third drops the message of the
 /// first.
-fn expect_signals<R: Threads + Sync + Abort>(rt: &R, alloc: Global, number: u32) {
-    let mut engine = signalling(rt, alloc);
-    expect_signal(rt, alloc, &mut engine, number, 0, 0);
-    expect_signal(rt, alloc, &mut engine, number, 1, 0);
-    expect_signal(rt, alloc, &mut engine, number, 2, 1);
-}
-
 #[test]
 fn one_job_writes_sets_and_signals(rt: HostRuntime) {
     for number in NUMBERS {
-        expect_signals(&rt, rt.alloc(), number);
+        let mut engine = signalling(&rt, rt.alloc());
+        expect_signal(&rt, &mut engine, number, 0, 0);
+        expect_signal(&rt, &mut engine, number, 1, 0);
+        expect_signal(&rt, &mut engine, number, 2, 1);
+        drop(engine);
     }
 }

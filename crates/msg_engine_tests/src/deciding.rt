@@ -5,7 +5,7 @@ ghost use Rattle.msg_world.specs.Prelude.{i64_values};
 use crate::adders::Adder;
 use crate::equal::expect_eq;
 use crate::expecting::by;
-use crate::making::{NUMBERS, add, engine_over, frame_of, run_frame};
+use crate::making::{NUMBERS, add, engine_over, run_frame};
 use msg_exec::{EngineBuilder, EngineOf, NoGate};
 use msg_part_tests::numbers::type_no;
 use msg_system::{Access, BehaviorSystem, Start, SystemOf};
@@ -17,9 +17,8 @@ use std::thread::Threads;
 
 /// Runs a frame with these posts on `number` workers, in which just these values are written to
 /// the second type.
-fn expect_frame_writes<R: Threads + Sync + Abort>(
+fn expect_frame_writes<R: Threads + Sync + Abort + AllocGlobal>(
     rt: &R,
-    alloc: Global,
     engine: &mut EngineOf<BehaviorSystem<Adder>>,
     number: u32,
     posts: &[(TypeNo, i64)],
@@ -28,19 +27,13 @@ fn expect_frame_writes<R: Threads + Sync + Abort>(
     requires engine { IsEngine i64_values ⟦<BehaviorSystem<Adder> as SystemOf>⟧.meaning engine.old }
     ensures engine { IsEngine i64_values ⟦<BehaviorSystem<Adder> as SystemOf>⟧.meaning engine.new }
 {
-    let frame = frame_of(rt, alloc, posts);
-    run_frame(rt, engine, &frame, number, &NoGate).expect(rt, "a frame");
-    match engine.world() {
-        Some(world) => expect_written(rt, world, values),
-        None => panic!(rt; "no world"),
-    }
+    drop(run_frame(rt, engine, posts, number, &NoGate));
+    expect_written(rt, engine.world().expect(rt, "a world"), values);
 }
 
 /// Just these values were written to the second type in this frame.
 fn expect_written(rt: &impl Abort, world: &World, values: &[i64]) {
-    let Some(messages) = world.messages(type_no(1)) else {
-        panic!(rt; "no messages");
-    };
+    let messages = world.messages(type_no(1)).expect(rt, "type 1 is home");
     let written = messages.current();
     expect_eq(rt, &written.len(), &values.len());
     for (instance, value) in written.iter().zip(values) {
@@ -61,17 +54,14 @@ fn engine_of_one(rt: &impl Abort, alloc: Global) -> EngineOf<BehaviorSystem<Adde
     engine_over(rt, alloc, systems, &[10, 10], &[])
 }
 
-fn expect_sums<R: Threads + Sync + Abort>(rt: &R, alloc: Global, number: u32) {
-    let (from, mut engine) = (type_no(0), engine_of_one(rt, alloc));
-    let two = [(from, 5), (from, 6)];
-    expect_frame_writes(rt, alloc, &mut engine, number, &two, &[11]);
-    expect_frame_writes(rt, alloc, &mut engine, number, &[], &[]);
-    expect_frame_writes(rt, alloc, &mut engine, number, &two[..1], &[16]);
-}
-
 #[test]
 fn a_sum_goes_out_in_its_turn(rt: HostRuntime) {
+    let two = [(type_no(0), 5), (type_no(0), 6)];
     for number in NUMBERS {
-        expect_sums(&rt, rt.alloc(), number);
+        let mut engine = engine_of_one(&rt, rt.alloc());
+        expect_frame_writes(&rt, &mut engine, number, &two, &[11]);
+        expect_frame_writes(&rt, &mut engine, number, &[], &[]);
+        expect_frame_writes(&rt, &mut engine, number, &two[..1], &[16]);
+        drop(engine);
     }
 }

@@ -5,9 +5,9 @@ ghost use Rattle.msg_world.specs.Prelude.{i64_values};
 use crate::equal::expect_eq;
 use crate::making::{replay, run_frame};
 use msg_buffer::Written;
-use msg_exec::{EngineOf, Frame, Log, NoGate, Outcome, Turn};
-use msg_system::{Reply, SystemOf};
-use msg_world::{HOST, Record};
+use msg_exec::{EngineOf, Log, NoGate, Outcome, RunFault, Turn};
+use msg_system::{Reply, SystemOf, Took};
+use msg_world::{HOST, Record, TypeNo};
 use std::panic::Expect;
 use std::process::Abort;
 use std::thread::Threads;
@@ -53,7 +53,7 @@ pub fn posted(value: i64) -> Record {
 }
 
 /// Whether a turn came to this step.
-fn is_step(turn: &Turn, step: Step<'_>) -> bool {
+fn is_step(turn: &Turn, step: &Step<'_>) -> bool {
     let Outcome::Ran(replies) = &turn.outcome else {
         return false;
     };
@@ -72,14 +72,14 @@ fn expect_posts(rt: &impl Abort, replies: &[Reply], posts: &[u64]) {
     expect_eq(rt, &replies.len(), &posts.len());
     for (reply, first) in replies.iter().zip(posts) {
         let first = *first;
-        assert!(rt; matches!(reply, Reply::Wrote(w) if *w == Written { first, n: 1 }));
+        expect_eq(rt, &written_of(reply), &Some(Written { first, n: 1 }));
     }
 }
 
 fn expect_steps(rt: &impl Abort, turns: &[Turn], steps: &[Step<'_>]) {
     expect_eq(rt, &turns.len(), &steps.len());
     for (turn, step) in turns.iter().zip(steps) {
-        assert!(rt; is_step(turn, *step), "{turn:?}");
+        expect_eq(rt, &(turn, is_step(turn, step)), &(turn, true));
     }
 }
 
@@ -91,45 +91,85 @@ pub fn expect_log(rt: &impl Abort, log: &Log, posts: &[u64], steps: &[Step<'_>])
 
 /// The replies of the turn at this place in the log.
 pub fn replies_of<'a>(rt: &impl Abort, log: &'a Log, place: usize) -> &'a [Reply] {
-    let Some(turn) = log.turns.as_slice().get(place) else {
-        panic!(rt; "no turn {place}")
-    };
+    let turn = log.turns.as_slice().get(place).expect(rt, "a turn");
     match &turn.outcome {
         Outcome::Ran(replies) => replies.as_slice(),
         Outcome::Skipped => panic!(rt; "turn {place} was skipped"),
     }
 }
 
-/// Runs a frame on `number` workers. Its posts get the numbers `posts`, and its turns come to
-/// `steps`.
-pub fn expect_frame<R: Threads + Sync + Abort, S: SystemOf<Value = i64> + Send>(
-    rt: &R,
-    engine: &mut EngineOf<S>,
-    frame: &Frame,
-    number: u32,
-    posts: &[u64],
-    steps: &[Step],
-)
-    requires engine { IsEngine i64_values S.meaning engine.old }
-    ensures engine { IsEngine i64_values S.meaning engine.new }
-{
-    let log = run_frame(rt, engine, frame, number, &NoGate).expect(rt, "a frame");
-    expect_log(rt, &log, posts, steps);
+/// What the turn at this place in the log read, by one op.
+pub fn took_at<'a>(rt: &impl Abort, log: &'a Log, place: usize) -> &'a Took {
+    match replies_of(rt, log, place) {
+        [Reply::Read(took)] => took,
+        _other => panic!(rt; "turn {place} is no read"),
+    }
 }
 
-/// Replays a frame in this order. Its posts get the numbers `posts`, and its turns come to
-/// `steps`.
-pub fn expect_replay<S: SystemOf<Value = i64>>(
-    rt: &impl Abort,
+/// These messages were read, from the number `first` on, and `missed` were missed before them.
+pub fn expect_took(rt: &impl Abort, took: &Took, missed: u64, first: u64, records: &[Record]) {
+    let found = (took.missed, took.first, took.items.as_slice());
+    expect_eq(rt, &found, &(missed, first, records));
+}
+
+/// What the reply tells of a write, if it does.
+pub fn written_of(reply: &Reply) -> Option<Written> {
+    match reply {
+        Reply::Wrote(written) => Some(*written),
+        _other => None,
+    }
+}
+
+/// Runs a frame with these posts on `number` workers. They get the numbers `numbers`, and the turns
+/// come to `steps`.
+pub fn expect_frame<R: Threads + Sync + Abort + AllocGlobal, S: SystemOf<Value = i64> + Send>(
+    rt: &R,
     engine: &mut EngineOf<S>,
-    frame: &Frame,
-    order: &[u32],
-    posts: &[u64],
+    number: u32,
+    posts: &[(TypeNo, i64)],
+    numbers: &[u64],
     steps: &[Step],
 )
     requires engine { IsEngine i64_values S.meaning engine.old }
     ensures engine { IsEngine i64_values S.meaning engine.new }
 {
-    let log = replay(rt, engine, frame, order).expect(rt, "a frame");
-    expect_log(rt, &log, posts, steps);
+    let log = run_frame(rt, engine, posts, number, &NoGate);
+    expect_log(rt, &log, numbers, steps);
+    drop(log);
+}
+
+/// Replays a frame with these posts in this order. They get the numbers `numbers`, and the turns
+/// come to `steps`.
+pub fn expect_replay<S: SystemOf<Value = i64>>(
+    rt: &(impl Abort + AllocGlobal),
+    engine: &mut EngineOf<S>,
+    order: &[u32],
+    posts: &[(TypeNo, i64)],
+    numbers: &[u64],
+    steps: &[Step],
+)
+    requires engine { IsEngine i64_values S.meaning engine.old }
+    ensures engine { IsEngine i64_values S.meaning engine.new }
+{
+    let log = replay(rt, engine, posts, order).expect(rt, "a frame");
+    expect_log(rt, &log, numbers, steps);
+    drop(log);
+}
+
+/// This order is refused.
+pub fn expect_unlawful<S: SystemOf<Value = i64>>(
+    rt: &(impl Abort + AllocGlobal),
+    engine: &mut EngineOf<S>,
+    posts: &[(TypeNo, i64)],
+    order: &[u32],
+)
+    requires engine { IsEngine i64_values S.meaning engine.old }
+    ensures engine { IsEngine i64_values S.meaning engine.new }
+{
+    expect_fault(rt, replay(rt, engine, posts, order), RunFault::BadOrder);
+}
+
+/// A call was refused for this reason.
+pub fn expect_fault<T: Drop>(rt: &impl Abort, came: Result<T, RunFault>, want: RunFault) {
+    expect_eq(rt, &came.err(), &Some(want));
 }

@@ -5,17 +5,14 @@ ghost use Rattle.msg_world.specs.Prelude.{i64_values};
 use crate::equal::expect_eq;
 use crate::expecting::{expect_log, posted, read};
 use crate::gates::{FirstGate, HoldGate, MeetGate, NotingGate, OneByOne};
-use crate::making::{frame_of, quiet, readers, run_frame, run_frames};
-use crate::prefaced::{add_counts, noting_engine, prefaced_readers};
-use msg_exec::{EngineOf, Frame, Gate, Log};
+use crate::making::{frame_of, readers, run_frame, run_frames};
+use crate::prefaced::{add_counts, noting_engine, prefaced_readers, shared_number};
+use msg_exec::{EngineOf, Gate, Log};
 use msg_part_tests::numbers::type_no;
-use msg_system::{Op, Start, SystemOf};
-use std::alloc::Global;
+use msg_system::{Op, Scripted, Start, SystemOf};
 use std::panic::Expect;
 use std::process::Abort;
-use std::slice;
-use std::sync::Arc;
-use std::sync::atomic::{AtomicU64, Ordering};
+use std::sync::atomic::Ordering;
 use std::thread::Threads;
 
 /// How many readers there are, on how many workers they run, and which of them the gate holds until
@@ -48,40 +45,39 @@ fn expect_reads(rt: &impl Abort, log: &Log, number: u32, first: u64, value: i64)
 /// The first frame runs by `run_frame`: its workers start one another. The second runs by
 /// `run_frames`: if the other workers ran at least half of the first frame's jobs, the first worker
 /// starts them all at once.
-fn expect_row<R: Threads + Sync + Abort>(
+fn expect_row<R: Threads + Sync + Abort + AllocGlobal>(
     rt: &R,
-    alloc: Global,
     number: u32,
     workers: u32,
     held: [bool; 5],
 ) {
-    let t = type_no(0);
-    let mut engine = readers(rt, alloc, number);
+    let mut engine = readers(rt, rt.alloc(), number);
     let gate = HoldGate::new(workers, held, number as u64);
-    let frame = frame_of(rt, alloc, &[(t, 5)]);
-    let log = run_frame(rt, &mut engine, &frame, workers, &gate).expect(rt, "a frame");
+    let log = run_frame(rt, &mut engine, &[(type_no(0), 5)], workers, &gate);
     gate.expect_met(rt, number as u64);
     expect_reads(rt, &log, number, 0, 5);
+    drop(log);
     let gate = HoldGate::new(workers, held, number as u64);
-    let frame = frame_of(rt, alloc, &[(t, 6)]);
-    let log = run_one(rt, alloc, &mut engine, &frame, workers, &gate);
+    let log = run_one(rt, engine, 6, workers, &gate);
     gate.expect_met(rt, number as u64);
     expect_reads(rt, &log, number, 1, 6);
+    drop(log);
 }
 
-/// Runs a frame by `run_frames`.
-fn run_one<R: Threads + Sync + Abort, S: SystemOf<Value = i64> + Send, G: Gate>(
+/// Runs a frame with a post of this value by `run_frames`.
+fn run_one<R: Threads + Sync + Abort + AllocGlobal>(
     rt: &R,
-    alloc: Global,
-    engine: &mut EngineOf<S>,
-    frame: &Frame,
+    mut engine: EngineOf<Scripted>,
+    value: i64,
     workers: u32,
-    gate: &G,
+    gate: &HoldGate,
 ) -> Log
-    requires engine { IsEngine i64_values S.meaning engine.old }
+    requires engine { IsEngine i64_values ⟦<Scripted as SystemOf>⟧.meaning engine }
 {
-    let mut logs = Vec::new(alloc);
-    let ran = run_frames(rt, engine, slice::from_ref(frame), workers, gate, &mut logs);
+    let frames = [frame_of(rt, rt.alloc(), &[(type_no(0), value)])];
+    let mut logs = Vec::new(rt.alloc());
+    let ran = run_frames(rt, &mut engine, &frames, workers, gate, &mut logs);
+    drop(engine);
     ran.expect(rt, "frames");
     logs.pop().expect(rt, "a log")
 }
@@ -89,8 +85,20 @@ fn run_one<R: Threads + Sync + Abort, S: SystemOf<Value = i64> + Send, G: Gate>(
 #[test]
 fn readers_run_side_by_side(rt: HostRuntime) {
     for (number, workers, held) in ROWS {
-        expect_row(&rt, rt.alloc(), number, workers, held);
+        expect_row(&rt, number, workers, held);
     }
+}
+
+/// Runs a quiet frame of so many readers on so many workers.
+fn run_readers<R: Threads + Sync + Abort + AllocGlobal, G: Gate>(
+    rt: &R,
+    number: u32,
+    workers: u32,
+    gate: &G,
+) {
+    let mut engine = readers(rt, rt.alloc(), number);
+    drop(run_frame(rt, &mut engine, &[], workers, gate));
+    drop(engine);
 }
 
 /// One worker takes a hundred jobs one by one. One job needs one worker if 64 may run.
@@ -98,30 +106,24 @@ fn readers_run_side_by_side(rt: HostRuntime) {
 fn one_worker_takes_them_one_by_one(rt: HostRuntime) {
     for (number, workers) in [(100, 1), (1, 64)] {
         let gate = OneByOne::new();
-        let mut engine = readers(&rt, rt.alloc(), number);
-        let log = run_frame(&rt, &mut engine, &quiet(rt.alloc()), workers, &gate);
-        log.expect(&rt, "a frame");
+        run_readers(&rt, number, workers, &gate);
         gate.expect_calls(&rt, number as u64);
     }
 }
 
 /// Of five readers that may run side by side none runs before the gate was called for it.
-fn expect_gate_first<R: Threads + Sync + Abort>(rt: &R, alloc: Global, workers: u32) {
-    let runs = Arc::new(alloc, AtomicU64::new(0)).expect(rt, "a count");
-    let mut all = Vec::new(alloc);
-    add_counts(rt, &mut all, 5, &runs);
-    let mut engine = prefaced_readers(rt, alloc, all);
-    let gate = FirstGate::new(&runs);
-    let log = run_frame(rt, &mut engine, &quiet(alloc), workers, &gate);
-    log.expect(rt, "a frame");
-    gate.expect_first(rt, 5);
-    expect_eq(rt, &runs.load(Ordering::SeqCst), &5);
-}
-
 #[test]
 fn the_gate_comes_first_on_a_board(rt: HostRuntime) {
     for workers in [1, 2, 5] {
-        expect_gate_first(&rt, rt.alloc(), workers);
+        let runs = shared_number(&rt, rt.alloc());
+        let mut all = Vec::new(rt.alloc());
+        add_counts(&rt, &mut all, 5, &runs);
+        let mut engine = prefaced_readers(&rt, rt.alloc(), all);
+        let gate = FirstGate::new(&runs);
+        drop(run_frame(&rt, &mut engine, &[], workers, &gate));
+        drop(engine);
+        gate.expect_first(&rt, 5);
+        expect_eq(&rt, &runs.load(Ordering::SeqCst), &5);
     }
 }
 
@@ -130,10 +132,8 @@ fn the_gate_comes_first_on_a_board(rt: HostRuntime) {
 #[test]
 fn readers_meet(rt: HostRuntime) {
     for (number, workers) in [(20, 20), (65, 2)] {
-        let mut engine = readers(&rt, rt.alloc(), number);
         let gate = MeetGate::new(workers as u64);
-        let log = run_frame(&rt, &mut engine, &quiet(rt.alloc()), workers, &gate);
-        log.expect(&rt, "a frame");
+        run_readers(&rt, number, workers, &gate);
         gate.expect_met(&rt, number as u64);
     }
 }
@@ -141,15 +141,15 @@ fn readers_meet(rt: HostRuntime) {
 #[test]
 fn the_gate_is_called_before_the_system_runs(rt: HostRuntime) {
     let (alloc, t) = (rt.alloc(), type_no(0));
-    let noted = Arc::new(alloc, AtomicU64::new(0)).expect(&rt, "a number");
-    let ops = vec![in alloc;
+    let noted = shared_number(&rt, alloc);
+    let ops = [
         (Op::Read(t, None), Start::Zero),
         (Op::Write(t, 1), Start::Zero),
     ];
-    let mut engine = noting_engine(&rt, alloc, 1, ops.expect(&rt, "ops"), &noted);
+    let mut engine = noting_engine(&rt, alloc, 1, &ops, &noted);
     let gate = NotingGate { noted: &noted };
-    let log = run_frame(&rt, &mut engine, &quiet(alloc), 2, &gate);
-    log.expect(&rt, "a frame");
+    drop(run_frame(&rt, &mut engine, &[], 2, &gate));
+    drop(engine);
     // The gate notes 9, and system i notes i + 1: gate, system 0, gate, system 1.
     expect_eq(&rt, &noted.load(Ordering::SeqCst), &9192);
 }

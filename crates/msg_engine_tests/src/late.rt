@@ -3,7 +3,7 @@ ghost use Rattle.msg_exec.specs.Prelude.{IsEngine};
 ghost use Rattle.msg_world.specs.Prelude.{i64_values};
 
 use crate::equal::expect_eq;
-use crate::expecting::{posted, replies_of};
+use crate::expecting::{expect_took, posted, replies_of};
 use crate::making::{NUMBERS, add, engine_over, frame_of, run_frames};
 use msg_buffer::Written;
 use msg_exec::{EngineBuilder, EngineOf, Log, NoGate};
@@ -27,70 +27,62 @@ fn engine_of_late<S: Numbered + SystemOf<Value = i64>>(
     engine_over(rt, alloc, systems, &[10, 10], &[7])
 }
 
-/// Runs three frames, of which each posts a message, and gives the log of the third.
-fn third_log<R: Threads + Sync + Abort, S: SystemOf<Value = i64> + Send>(
+/// Runs three frames on this system, of which each posts a message, and gives the log of the third.
+fn third_log<R: Threads + Sync + Abort + AllocGlobal, S: Numbered + SystemOf<Value = i64> + Send>(
     rt: &R,
-    alloc: Global,
-    engine: &mut EngineOf<S>,
+    system: S,
     number: u32,
-) -> Log
-    requires engine { IsEngine i64_values S.meaning engine.old }
-{
-    let t = type_no(0);
+) -> Log {
+    let (alloc, t) = (rt.alloc(), type_no(0));
+    let mut engine = engine_of_late(rt, alloc, system);
     let frames = [
         frame_of(rt, alloc, &[(t, 1)]),
         frame_of(rt, alloc, &[(t, 2)]),
         frame_of(rt, alloc, &[(t, 3)]),
     ];
     let mut logs = Vec::new(alloc);
-    let ran = run_frames(rt, engine, &frames, number, &NoGate, &mut logs);
+    let ran = run_frames(rt, &mut engine, &frames, number, &NoGate, &mut logs);
+    drop(engine);
     ran.expect(rt, "frames");
     expect_eq(rt, &logs.len(), &3);
     logs.pop().expect(rt, "a log")
 }
 
 /// The first message was missed, and the two others were read.
-fn expect_took(rt: &impl Abort, took: &Took) {
-    expect_eq(rt, &(took.missed, took.first), &(1, 1));
-    expect_eq(
-        rt,
-        &took.items.as_slice(),
-        &[posted(2), posted(3)].as_slice(),
-    );
+fn expect_both(rt: &impl Abort, took: &Took) {
+    expect_took(rt, took, 1, 1, &[posted(2), posted(3)]);
 }
 
-fn expect_forwarded<R: Threads + Sync + Abort>(rt: &R, alloc: Global, number: u32) {
+fn expect_forwarded<R: Threads + Sync + Abort + AllocGlobal>(rt: &R, number: u32) {
     let relay = Relay::new(type_no(0), type_no(1), Start::Zero, 0);
-    let mut engine = engine_of_late(rt, alloc, relay);
-    let log = third_log(rt, alloc, &mut engine, number);
+    let log = third_log(rt, relay, number);
     let [Reply::Forwarded { took, wrote }] = replies_of(rt, &log, 0) else {
         panic!(rt; "a forward")
     };
-    expect_took(rt, took);
+    expect_both(rt, took);
     expect_eq(rt, wrote, &Some(Written { first: 0, n: 2 }));
 }
 
-fn expect_summed<R: Threads + Sync + Abort>(rt: &R, alloc: Global, number: u32) {
+fn expect_summed<R: Threads + Sync + Abort + AllocGlobal>(rt: &R, number: u32) {
     let tally = Tally::new(type_no(0), res_no(0), Start::Zero, 0);
-    let mut engine = engine_of_late(rt, alloc, tally);
-    let log = third_log(rt, alloc, &mut engine, number);
+    let log = third_log(rt, tally, number);
     let [Reply::Summed { took, value }] = replies_of(rt, &log, 0) else {
         panic!(rt; "a sum")
     };
-    expect_took(rt, took);
+    expect_both(rt, took);
     expect_eq(rt, value, &12);
 }
 
 #[test]
 fn a_late_relay(rt: HostRuntime) {
     for number in NUMBERS {
-        expect_forwarded(&rt, rt.alloc(), number);
+        expect_forwarded(&rt, number);
     }
 }
 
 #[test]
 fn a_late_tally(rt: HostRuntime) {
     for number in NUMBERS {
-        expect_summed(&rt, rt.alloc(), number);
+        expect_summed(&rt, number);
     }
 }

@@ -8,48 +8,43 @@ ghost use Rattle.msg_exec.specs.Prelude.{IsEngine};
 ghost use Rattle.msg_world.specs.Prelude.{i64_values};
 
 use crate::equal::expect_eq;
-use crate::expecting::{by, expect_frame, posted, read, replies_of, wrote};
-use crate::making::{
-    add, engine_of, engine_over, frame_of, quiet, reader, readers, replay, run_frame, run_frames,
-    scripted,
+use crate::expecting::{
+    by, expect_frame, expect_replay, expect_took, expect_unlawful, posted, read, replies_of,
+    took_at, written_of,
 };
+use crate::making::{
+    add, engine_over, quiet, reader, readers, run_frame, run_frames, scripted, scripted_engine,
+};
+use msg_buffer::{MessageId, Written};
 use msg_exec::{
-    EngineBuilder, EngineOf, Frame, Items, LAST_JOIN, Log, MAX_WORKERS, NoGate, Outcome, RunFault,
-    Turn,
+    EngineBuilder, EngineOf, Frame, Items, LAST_JOIN, Log, MAX_WORKERS, NoGate, Outcome, Turn,
 };
 use msg_order::Rule;
 use msg_part_tests::numbers::{res_no, type_no};
 use msg_system::{Condition, MAX_OPS, Op, Probe, Reply, Scripted, Start, SystemOf};
-use msg_world::{MAX_RESOURCES, MAX_SYSTEMS, MAX_TYPES, Record, World};
+use msg_world::{MAX_RESOURCES, MAX_SYSTEMS, MAX_TYPES, Record, TypeNo, World};
 use std::alloc::Global;
 use std::panic::Expect;
 use std::process::Abort;
 use std::thread::Threads;
 
-/// Three systems that read with no limit, with none to read, and with one.
-fn limited(rt: &impl Abort, alloc: Global) -> EngineOf<Scripted>
-    ensures engine { IsEngine i64_values ⟦<Scripted as SystemOf>⟧.meaning result }
-{
+/// A read asks for room for what is unread, however great its limit is: three systems read with no
+/// limit, with none to read, and with one.
+#[test]
+fn a_read_of_the_greatest_limit(rt: HostRuntime) {
     let t = type_no(0);
     let ops = [
         Op::Read(t, Some(u64::MAX)),
         Op::Read(t, Some(0)),
         Op::Read(t, Some(1)),
     ];
-    engine_of(rt, alloc, &[u64::MAX], &ops, &[]).expect(rt, "an engine")
-}
-
-/// A read asks for room for what is unread, however great its limit is.
-#[test]
-fn a_read_of_the_greatest_limit(rt: HostRuntime) {
-    let (alloc, t) = (rt.alloc(), type_no(0));
-    let mut engine = limited(&rt, alloc);
-    let frame = frame_of(&rt, alloc, &[(t, 5), (t, 6)]);
+    let mut engine = scripted_engine(&rt, rt.alloc(), &[u64::MAX], &ops, &[]);
     let both = [posted(5), posted(6)];
     let steps = [read(0, 0, &both), read(1, 0, &[]), read(2, 0, &both[..1])];
-    expect_frame(&rt, &mut engine, &frame, 1, &[0, 1], &steps);
+    expect_frame(&rt, &mut engine, 1, &[(t, 5), (t, 6)], &[0, 1], &steps);
     let steps = [read(0, 2, &[]), read(1, 0, &[]), read(2, 1, &both[1..])];
-    expect_frame(&rt, &mut engine, &quiet(alloc), 1, &[], &steps);
+    expect_frame(&rt, &mut engine, 1, &[], &[], &steps);
+    drop(engine);
 }
 
 /// A script that writes each type that may be.
@@ -87,13 +82,14 @@ fn writers_of_all(rt: &impl Abort, alloc: Global) -> EngineOf<Scripted>
 fn expect_written(rt: &impl Abort, world: &World, number: u32, value: i64)
     requires below { number < MAX_TYPES }
 {
-    let Some(messages) = world.messages(type_no(number)) else {
-        panic!(rt; "type {number} is home")
-    };
-    let [written] = messages.current() else {
-        panic!(rt; "one message of type {number}")
-    };
-    expect_eq(rt, &(number, written.message), &(number, by(0, value)));
+    let messages = world.messages(type_no(number)).expect(rt, "it is home");
+    let found = (messages.count(), messages.current().len());
+    let first = messages.get(MessageId(0)).copied();
+    expect_eq(
+        rt,
+        &(number, found, first),
+        &(number, (1, 1), Some(by(0, value))),
+    );
 }
 
 /// Each type and each resource has what was written to it.
@@ -110,36 +106,24 @@ fn expect_all_written(rt: &impl Abort, world: &World) {
 #[test]
 fn types_resources_and_ops(rt: HostRuntime) {
     let mut engine = writers_of_all(&rt, rt.alloc());
-    let log = run_frame(&rt, &mut engine, &quiet(rt.alloc()), 2, &NoGate);
-    let log = log.expect(&rt, "a frame");
+    let log = run_frame(&rt, &mut engine, &[], 2, &NoGate);
     expect_eq(&rt, &replies_of(&rt, &log, 0).len(), &MAX_OPS);
     expect_eq(&rt, &replies_of(&rt, &log, 1).len(), &MAX_OPS);
-    match engine.world() {
-        Some(world) => expect_all_written(&rt, world),
-        None => panic!(rt; "a world"),
-    }
+    drop(log);
+    expect_all_written(&rt, engine.world().expect(&rt, "a world"));
+    drop(engine);
 }
 
 /// As many readers as may be, side by side on as many workers as may be; each reads the post.
 #[test]
 fn systems_on_64_workers(rt: HostRuntime) {
-    let (alloc, t) = (rt.alloc(), type_no(0));
-    let mut engine = readers(&rt, alloc, MAX_SYSTEMS as u32);
-    let frame = frame_of(&rt, alloc, &[(t, 5)]);
-    let log = run_frame(&rt, &mut engine, &frame, MAX_WORKERS, &NoGate).expect(&rt, "a frame");
+    let mut engine = readers(&rt, rt.alloc(), MAX_SYSTEMS as u32);
+    let log = run_frame(&rt, &mut engine, &[(type_no(0), 5)], MAX_WORKERS, &NoGate);
+    drop(engine);
     expect_eq(&rt, &log.turns.as_slice().len(), &MAX_SYSTEMS);
     for place in 0..MAX_SYSTEMS {
-        expect_took(&rt, replies_of(&rt, &log, place), posted(5));
+        expect_took(&rt, took_at(&rt, &log, place), 0, 0, &[posted(5)]);
     }
-}
-
-/// It read this message alone.
-fn expect_took(rt: &impl Abort, replies: &[Reply], record: Record) {
-    let [Reply::Read(took)] = replies else {
-        panic!(rt; "a read")
-    };
-    expect_eq(rt, &(took.missed, took.first), &(0, 0));
-    expect_eq(rt, &took.items.as_slice(), &[record].as_slice());
 }
 
 /// 1,024 rules, by which each of `MAX_SYSTEMS` systems runs after those with a greater number.
@@ -168,7 +152,7 @@ fn backwards(rt: &impl Abort, alloc: Global) -> EngineOf<Scripted>
     ops.push(Op::Write(t, 5)).expect(rt, "an op");
     let rules = rules_backwards(rt, alloc);
     expect_eq(rt, &rules.len(), &1024);
-    engine_of(rt, alloc, &[10], &ops, &rules).expect(rt, "an engine")
+    scripted_engine(rt, alloc, &[10], &ops, &rules)
 }
 
 /// These are the turns of all systems, from the last to the first.
@@ -183,13 +167,13 @@ fn expect_backwards(rt: &impl Abort, turns: &[Turn]) {
 #[test]
 fn systems_and_rules(rt: HostRuntime) {
     let mut engine = backwards(&rt, rt.alloc());
-    let log = run_frame(&rt, &mut engine, &quiet(rt.alloc()), MAX_WORKERS, &NoGate);
-    let log = log.expect(&rt, "a frame");
+    let log = run_frame(&rt, &mut engine, &[], MAX_WORKERS, &NoGate);
+    drop(engine);
     expect_backwards(&rt, log.turns.as_slice());
-    assert!(rt; matches!(replies_of(&rt, &log, 0), [Reply::Wrote(_)]));
+    expect_batch(&rt, &log, 0, 1);
     let written = by(MAX_SYSTEMS as u32 - 1, 5);
     for place in 1..MAX_SYSTEMS {
-        expect_took(&rt, replies_of(&rt, &log, place), written);
+        expect_took(&rt, took_at(&rt, &log, place), 0, 0, &[written]);
     }
 }
 
@@ -197,10 +181,10 @@ fn systems_and_rules(rt: HostRuntime) {
 #[test]
 fn an_order_of_300(rt: HostRuntime) {
     let mut engine = readers(&rt, rt.alloc(), 3);
-    let log = replay(&rt, &mut engine, &quiet(rt.alloc()), &[0; 300]);
-    assert!(rt; log.err() == Some(RunFault::BadOrder));
-    let log = replay(&rt, &mut engine, &quiet(rt.alloc()), &[2, 1, 0]);
-    assert!(rt; log.is_ok());
+    expect_unlawful(&rt, &mut engine, &[], &[0; 300]);
+    let steps = [read(2, 0, &[]), read(1, 0, &[]), read(0, 0, &[])];
+    expect_replay(&rt, &mut engine, &[2, 1, 0], &[], &[], &steps);
+    drop(engine);
 }
 
 /// An engine of a reader with 8 conditions, each with 16 nots: it runs if a message is unread.
@@ -218,51 +202,47 @@ fn guarded(rt: &impl Abort, alloc: Global) -> EngineOf<Scripted>
 
 /// The one system was skipped.
 fn expect_skipped(rt: &impl Abort, log: &Log) {
-    let [turn] = log.turns.as_slice() else {
-        panic!(rt; "one turn")
-    };
-    assert!(rt; turn.outcome == Outcome::Skipped);
+    let turns = log.turns.as_slice();
+    let turn = turns.first().expect(rt, "a turn");
+    expect_eq(rt, &(turns.len(), &turn.outcome), &(1, &Outcome::Skipped));
 }
 
 #[test]
 fn conditions_and_nots(rt: HostRuntime) {
-    let (alloc, t) = (rt.alloc(), type_no(0));
-    let mut engine = guarded(&rt, alloc);
-    let log = run_frame(&rt, &mut engine, &quiet(alloc), 1, &NoGate).expect(&rt, "a frame");
+    let mut engine = guarded(&rt, rt.alloc());
+    let log = run_frame(&rt, &mut engine, &[], 1, &NoGate);
     expect_skipped(&rt, &log);
-    let (frame, five) = (frame_of(&rt, alloc, &[(t, 5)]), [posted(5)]);
-    expect_frame(&rt, &mut engine, &frame, 1, &[0], &[read(0, 0, &five)]);
+    drop(log);
+    let (posts, five) = ([(type_no(0), 5)], [posted(5)]);
+    expect_frame(&rt, &mut engine, 1, &posts, &[0], &[read(0, 0, &five)]);
+    drop(engine);
 }
 
-/// A frame with so many posts, from 0 on.
-fn posts(rt: &impl Abort, alloc: Global, number: u32) -> Frame {
+/// So many posts, from 0 on.
+fn posts(rt: &impl Abort, alloc: Global, number: u32) -> Vec<(TypeNo, i64)> {
     let mut posts = Vec::new(alloc);
     for value in 0..number {
         posts.push((type_no(0), value as i64)).expect(rt, "a post");
     }
-    Frame {
-        posts: Items::from_vec(posts),
-    }
+    posts
 }
 
 /// A batch of 1,024 values, from 0 on.
 fn batch(rt: &impl Abort, alloc: Global) -> Op {
-    let mut values = Vec::new(alloc);
-    for value in 0..1_024 {
-        values.push(value).expect(rt, "a value");
-    }
+    let values: Vec<i64> = (0..1_024).collect(alloc).expect(rt, "values");
     Op::Batch(type_no(0), Items::from_vec(values))
 }
 
 /// The posts of so many values, and after them the batch.
 fn expect_all(rt: &impl Abort, items: &[Record], number: u32) {
-    assert_eq!(rt; items.len(), number as usize + 1_024);
-    let (posts, batch) = items.split_at(number as usize);
-    for (item, value) in posts.iter().zip(0..number) {
-        expect_eq(rt, item, &posted(value as i64));
-    }
-    for (item, value) in batch.iter().zip(0..1_024) {
-        expect_eq(rt, item, &by(0, value));
+    expect_eq(rt, &items.len(), &(number as usize + 1_024));
+    for (item, place) in items.iter().zip(0..number.saturating_add(1_024)) {
+        let want = if place < number {
+            posted(place as i64)
+        } else {
+            by(0, (place - number) as i64)
+        };
+        expect_eq(rt, item, &want);
     }
 }
 
@@ -270,45 +250,38 @@ fn expect_all(rt: &impl Abort, items: &[Record], number: u32) {
 /// all.
 fn expect_posts_and_batch(rt: &impl Abort, log: &Log, number: u32) {
     expect_eq(rt, &log.posts.as_slice().len(), &(number as usize));
-    expect_batch(rt, replies_of(rt, log, 0), number);
-    expect_read_of_all(rt, replies_of(rt, log, 1), number);
+    expect_batch(rt, log, number as u64, 1_024);
+    let took = took_at(rt, log, 1);
+    expect_eq(rt, &(took.missed, took.first), &(0, 0));
+    expect_all(rt, took.items.as_slice(), number);
     let [Reply::Drained { first: 0, items }] = replies_of(rt, log, 2) else {
         panic!(rt; "a drain")
     };
     expect_all(rt, items.as_slice(), number);
 }
 
-/// A batch was written after so many posts.
-fn expect_batch(rt: &impl Abort, replies: &[Reply], number: u32) {
-    let [Reply::Wrote(written)] = replies else {
-        panic!(rt; "a batch")
-    };
-    expect_eq(rt, &(written.first, written.n), &(number as u64, 1_024));
-}
-
-/// So many posts and the batch were read.
-fn expect_read_of_all(rt: &impl Abort, replies: &[Reply], number: u32) {
-    let [Reply::Read(took)] = replies else {
-        panic!(rt; "a read")
-    };
-    expect_eq(rt, &(took.missed, took.first), &(0, 0));
-    expect_all(rt, took.items.as_slice(), number);
-}
-
-fn expect_many<R: Threads + Sync + Abort>(rt: &R, alloc: Global, number: u32) {
-    let t = type_no(0);
-    let ops = [batch(rt, alloc), Op::Read(t, None), Op::Drain(t)];
-    let mut engine = engine_of(rt, alloc, &[u64::MAX], &ops, &[]).expect(rt, "an engine");
-    let frame = posts(rt, alloc, number);
-    let log = run_frame(rt, &mut engine, &frame, 2, &NoGate).expect(rt, "a frame");
-    expect_posts_and_batch(rt, &log, number);
+/// The first turn wrote `n` messages by one op, from the number `first` on.
+fn expect_batch(rt: &impl Abort, log: &Log, first: u64, n: u64) {
+    let replies = replies_of(rt, log, 0);
+    let written = replies.first().and_then(written_of);
+    expect_eq(
+        rt,
+        &(replies.len(), written),
+        &(1, Some(Written { first, n })),
+    );
 }
 
 /// 1,024 posts, and a batch of 1,024 values; and reads and drains of more than 100,000 messages.
 #[test]
 fn posts_and_values(rt: HostRuntime) {
+    let (alloc, t) = (rt.alloc(), type_no(0));
+    let ops = [batch(&rt, alloc), Op::Read(t, None), Op::Drain(t)];
     for number in [1_024, 100_000] {
-        expect_many(&rt, rt.alloc(), number);
+        let mut engine = scripted_engine(&rt, alloc, &[u64::MAX], &ops, &[]);
+        let posts = posts(&rt, alloc, number);
+        let log = run_frame(&rt, &mut engine, &posts, 2, &NoGate);
+        drop(engine);
+        expect_posts_and_batch(&rt, &log, number);
     }
 }
 
@@ -350,28 +323,23 @@ fn quiet_frames(rt: &impl Abort, alloc: Global, number: u32) -> Vec<Frame> {
 /// There are so many logs. None but the last of them has a turn.
 fn expect_last(rt: &impl Abort, logs: &[Log], number: u32) {
     expect_eq(rt, &logs.len(), &(number as usize));
-    let [before @ .., last] = logs else {
-        panic!(rt; "a log")
-    };
-    expect_eq(rt, &last.turns.as_slice().len(), &1);
-    for log in before {
-        assert!(rt; log.turns.as_slice().is_empty());
+    for (log, frame) in logs.iter().zip(1..=number) {
+        let turns = (frame == number) as usize;
+        expect_eq(rt, &(frame, log.turns.as_slice().len()), &(frame, turns));
     }
 }
 
 /// Runs so many frames, one after the other, and gives each log back.
-fn run_and_recycle<R: Threads + Sync + Abort, S: SystemOf<Value = i64> + Send>(
+fn run_and_recycle<R: Threads + Sync + Abort + AllocGlobal, S: SystemOf<Value = i64> + Send>(
     rt: &R,
-    alloc: Global,
     engine: &mut EngineOf<S>,
     number: u32,
 )
     requires engine { IsEngine i64_values S.meaning engine.old }
     ensures engine { IsEngine i64_values S.meaning engine.new }
 {
-    let frame = quiet(alloc);
     for _frame in 0..number {
-        let log = run_frame(rt, engine, &frame, 1, &NoGate).expect(rt, "a frame");
+        let log = run_frame(rt, engine, &[], 1, &NoGate);
         engine.recycle(log);
     }
 }
@@ -380,17 +348,18 @@ fn run_and_recycle<R: Threads + Sync + Abort, S: SystemOf<Value = i64> + Send>(
 #[test]
 fn a_million_frames(rt: HostRuntime) {
     let mut engine = readers(&rt, rt.alloc(), 0);
-    run_and_recycle(&rt, rt.alloc(), &mut engine, 1_000_001);
+    run_and_recycle(&rt, &mut engine, 1_000_001);
     expect_eq(&rt, &engine.frames_run(), &1_000_001);
+    drop(engine);
 }
 
 /// Frames up to the last that a system may join with, with which one joins, and one more.
 #[test]
 fn frames_and_a_join(rt: HostRuntime) {
-    let (alloc, t) = (rt.alloc(), type_no(0));
-    let mut engine = last_joining(&rt, alloc);
-    expect_frames(&rt, alloc, &mut engine, LAST_JOIN);
-    let (frame, five) = (frame_of(&rt, alloc, &[(t, 5)]), [posted(5)]);
-    expect_frame(&rt, &mut engine, &frame, 2, &[0], &[read(0, 0, &five)]);
+    let mut engine = last_joining(&rt, rt.alloc());
+    expect_frames(&rt, rt.alloc(), &mut engine, LAST_JOIN);
+    let (posts, five) = ([(type_no(0), 5)], [posted(5)]);
+    expect_frame(&rt, &mut engine, 2, &posts, &[0], &[read(0, 0, &five)]);
     expect_eq(&rt, &engine.frames_run(), &(LAST_JOIN + 1));
+    drop(engine);
 }

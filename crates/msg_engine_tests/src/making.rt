@@ -4,7 +4,7 @@ ghost use Rattle.msg_exec.specs.Prelude.{IsEngine};
 ghost use Rattle.msg_world.specs.Prelude.{i64_values};
 
 use msg_buffer::NoMemory;
-use msg_exec::{BuildError, EngineBuilder, EngineOf, Frame, Gate, Log, RunFault, Workers};
+use msg_exec::{BuildError, EngineBuilder, EngineOf, Frame, Gate, Log, NoGate, RunFault, Workers};
 use msg_order::Rule;
 use msg_part_tests::numbers::type_no;
 use msg_system::{Condition, Items, MAX_OPS, Numbered, Op, Program, Scripted, Start, SystemOf};
@@ -18,12 +18,15 @@ use std::thread::Threads;
 /// How many workers the worked runs are run on.
 pub const NUMBERS: [u32; 4] = [1, 2, 7, 64];
 
-fn copies<V: Value>(alloc: Global, ops: &[Op<V>]) -> Result<Vec<Op<V>>, NoMemory> {
-    let mut copies = Vec::with_capacity(alloc, ops.len())?;
+fn add_copies<V: Value>(
+    alloc: Global,
+    copies: &mut Vec<Op<V>>,
+    ops: &[Op<V>],
+) -> Result<(), NoMemory> {
     for op in ops {
         copies.push(op.copy(alloc)?)?;
     }
-    Ok(copies)
+    Ok(())
 }
 
 /// A script of these ops.
@@ -33,7 +36,9 @@ pub fn script<V: Value>(
     ops: &[Op<V>],
     start: Start,
 ) -> Result<Scripted<V>, NoMemory> {
-    let ops = Items::from_vec(copies(alloc, ops)?);
+    let mut copies = Vec::new(alloc);
+    add_copies(alloc, &mut copies, ops)?;
+    let ops = Items::from_vec(copies);
     assert!(rt; ops.as_slice().len() <= MAX_OPS);
     Ok(Scripted::new(Program { ops, start }, 0))
 }
@@ -90,23 +95,24 @@ pub fn scripts(
     rules: &[Rule],
 ) -> Result<EngineBuilder<Scripted>, BuildError> {
     let mut systems = EngineBuilder::new(alloc);
-    add_scripts(rt, alloc, &mut systems, ops)?;
-    for rule in rules {
-        systems.add_rule(*rule)?;
-    }
+    add_scripts(rt, alloc, &mut systems, ops, rules)?;
     Ok(systems)
 }
 
-/// Adds a script of each of these ops.
+/// Adds a script of each of these ops, and these rules.
 fn add_scripts(
     rt: &impl Abort,
     alloc: Global,
     systems: &mut EngineBuilder<Scripted>,
     ops: &[Op],
+    rules: &[Rule],
 ) -> Result<(), BuildError> {
     for op in ops {
         let script = script(rt, alloc, slice::from_ref(op), Start::Zero)?;
         systems.add_system(script, Vec::new(alloc), 1)?;
+    }
+    for rule in rules {
+        systems.add_rule(*rule)?;
     }
     Ok(())
 }
@@ -121,9 +127,28 @@ pub fn engine_of(
 ) -> Result<EngineOf<Scripted>, BuildError>
     ensures engine { IfOk result (IsEngine i64_values ⟦<Scripted as SystemOf>⟧.meaning) }
 {
-    let systems = scripts(rt, alloc, ops, rules)?;
     assert!(rt; limits.len() <= MAX_TYPES);
-    systems.build(World::new(alloc, limits, &[])?)
+    let world = World::new(alloc, limits, &[])?;
+    match scripts(rt, alloc, ops, rules) {
+        Ok(systems) => systems.build(world),
+        Err(error) => {
+            drop(world);
+            Err(error)
+        }
+    }
+}
+
+/// Such an engine, if there is memory for it.
+pub fn scripted_engine(
+    rt: &impl Abort,
+    alloc: Global,
+    limits: &[u64],
+    ops: &[Op],
+    rules: &[Rule],
+) -> EngineOf<Scripted>
+    ensures engine { IsEngine i64_values ⟦<Scripted as SystemOf>⟧.meaning result }
+{
+    engine_of(rt, alloc, limits, ops, rules).expect(rt, "an engine")
 }
 
 /// An engine of `number` readers of one type.
@@ -154,30 +179,41 @@ pub fn quiet(alloc: Global) -> Frame {
 
 /// `number` workers.
 fn workers(rt: &impl Abort, number: u32) -> Workers {
-    match Workers::new(number) {
-        Some(workers) => workers,
-        None => panic!(rt; "from 1 to 64 workers"),
-    }
+    Workers::new(number).expect(rt, "from 1 to 64 workers")
 }
 
-/// Runs one frame on `number` workers.
-pub fn run_frame<
-    R: Threads + Sync + Abort,
+/// Runs a frame with these posts on `number` workers.
+pub fn try_frame<
+    R: Threads + Sync + Abort + AllocGlobal,
     V: Value + Send + Sync,
     S: SystemOf<Value = V> + Send,
     G: Gate,
 >(
     rt: &R,
     engine: &mut EngineOf<S, V>,
-    frame: &Frame<V>,
+    posts: &[(TypeNo, V)],
     number: u32,
     gate: &G,
 ) -> Result<Log<V>, RunFault>
     requires engine { IsEngine V.values S.meaning engine.old }
     ensures engine { IsEngine V.values S.meaning engine.new }
 {
-    assert!(rt; engine.fits(frame));
-    engine.run_frame(rt, frame, workers(rt, number), gate)
+    let frame = frame_of(rt, rt.alloc(), posts);
+    assert!(rt; engine.fits(&frame));
+    engine.run_frame(rt, &frame, workers(rt, number), gate)
+}
+
+/// Such a frame, for which there is memory.
+pub fn run_frame<
+    R: Threads + Sync + Abort + AllocGlobal,
+    V: Value + Send + Sync,
+    S: SystemOf<Value = V> + Send,
+    G: Gate,
+>(rt: &R, engine: &mut EngineOf<S, V>, posts: &[(TypeNo, V)], number: u32, gate: &G) -> Log<V>
+    requires engine { IsEngine V.values S.meaning engine.old }
+    ensures engine { IsEngine V.values S.meaning engine.new }
+{
+    try_frame(rt, engine, posts, number, gate).expect(rt, "a frame")
 }
 
 /// Runs frames on `number` workers, and appends their logs.
@@ -201,16 +237,31 @@ pub fn run_frames<
     engine.run_frames(rt, frames, workers(rt, number), gate, logs)
 }
 
-/// Replays a frame on this thread, in this order.
+/// Runs two frames without posts in one call on `number` workers, and appends their logs.
+pub fn run_two_quiet<R: Threads + Sync + Abort + AllocGlobal, S: SystemOf<Value = i64> + Send>(
+    rt: &R,
+    engine: &mut EngineOf<S>,
+    number: u32,
+    logs: &mut Vec<Log>,
+) -> Result<(), RunFault>
+    requires engine { IsEngine i64_values S.meaning engine.old }
+    ensures engine { IsEngine i64_values S.meaning engine.new }
+{
+    let frames = [quiet(rt.alloc()), quiet(rt.alloc())];
+    run_frames(rt, engine, &frames, number, &NoGate, logs)
+}
+
+/// Replays a frame with these posts on this thread, in this order.
 pub fn replay<V: Value, S: SystemOf<Value = V>>(
-    rt: &impl Abort,
+    rt: &(impl Abort + AllocGlobal),
     engine: &mut EngineOf<S, V>,
-    frame: &Frame<V>,
+    posts: &[(TypeNo, V)],
     order: &[u32],
 ) -> Result<Log<V>, RunFault>
     requires engine { IsEngine V.values S.meaning engine.old }
     ensures engine { IsEngine V.values S.meaning engine.new }
 {
-    assert!(rt; engine.fits(frame));
-    engine.replay_frame(frame, order)
+    let frame = frame_of(rt, rt.alloc(), posts);
+    assert!(rt; engine.fits(&frame));
+    engine.replay_frame(&frame, order)
 }

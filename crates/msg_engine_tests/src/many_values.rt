@@ -6,9 +6,9 @@ ghost use Rattle.msg_exec.specs.Prelude.{IsEngine};
 use crate::equal::expect_eq;
 use crate::game_values::{Blow, Force};
 use crate::making::{NUMBERS, add, engine_over, replay, run_frame, scripted};
-use msg_exec::{EngineBuilder, EngineOf, Frame, Log, NoGate, Outcome};
+use msg_exec::{EngineBuilder, EngineOf, Log, NoGate, Outcome};
 use msg_part_tests::numbers::{res_no, type_no};
-use msg_system::{Condition, Items, Op, Probe, Reply, Scripted, Start, SystemOf, Took};
+use msg_system::{Condition, Op, Probe, Reply, Scripted, Start, SystemOf, Took};
 use msg_world::{HOST, Record, ResNo, Value};
 use std::alloc::Global;
 use std::fmt::Debug;
@@ -109,16 +109,14 @@ fn expect_took<V: Value + Debug + PartialEq>(
         writer: 0,
         value: run.written,
     };
+    let items = took.items.as_slice();
+    let found = (took.missed, took.first, items.len());
+    expect_eq(rt, &found, &(0, 2u64.saturating_mul(frame), 2));
     expect_eq(
         rt,
-        &(took.missed, took.first),
-        &(0, 2u64.saturating_mul(frame)),
+        &(items.first(), items.get(1)),
+        &(Some(&posted), Some(&written)),
     );
-    let [first, second] = took.items.as_slice() else {
-        panic!(rt; "two messages")
-    };
-    expect_eq(rt, first, &posted);
-    expect_eq(rt, second, &written);
 }
 
 /// The resource came to this sum.
@@ -146,7 +144,7 @@ fn expect_read<V: Value + Debug + PartialEq>(
     match replies_of(rt, log, 1) {
         Some([Reply::Read(took)]) if frame == 0 => expect_took(rt, run, frame, took),
         Some(_) => panic!(rt; "it read in frame {frame}"),
-        None => assert!(rt; frame > 0),
+        None => expect_eq(rt, &(frame > 0), &true),
     }
 }
 
@@ -181,33 +179,23 @@ fn expect_log<V: Value + Debug + PartialEq>(
     }
 }
 
-fn frame_with<V: Value>(rt: &impl Abort, alloc: Global, posted: V) -> Frame<V> {
-    Frame {
-        posts: Items::from_vec(only(rt, alloc, (type_no(0), posted))),
-    }
-}
-
 /// Runs the next frame on `number` workers.
-fn expect_frame<R: Threads + Sync + Abort, V: Value + Send + Sync + Debug + PartialEq>(
-    rt: &R,
-    alloc: Global,
-    engine: &mut EngineOf<Scripted<V>, V>,
-    run: &Run<V>,
-    frame: u64,
-    number: u32,
-)
+fn expect_frame<
+    R: Threads + Sync + Abort + AllocGlobal,
+    V: Value + Send + Sync + Debug + PartialEq,
+>(rt: &R, engine: &mut EngineOf<Scripted<V>, V>, run: &Run<V>, frame: u64, number: u32)
     requires engine { IsEngine V.values ⟦<Scripted<V> as SystemOf>⟧.meaning engine.old }
     ensures engine { IsEngine V.values ⟦<Scripted<V> as SystemOf>⟧.meaning engine.new }
 {
-    let next = frame_with(rt, alloc, run.posted);
-    let log = run_frame(rt, engine, &next, number, &NoGate).expect(rt, "a frame");
+    let posts = only(rt, rt.alloc(), (type_no(0), run.posted));
+    let log = run_frame(rt, engine, &posts, number, &NoGate);
     expect_log(rt, run, frame, &log);
+    drop((posts, log));
 }
 
 /// Replays the next frame in this order.
 fn expect_replay<V: Value + Debug + PartialEq>(
-    rt: &impl Abort,
-    alloc: Global,
+    rt: &(impl Abort + AllocGlobal),
     engine: &mut EngineOf<Scripted<V>, V>,
     run: &Run<V>,
     frame: u64,
@@ -216,30 +204,31 @@ fn expect_replay<V: Value + Debug + PartialEq>(
     requires engine { IsEngine V.values ⟦<Scripted<V> as SystemOf>⟧.meaning engine.old }
     ensures engine { IsEngine V.values ⟦<Scripted<V> as SystemOf>⟧.meaning engine.new }
 {
-    let next = frame_with(rt, alloc, run.posted);
-    let log = replay(rt, engine, &next, order).expect(rt, "a replay");
+    let posts = only(rt, rt.alloc(), (type_no(0), run.posted));
+    let log = replay(rt, engine, &posts, order);
+    let log = log.expect(rt, "a replay");
     expect_log(rt, run, frame, &log);
+    drop((posts, log));
 }
 
-/// Runs three frames on `number` workers.
-fn expect_run<R: Threads + Sync + Abort, V: Value + Send + Sync + Debug + PartialEq>(
+/// Runs three frames on each number of workers, and replays them; in the third the late system runs
+/// before the others that read.
+fn expect_runs<R: Threads + Sync + Abort + AllocGlobal, V: Value + Send + Sync + Debug + PartialEq>(
     rt: &R,
-    alloc: Global,
     run: &Run<V>,
-    number: u32,
 ) {
-    let mut engine = engine_of(rt, alloc, run);
-    expect_frame(rt, alloc, &mut engine, run, 0, number);
-    expect_frame(rt, alloc, &mut engine, run, 1, number);
-    expect_frame(rt, alloc, &mut engine, run, 2, number);
-}
-
-/// Replays three frames, in the third the late system before the others that read.
-fn expect_replays<V: Value + Debug + PartialEq>(rt: &impl Abort, alloc: Global, run: &Run<V>) {
-    let mut engine = engine_of(rt, alloc, run);
-    expect_replay(rt, alloc, &mut engine, run, 0, &[0, 1, 2]);
-    expect_replay(rt, alloc, &mut engine, run, 1, &[0, 1, 2]);
-    expect_replay(rt, alloc, &mut engine, run, 2, &[0, 3, 1, 2]);
+    for number in NUMBERS {
+        let mut engine = engine_of(rt, rt.alloc(), run);
+        expect_frame(rt, &mut engine, run, 0, number);
+        expect_frame(rt, &mut engine, run, 1, number);
+        expect_frame(rt, &mut engine, run, 2, number);
+        drop(engine);
+    }
+    let mut engine = engine_of(rt, rt.alloc(), run);
+    expect_replay(rt, &mut engine, run, 0, &[0, 1, 2]);
+    expect_replay(rt, &mut engine, run, 1, &[0, 1, 2]);
+    expect_replay(rt, &mut engine, run, 2, &[0, 3, 1, 2]);
+    drop(engine);
 }
 
 #[test]
@@ -255,10 +244,7 @@ fn forces(rt: HostRuntime) {
             force(331, 58, i64::MAX),
         ),
     };
-    for number in NUMBERS {
-        expect_run(&rt, rt.alloc(), &run, number);
-    }
-    expect_replays(&rt, rt.alloc(), &run);
+    expect_runs(&rt, &run);
 }
 
 #[test]
@@ -273,8 +259,5 @@ fn blows(rt: HostRuntime) {
         written: hit,
         sums: (hit, hit, hit),
     };
-    for number in NUMBERS {
-        expect_run(&rt, rt.alloc(), &run, number);
-    }
-    expect_replays(&rt, rt.alloc(), &run);
+    expect_runs(&rt, &run);
 }

@@ -68,10 +68,13 @@ fn run_pair<R: Threads + Sync>(
         return None;
     };
     if !engine.all_fit(frames) {
+        drop(engine);
         return None;
     }
     let mut logs = Vec::new(alloc);
-    match engine.run_frames(rt, frames, workers, &NoGate, &mut logs) {
+    let came = engine.run_frames(rt, frames, workers, &NoGate, &mut logs);
+    drop(engine);
+    match came {
         Ok(()) => Some(logs),
         Err(_) => None,
     }
@@ -120,6 +123,41 @@ pub fn run_waking<R: Threads + Sync>(
     Some(logs)
 }
 
+/// Runs frames on a new engine of the two, replays one more with the reader last, and asks for the
+/// accounts.
+fn live<R: Threads + Sync>(
+    rt: &R,
+    alloc: Global,
+    engine: &mut EngineOf<Scripted>,
+    frames: &[Frame],
+    last: &Frame,
+    workers: Workers,
+) -> Option<Vec<Account>>
+    requires new { HasRunSince ⟦<Scripted as SystemOf>⟧.meaning (pair_state []) [] [] engine.old }
+    requires engine { IsEngine i64_values ⟦<Scripted as SystemOf>⟧.meaning engine.old }
+    ensures since { IfSome result (λ accounts. (logs : List (LogView ℤ))
+        × HasRunSince ⟦<Scripted as SystemOf>⟧.meaning (pair_state [])
+        (frames.now ++ last.now ∷ []) logs engine.new) }
+    ensures accounts { IfSome result (λ accounts.
+        accounts.items ≡ accounts_of (run (frames.now ++ last.now ∷ []) (pair_state [])).state) }
+{
+    if !(engine.all_fit(frames) && engine.fits(last)) {
+        return None;
+    }
+    let mut logs = Vec::new(alloc);
+    let Ok(()) = engine.run_frames(rt, frames, workers, &NoGate, &mut logs) else {
+        return None;
+    };
+    let Ok(log) = engine.replay_frame(last, &[0, 1]) else {
+        return None;
+    };
+    engine.recycle(log);
+    match engine.accounts() {
+        Ok(accounts) => Some(accounts),
+        Err(_) => None,
+    }
+}
+
 /// A life of several calls: makes such an engine, runs frames, replays one more with the reader
 /// last, and asks for the accounts.
 pub fn run_life<R: Threads + Sync>(
@@ -140,28 +178,20 @@ pub fn run_life<R: Threads + Sync>(
     let Ok(mut engine) = engine(alloc, Vec::new(alloc)) else {
         return None;
     };
-    if !(engine.all_fit(frames) && engine.fits(last)) {
-        return None;
-    }
-    let mut logs = Vec::new(alloc);
-    let Ok(()) = engine.run_frames(rt, frames, workers, &NoGate, &mut logs) else {
+    let Some(accounts) = live(rt, alloc, &mut engine, frames, last, workers) else {
+        drop(engine);
         return None;
     };
-    let Ok(log) = engine.replay_frame(last, &[0, 1]) else {
-        return None;
-    };
-    engine.recycle(log);
-    match engine.accounts() {
-        Ok(accounts) => Some((accounts, engine)),
-        Err(_) => None,
-    }
+    Some((accounts, engine))
 }
 
 #[cfg(test)]
 mod tests {
     use super::{run_both, run_life, run_waking};
+    use crate::equal::expect_eq;
+    use crate::expecting::replies_of;
     use crate::making::quiet;
-    use msg_exec::{Outcome, Workers};
+    use msg_exec::Workers;
     use std::panic::Expect;
 
     #[test]
@@ -170,7 +200,8 @@ mod tests {
         let frames = [quiet(alloc), quiet(alloc), quiet(alloc)];
         let workers = (Workers::new(1).unwrap(), Workers::new(7).unwrap());
         let logs = run_both(&rt, alloc, &frames, workers).expect(&rt, "logs");
-        assert!(rt; logs.0.len() == 3 && logs.0 == logs.1);
+        expect_eq(&rt, &logs.0.len(), &3);
+        expect_eq(&rt, &logs.0, &logs.1);
     }
 
     #[test]
@@ -179,12 +210,10 @@ mod tests {
         let frames = [quiet(alloc), quiet(alloc), quiet(alloc)];
         let workers = Workers::new(2).unwrap();
         let logs = run_waking(&rt, alloc, &frames, workers).expect(&rt, "logs");
-        assert!(rt; logs.len() == 3);
+        expect_eq(&rt, &logs.len(), &3);
         for log in logs.as_slice() {
-            let [_, reader] = log.turns.as_slice() else {
-                panic!(rt; "two turns")
-            };
-            assert!(rt; reader.outcome != Outcome::Skipped);
+            expect_eq(&rt, &log.turns.as_slice().len(), &2);
+            replies_of(&rt, log, 1);
         }
     }
 
@@ -195,7 +224,10 @@ mod tests {
         let workers = Workers::new(2).unwrap();
         let life = run_life(&rt, alloc, &frames, &quiet(alloc), workers);
         let (accounts, engine) = life.expect(&rt, "a life");
-        assert!(rt; engine.frames_run() == 3);
-        assert!(rt; accounts.len() == 1 && accounts[0].got == 3 && accounts[0].missed == 0);
+        expect_eq(&rt, &engine.frames_run(), &3);
+        drop(engine);
+        let first = accounts.first().expect(&rt, "an account");
+        let found = (accounts.len(), first.got, first.missed);
+        expect_eq(&rt, &found, &(1, 3, 0));
     }
 }

@@ -9,8 +9,14 @@ use msg_world::{Counts, Lent, Taken, TypeNo};
 use std::alloc::Global;
 use std::panic::Expect;
 use std::process::Abort;
+use std::slice;
 use std::sync::Arc;
 use std::sync::atomic::{AtomicU64, Ordering};
+
+/// A number that systems share, 0 at first.
+pub fn shared_number(rt: &impl Abort, alloc: Global) -> Arc<AtomicU64> {
+    Arc::new(alloc, AtomicU64::new(0)).expect(rt, "a number")
+}
 
 /// Notes a digit at the end of a shared number.
 pub fn note(noted: &AtomicU64, digit: u64) {
@@ -144,7 +150,7 @@ pub fn noting_engine(
     rt: &impl Abort,
     alloc: Global,
     join: u32,
-    ops: Vec<(Op, Start)>,
+    ops: &[(Op, Start)],
     noted: &Arc<AtomicU64>,
 ) -> EngineOf<Prefaced<Scripted>>
     ensures engine { IsEngine i64_values ⟦<Prefaced<Scripted> as SystemOf>⟧.meaning result }
@@ -153,7 +159,7 @@ pub fn noting_engine(
     let mut digit = 0;
     for (op, start_at) in ops {
         digit = digit % 9 + 1;
-        let system = scripted(rt, alloc, &[op], start_at);
+        let system = scripted(rt, alloc, slice::from_ref(op), *start_at);
         let noting = noting(rt, system, digit, noted);
         add(rt, &mut systems, noting, Vec::new(alloc), join);
     }

@@ -3,45 +3,38 @@ ghost use Rattle.msg_exec.specs.Prelude.{IsEngine};
 ghost use Rattle.msg_world.specs.Prelude.{i64_values};
 
 use crate::equal::expect_eq;
+use crate::expecting::{expect_fault, expect_frame, read};
 use crate::gates::HoldGate;
-use crate::making::{quiet, replay, run_frame, run_frames};
-use crate::prefaced::{Before, Prefaced, add_counts, prefaced_readers};
+use crate::making::{replay, run_two_quiet, try_frame};
+use crate::prefaced::{Before, Prefaced, add_counts, prefaced_readers, shared_number};
 use msg_exec::{EngineOf, NoGate, RunFault};
 use msg_system::{Scripted, SystemOf};
 use std::alloc::Global;
 use std::panic::Expect;
 use std::process::Abort;
-use std::slice;
 use std::sync::Arc;
 use std::sync::atomic::{AtomicU64, Ordering};
 use std::thread::Threads;
 
 /// The engine was spoiled after `frames_run` frames: each call that runs a frame answers `Spoiled`,
 /// and so does `accounts`; and there is no world.
-pub fn expect_spoiled<R: Threads + Sync + Abort, S: SystemOf<Value = i64> + Send>(
+pub fn expect_spoiled<R: Threads + Sync + Abort + AllocGlobal, S: SystemOf<Value = i64> + Send>(
     rt: &R,
-    alloc: Global,
     engine: &mut EngineOf<S>,
     frames_run: u32,
 )
     requires engine { IsEngine i64_values S.meaning engine.old }
 {
-    let frame = quiet(alloc);
-    let one = run_frame(rt, engine, &frame, 1, &NoGate).err();
+    let one = try_frame(rt, engine, &[], 1, &NoGate);
     expect_fault(rt, one, RunFault::Spoiled);
-    let mut logs = Vec::new(alloc);
-    let many = run_frames(rt, engine, slice::from_ref(&frame), 1, &NoGate, &mut logs).err();
-    expect_fault(rt, many, RunFault::Spoiled);
-    assert!(rt; logs.is_empty());
-    let replayed = replay(rt, engine, &frame, &[0, 1]).err();
+    let mut logs = Vec::new(rt.alloc());
+    let two = run_two_quiet(rt, engine, 1, &mut logs);
+    expect_fault(rt, two, RunFault::Spoiled);
+    let replayed = replay(rt, engine, &[], &[0, 1]);
     expect_fault(rt, replayed, RunFault::Spoiled);
-    expect_fault(rt, engine.accounts().err(), RunFault::Spoiled);
-    assert!(rt; engine.world().is_none());
-    expect_eq(rt, &engine.frames_run(), &frames_run);
-}
-
-fn expect_fault(rt: &impl Abort, fault: Option<RunFault>, want: RunFault) {
-    assert!(rt; fault == Some(want));
+    expect_fault(rt, engine.accounts(), RunFault::Spoiled);
+    let left = (logs.len(), engine.world().is_none(), engine.frames_run());
+    expect_eq(rt, &left, &(0, true, frames_run));
 }
 
 /// An engine of readers of one type. The first of them has memory for `first_runs` runs; the runs
@@ -62,41 +55,37 @@ fn failing_engine(
 
 /// Two readers side by side. In the second frame one of them has no memory, and that spoils the
 /// engine.
-fn expect_spoiled_by_the_second<R: Threads + Sync + Abort>(rt: &R, alloc: Global, workers: u32) {
-    let runs = Arc::new(alloc, AtomicU64::new(0)).expect(rt, "a count");
-    let mut engine = failing_engine(rt, alloc, 2, 1, &runs);
-    let frame = quiet(alloc);
-    let first = run_frame(rt, &mut engine, &frame, workers, &NoGate);
-    expect_eq(rt, &first.expect(rt, "a frame").turns.as_slice().len(), &2);
-    let second = run_frame(rt, &mut engine, &frame, workers, &NoGate);
-    expect_fault(rt, second.err(), RunFault::NoMemory);
-    expect_spoiled(rt, alloc, &mut engine, 1);
-}
-
 #[test]
 fn a_second_run_without_memory(rt: HostRuntime) {
     for workers in [1, 2] {
-        expect_spoiled_by_the_second(&rt, rt.alloc(), workers);
+        let runs = shared_number(&rt, rt.alloc());
+        let mut engine = failing_engine(&rt, rt.alloc(), 2, 1, &runs);
+        let steps = [read(0, 0, &[]), read(1, 0, &[])];
+        expect_frame(&rt, &mut engine, workers, &[], &[], &steps);
+        let second = try_frame(&rt, &mut engine, &[], workers, &NoGate);
+        expect_fault(&rt, second, RunFault::NoMemory);
+        expect_spoiled(&rt, &mut engine, 1);
+        drop(engine);
     }
 }
 
 /// If one job has no memory, `run` others of its batch are run.
-fn expect_run_of_others<R: Threads + Sync + Abort>(
+fn expect_run_of_others<R: Threads + Sync + Abort + AllocGlobal>(
     rt: &R,
-    alloc: Global,
     readers: u32,
     workers: u32,
     run: u32,
 ) {
-    let runs = Arc::new(alloc, AtomicU64::new(0)).expect(rt, "a count");
-    let mut engine = failing_engine(rt, alloc, readers, 0, &runs);
+    let runs = shared_number(rt, rt.alloc());
+    let mut engine = failing_engine(rt, rt.alloc(), readers, 0, &runs);
     let gate = HoldGate::new(workers, [true; 5], workers.min(readers) as u64);
-    let log = run_frame(rt, &mut engine, &quiet(alloc), workers, &gate);
-    expect_fault(rt, log.err(), RunFault::NoMemory);
+    let log = try_frame(rt, &mut engine, &[], workers, &gate);
+    expect_fault(rt, log, RunFault::NoMemory);
+    expect_spoiled(rt, &mut engine, 0);
+    drop(engine);
+    gate.expect_met(rt, run as u64 + 1);
     let ran = runs.load(Ordering::SeqCst);
     expect_eq(rt, &(workers, ran), &(workers, run as u64));
-    gate.expect_met(rt, run as u64 + 1);
-    expect_spoiled(rt, alloc, &mut engine, 0);
 }
 
 /// The other workers run the other jobs of the batch; if the job was the only worker's, no job
@@ -104,6 +93,6 @@ fn expect_run_of_others<R: Threads + Sync + Abort>(
 #[test]
 fn the_others_run_where_one_has_no_memory(rt: HostRuntime) {
     for (readers, workers, run) in [(2, 1, 0), (2, 2, 1), (5, 2, 4), (5, 64, 4)] {
-        expect_run_of_others(&rt, rt.alloc(), readers, workers, run);
+        expect_run_of_others(&rt, readers, workers, run);
     }
 }

@@ -53,8 +53,8 @@ fn a_union_of_a_writer_and_a_reader(rt: HostRuntime) {
 
 #[test]
 fn one_type_both_read_and_written_is_a_clash(rt: HostRuntime) {
-    assert!(rt; of_types(1, 1).is_clash());
-    assert!(rt; !of_types(1, 2).is_clash());
+    let found = (of_types(1, 1).is_clash(), of_types(1, 2).is_clash());
+    expect_eq(&rt, &found, &(true, false));
 }
 
 /// Whether an access fits a world of so many types.

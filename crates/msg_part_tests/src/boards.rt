@@ -72,15 +72,14 @@ fn run_jobs<R: Threads + Sync, W: Runs + Send>(
 #[test]
 fn threads_draw_jobs(rt: HostRuntime) {
     for (n, passes) in [(100, 2), (MAX_JOBS as u32, MAX_PASSES), (1, 3)] {
-        let mut jobs = Vec::new(rt.alloc());
-        for i in 0..n {
-            jobs.push(i).expect(&rt, "a job");
-        }
+        let jobs: Vec<u32> = (0..n).collect(rt.alloc()).expect(&rt, "jobs");
         assert!(rt; jobs.len() <= MAX_JOBS);
         let results = run_jobs::<HostRuntime, AddOne>(&rt, rt.alloc(), jobs, passes);
         let results = results.expect(&rt, "results");
         expect_eq(&rt, &results.len(), &(n as usize));
-        assert!(rt; results.iter().enumerate().all(|(i, x)| *x == i as u64 + 1));
+        for (result, want) in results.iter().zip(1..) {
+            expect_eq(&rt, result, &want);
+        }
     }
 }
 
@@ -102,7 +101,7 @@ fn draw_next<W: Work>(
     ensures job { slice_get (jobs_of board.now) number ≡ Some result }
 {
     let (k, job) = board.draw(pass).expect(rt, "a job");
-    assert_eq!(rt; k, number);
+    assert!(rt; k == number);
     job
 }
 
@@ -119,7 +118,8 @@ fn draw_value(
     ensures holds { pass.new.holding ≡ Some number }
     ensures job { slice_get (jobs_of board.now) number ≡ Some value }
 {
-    assert_eq!(rt; draw_next(rt, board, pass, number), value);
+    let job = draw_next(rt, board, pass, number);
+    assert!(rt; job == value);
     expect_holding(rt, pass, Some(number));
 }
 
@@ -133,7 +133,7 @@ fn draw_none<W: Work, A: Allocator + Copy>(
     ensures ended { HasEnded board.now pass.new }
 {
     assert!(rt; board.draw(pass).is_none());
-    assert!(rt; pass.is_finished() && pass.holding().is_none());
+    expect_eq(rt, &(pass.is_finished(), pass.holding()), &(true, None));
 }
 
 /// The second pass holds a job while the first draws all others. Both draw None twice.
@@ -163,9 +163,8 @@ fn two_passes_and_three_jobs(rt: HostRuntime) {
     let jobs = vec![in rt.alloc(); 10, 20, 30].expect(&rt, "jobs");
     let board = Board::<AddOne>::new(rt.alloc(), jobs, 2).expect(&rt, "a board");
     let (board, mut passes) = board;
-    let (Some(mut b), Some(mut a)) = (passes.pop(), passes.pop()) else {
-        panic!(rt; "two passes")
-    };
+    let mut b = passes.pop().expect(&rt, "a pass");
+    let mut a = passes.pop().expect(&rt, "a pass");
     work_off(&rt, &board, &mut a, &mut b);
     passes.push(a).expect(&rt, "a list");
     passes.push(b).expect(&rt, "a list");
@@ -179,11 +178,9 @@ fn no_jobs_and_one_pass(rt: HostRuntime) {
     let heap = rt.alloc();
     let board = Board::<AddOne, &Global>::new(&heap, Vec::new(&heap), 1);
     let (board, mut passes) = board.expect(&rt, "a board");
-    let Some(mut pass) = passes.pop() else {
-        panic!(rt; "a pass")
-    };
+    let mut pass = passes.pop().expect(&rt, "a pass");
     draw_none(&rt, &board, &mut pass);
     passes.push(pass).expect(&rt, "a list");
     let results = board.close(&heap, passes).expect(&rt, "results");
-    assert!(rt; results.is_empty());
+    expect_eq(&rt, &results.len(), &0);
 }

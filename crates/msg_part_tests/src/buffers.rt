@@ -11,14 +11,14 @@ use std::process::Abort;
 
 fn write_values(rt: &impl Abort, buffer: &mut Messages<i64>, values: &[i64]) {
     for value in values {
-        assert!(rt; buffer.write(*value).is_ok());
+        expect_eq(rt, &buffer.write(*value).is_ok(), &true);
     }
 }
 
 /// The buffer has nothing for this cursor.
 fn expect_none_for(rt: &impl Abort, cursor: &mut MessageCursor, buffer: &Messages<i64>) {
     expect_eq(rt, &(cursor.missed(buffer), cursor.len(buffer)), &(0, 0));
-    assert!(rt; cursor.read(buffer).next().is_none());
+    expect_eq(rt, &cursor.read(buffer).next(), &None);
 }
 
 #[test]
@@ -31,6 +31,7 @@ fn cursor_past_the_count(rt: HostRuntime) {
     expect_eq(&rt, &cursor.place(), &3);
     cursor.clear(&fresh);
     expect_eq(&rt, &cursor.place(), &0);
+    drop((buffer, fresh));
 }
 
 /// A buffer of these words.
@@ -38,7 +39,7 @@ fn of_words(rt: &(impl Abort + AllocGlobal), words: &[&str]) -> Messages<String>
     let mut buffer = Messages::new(rt.alloc(), 10);
     for word in words {
         let word = word.to_string(rt.alloc()).expect(rt, "a word");
-        assert!(rt; buffer.write(word).is_ok());
+        expect_eq(rt, &buffer.write(word).is_ok(), &true);
     }
     buffer
 }
@@ -76,6 +77,7 @@ fn a_walk_left_early(rt: HostRuntime) {
     histories_only_grow::<String>();
     messages_outlive_one_update::<String>();
     readers_tile::<String>();
+    drop(buffer);
 }
 
 #[test]
@@ -112,10 +114,8 @@ fn expect_left(rt: &impl Abort, buffer: &Messages<i64>, taken: u64, place: u64) 
 #[test]
 fn what_is_not_taken_stays_unread(rt: HostRuntime) {
     let buffer = after_two(&rt);
-    expect_left(&rt, &buffer, 0, 2);
-    expect_left(&rt, &buffer, 1, 3);
-    expect_left(&rt, &buffer, 2, 4);
-    expect_left(&rt, &buffer, 3, 5);
-    expect_left(&rt, &buffer, 4, 5);
-    expect_left(&rt, &buffer, u64::MAX, 5);
+    for (taken, place) in [(0, 2), (1, 3), (2, 4), (3, 5), (4, 5), (u64::MAX, 5)] {
+        expect_left(&rt, &buffer, taken, place);
+    }
+    drop(buffer);
 }

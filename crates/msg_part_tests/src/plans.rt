@@ -30,7 +30,7 @@ fn plan_with(
     requires in_range { NameSystemsBelow (length accesses.now) rules.now }
 {
     let plan = Plan::build(rt.alloc(), accesses, rules, joined).expect(rt, "a plan");
-    assert!(rt; has_batches(&plan, batches));
+    expect_eq(rt, &has_batches(&plan, batches), &true);
     plan
 }
 
@@ -51,6 +51,7 @@ fn no_systems(rt: HostRuntime) {
     expect_accepts(&rt, &plan, &[], true);
     expect_accepts(&rt, &plan, &[0], false);
     expect_precedes(&rt, &plan, 0, 0, false);
+    drop(plan);
 }
 
 #[test]
@@ -59,6 +60,7 @@ fn readers_run_side_by_side(rt: HostRuntime) {
     let plan = plan_with(&rt, &accesses, &[], &[true; 4], &[&[0], &[1, 2], &[3]]);
     expect_precedes(&rt, &plan, 0, 3, true);
     expect_precedes(&rt, &plan, 1, 2, false);
+    drop(plan);
 }
 
 #[test]
@@ -66,6 +68,7 @@ fn a_settled_pair_leaves_the_next_no_choice(rt: HostRuntime) {
     let (accesses, rules) = ([uses(0, 1); 3], [Rule::before(2, 0)]);
     let plan = plan_with(&rt, &accesses, &rules, &[true; 3], &[&[2], &[0], &[1]]);
     expect_precedes(&rt, &plan, 2, 1, true);
+    drop(plan);
 }
 
 /// The plan of two writers and their readers, where each reader runs before the other's writer.
@@ -75,11 +78,14 @@ fn contradictory_plan(alloc: Global) -> Result<Plan, PlanRefusal> {
     Plan::build(alloc, &accesses, &rules, &[true; 4])
 }
 
+/// Its batches.
+const CONTRADICTORY: [&[u32]; 4] = [&[2], &[0], &[3], &[1]];
+
 #[test]
 fn rules_against_the_order_of_addition(rt: HostRuntime) {
     expect_eq(&rt, &Rule::after(0, 2), &Rule::before(2, 0));
     let plan = contradictory_plan(rt.alloc()).expect(&rt, "a plan");
-    assert!(rt; has_batches(&plan, &[&[2], &[0], &[3], &[1]]));
+    expect_eq(&rt, &has_batches(&plan, &CONTRADICTORY), &true);
     expect_precedes(&rt, &plan, 2, 1, true);
     expect_precedes(&rt, &plan, 1, 2, false);
     expect_precedes(&rt, &plan, 2, 300, false);
@@ -88,6 +94,7 @@ fn rules_against_the_order_of_addition(rt: HostRuntime) {
     expect_accepts(&rt, &plan, &[2, 0, 3], false);
     expect_accepts(&rt, &plan, &[2, 0, 3, 1, 1], false);
     expect_accepts(&rt, &plan, &[2, 0, 3, 300], false);
+    drop(plan);
 }
 
 /// There is no plan of these systems: their rules make a cycle, of which this is the lowest system.
@@ -102,8 +109,8 @@ fn expect_cycle(
     requires one_each { length joined.now ≡ length accesses.now }
     requires in_range { NameSystemsBelow (length accesses.now) rules.now }
 {
-    let plan = Plan::build(rt.alloc(), accesses, rules, joined);
-    assert!(rt; matches!(&plan, Err(PlanRefusal::Cycle(system)) if *system == lowest));
+    let refused = Plan::build(rt.alloc(), accesses, rules, joined).err();
+    assert!(rt; matches!(refused, Some(PlanRefusal::Cycle(system)) if system == lowest));
 }
 
 #[test]
@@ -147,10 +154,12 @@ fn what_has_not_joined_has_no_effect(rt: HostRuntime) {
     let plan = plan_with(&rt, &idle, &chain, &early, &[&[0, 2]]);
     expect_precedes(&rt, &plan, 0, 2, false);
     expect_precedes(&rt, &plan, 0, 1, false);
+    drop(plan);
     let plan = plan_with(&rt, &idle, &chain, &all, &[&[0], &[1], &[2]]);
     expect_precedes(&rt, &plan, 0, 2, true);
+    drop(plan);
     let own = [Rule::before(1, 1)];
-    plan_with(&rt, &idle, &own, &early, &[&[0, 2]]);
+    drop(plan_with(&rt, &idle, &own, &early, &[&[0, 2]]));
     expect_cycle(&rt, &idle, &own, &all, 1);
 }
 
@@ -161,6 +170,7 @@ fn expect_many(rt: &(impl Abort + AllocGlobal), access: Access, batches: usize, 
     let plan = plan.expect(rt, "a plan");
     expect_eq(rt, &plan.batches().len(), &batches);
     expect_precedes(rt, &plan, 0, MAX_SYSTEMS as u32 - 1, precedes);
+    drop(plan);
 }
 
 #[test]

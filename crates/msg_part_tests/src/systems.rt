@@ -19,7 +19,7 @@ fn program_of(ops: Vec<Op>) -> Program {
 fn a_copy_of_a_clash_is_one(rt: HostRuntime) {
     let (alloc, t) = (rt.alloc(), type_no(0));
     let clash = program_of(vec![in alloc; Op::Forward(t, t)].expect(&rt, "an op"));
-    assert!(rt; clash.access().is_clash());
+    expect_eq(&rt, &clash.access().is_clash(), &true);
     let copied = clash.copy(alloc).expect(&rt, "a copy");
     expect_eq(&rt, &copied.access(), &clash.access());
     expect_eq(
@@ -38,7 +38,8 @@ fn programs_are_copied_and_tell_their_access(rt: HostRuntime) {
     let ops = vec![in alloc; Op::Forward(t, t), Op::Get(r), Op::Add(r, 1), batch];
     let program = program_of(ops.expect(&rt, "ops"));
     let access = program.copy(alloc).expect(&rt, "a copy").access();
-    assert!(rt; access.writes_res(r) && !access.reads_res(r));
-    assert!(rt; access.reads_type(t) && access.writes_type(t));
-    assert!(rt; access.writes_type(u));
+    let resource = (access.writes_res(r), access.reads_res(r));
+    expect_eq(&rt, &resource, &(true, false));
+    let first = (access.reads_type(t), access.writes_type(t));
+    expect_eq(&rt, &(first, access.writes_type(u)), &((true, true), true));
 }

@@ -75,6 +75,8 @@ fn a_loan_shows_what_its_access_uses(rt: HostRuntime) {
     expect_shown(&rt, &mut lent, u, false);
     expect_shown(&rt, &mut lent, type_no(2), false);
     expect_only_read(&rt, &mut lent, r, 7);
+    drop(lent);
+    drop(world);
 }
 
 /// The loan shows this value of a resource, and lets neither the resource nor the registry be
@@ -120,6 +122,7 @@ fn a_written_resource_comes_home(rt: HostRuntime) {
     expect_all_home(&rt, &world, &access, true);
     expect_resource(&rt, &world, r, Some(8));
     expect_resource(&rt, &world, q, Some(70));
+    drop(world);
 }
 
 #[test]
@@ -131,19 +134,20 @@ fn an_empty_world(rt: HostRuntime) {
     expect_home(&rt, &world, type_no(0), false);
     expect_resource(&rt, &world, res_no(0), None);
     expect_eq(&rt, &world.counts().of(type_no(0)), &None);
+    drop(world);
 }
 
 #[test]
 fn posts(rt: HostRuntime) {
     let (t, u) = (type_no(0), type_no(1));
     let mut world = World::new(rt.alloc(), &[0, 2], &[]).expect(&rt, "a world");
-    assert!(rt; world.messages(t).is_some());
+    assert!(rt; world.messages(t).is_some() && world.messages(u).is_some());
     let Err(WriteRefusal::NumbersSpent(record)) = world.post(t, 5) else {
         panic!(rt; "no number is left")
     };
     expect_eq(&rt, &(record.writer, record.value), &(HOST, 5));
-    assert!(rt; world.messages(u).is_some());
     expect_eq(&rt, &world.post(u, 6).ok(), &Some(MessageId(0)));
+    drop(world);
 }
 
 /// Lends the registry to a job that signals twice, and takes it back.
@@ -155,8 +159,8 @@ fn signal_twice(rt: &impl Abort, world: &mut World)
     lent_parts_are_a_loan::<i64>();
     let taken = world.lend_out(&access).expect(rt, "a loan");
     let mut lent = Lent::open(world, &access, taken);
-    assert!(rt; lent.signal());
-    assert!(rt; lent.signal());
+    expect_eq(rt, &lent.signal(), &true);
+    expect_eq(rt, &lent.signal(), &true);
     lent_parts_may_come_home::<i64>();
     written_parts_come_home::<i64>();
     let taken = lent.into_taken();
@@ -169,14 +173,12 @@ fn post_one(rt: &impl Abort, world: &mut World)
 {
     let t = type_no(0);
     assert!(rt; world.messages(t).is_some());
-    assert!(rt; world.post(t, 1).is_ok());
+    expect_eq(rt, &world.post(t, 1).is_ok(), &true);
 }
 
 /// How many messages the first type keeps.
 fn expect_kept(rt: &impl Abort, world: &World, number: u64, why: &str) {
-    let Some(messages) = world.messages(type_no(0)) else {
-        panic!(rt; "type 0 is home")
-    };
+    let messages = world.messages(type_no(0)).expect(rt, "type 0 is home");
     expect_eq(rt, &(why, messages.len()), &(why, number));
 }
 
@@ -200,6 +202,7 @@ fn held_updates(rt: HostRuntime) {
     world.update_all();
     expect_kept(&rt, &world, 0, "it is two updates old");
     expect_eq(&rt, &world.counts().of(type_no(0)), &Some(1));
+    drop(world);
 }
 
 #[test]
@@ -211,13 +214,12 @@ fn a_world_that_is_not_held(rt: HostRuntime) {
     expect_kept(&rt, &world, 1, "it is one update old");
     world.update_all();
     expect_kept(&rt, &world, 0, "it is two updates old");
+    drop(world);
 }
 
 /// The type has this message as its first, and gives the next one the number 1.
 fn expect_first(rt: &impl Abort, world: &mut World, t: TypeNo, record: Record) {
-    let Some(messages) = world.messages(t) else {
-        panic!(rt; "the type is home")
-    };
+    let messages = world.messages(t).expect(rt, "the type is home");
     expect_eq(rt, &messages.get(MessageId(0)).copied(), &Some(record));
     expect_eq(rt, &world.post(t, 5).ok(), &Some(MessageId(1)));
 }
@@ -243,4 +245,5 @@ fn a_loan_that_ends_leaves_what_it_wrote(rt: HostRuntime) {
     expect_home(&rt, &world, u, true);
     expect_resource(&rt, &world, r, Some(7));
     expect_first(&rt, &mut world, t, record);
+    drop(world);
 }

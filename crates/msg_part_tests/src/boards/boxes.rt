@@ -81,23 +81,19 @@ impl<'a, T: Tool> Runs for Tools<'a, T> {
 }
 
 // What each tool gives of the number.
-fn values<R: Threads + Sync, T: Tool>(
+fn run_tools<R: Threads + Sync, T: Tool>(
     rt: &R,
     alloc: Global,
     base: &u64,
     tools: Vec<T>,
-) -> Result<Vec<u64>, NoMemory>
+) -> Result<Vec<ToolDone<T>>, NoMemory>
     requires { length tools.items ≤ MAX_JOBS }
 {
     let mut jobs = Vec::new(alloc);
     for tool in tools {
         jobs.push(ToolJob { tool, base })?;
     }
-    let mut values = Vec::new(alloc);
-    for done in run_jobs::<R, Tools<T>>(rt, alloc, jobs, 2)? {
-        values.push(done.value)?;
-    }
-    Ok(values)
+    run_jobs::<R, Tools<T>>(rt, alloc, jobs, 2)
 }
 
 fn boxed<T: Drop>(rt: &(impl Abort + AllocGlobal), tool: T) -> Box<T> {
@@ -113,6 +109,9 @@ fn boxes_of_two_kinds(rt: HostRuntime) {
     ];
     let (tools, base) = (tools.expect(&rt, "a list"), 20u64);
     assert!(rt; tools.len() == 3);
-    let values = values(&rt, rt.alloc(), &base, tools).expect(&rt, "values");
-    expect_eq(&rt, &values.as_slice(), &[10, 7, 10].as_slice());
+    let came = run_tools(&rt, rt.alloc(), &base, tools).expect(&rt, "values");
+    expect_eq(&rt, &came.len(), &3);
+    for (done, value) in came.iter().zip([10, 7, 10]) {
+        expect_eq(&rt, &done.value, &value);
+    }
 }

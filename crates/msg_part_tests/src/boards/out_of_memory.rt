@@ -106,9 +106,8 @@ fn work_off_both<'a>(
     ensures two { length passes.new.items ≡ 2 }
     ensures ended { All (HasEnded board.now) passes.new.items }
 {
-    let (Some(mut b), Some(mut a)) = (passes.pop(), passes.pop()) else {
-        panic!(rt; "two passes")
-    };
+    let mut b = passes.pop().expect(rt, "a pass");
+    let mut a = passes.pop().expect(rt, "a pass");
     work_off(rt, board, &mut a, &mut b, dropped);
     passes.push(a).expect(rt, "a list");
     passes.push(b).expect(rt, "a list");

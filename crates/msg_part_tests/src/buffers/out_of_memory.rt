@@ -3,9 +3,11 @@
 use crate::equal::expect_eq;
 use crate::outcome::tell;
 use msg_buffer::{
-    BatchRefusal, Instance, MessageCursor, MessageId, Messages, NoMemory, WriteRefusal, Written,
+    BatchRefusal, Instance, MessageCursor, MessageId, Messages, WriteRefusal, Written,
 };
 use std::alloc::Global;
+use std::io::Print;
+use std::panic::Expect;
 use std::process::Abort;
 use std::test::Fail;
 
@@ -105,10 +107,7 @@ impl Tried {
         }
         self.expect_seen(rt, &before);
         self.is_refused = true;
-        match self.buffer.drain() {
-            Ok(drained) => drained,
-            Err(NoMemory) => panic!(rt; "there is memory now"),
-        }
+        self.buffer.drain().expect(rt, "there is memory now")
     }
 
     /// Takes out all messages, which have these numbers and values.
@@ -128,7 +127,14 @@ impl Tried {
     /// Reads all messages that are left, which have these numbers and values.
     fn expect_rest(&mut self, rt: &impl Abort, want: &[(u64, i64)]) {
         self.expect_read(rt, want);
-        assert!(rt; self.cursor.is_empty(&self.buffer));
+        expect_eq(rt, &self.cursor.is_empty(&self.buffer), &true);
+    }
+
+    /// Whether a call was refused.
+    fn tell(self, rt: &impl Print) -> Result<(), Fail> {
+        let is_refused = self.is_refused;
+        drop(self);
+        tell(rt, is_refused)
     }
 }
 
@@ -141,9 +147,7 @@ fn expect_next(
 ) {
     let mut unread = cursor.read(buffer);
     for item in want {
-        let Some((id, value)) = unread.next() else {
-            panic!(rt; "a message")
-        };
+        let (id, value) = unread.next().expect(rt, "a message");
         expect_message(rt, id, *value, item);
     }
 }
@@ -163,7 +167,7 @@ fn items_left_unread(rt: HostRuntime) -> Result<(), Fail> {
     tried.expect_read(&rt, &[(0, 1), (1, 2)]);
     tried.buffer.update();
     tried.expect_rest(&rt, &[(2, 3), (3, 4), (4, 5)]);
-    tell(&rt, tried.is_refused)
+    tried.tell(&rt)
 }
 
 #[test]
@@ -177,7 +181,7 @@ fn last_number(rt: HostRuntime) -> Result<(), Fail> {
     expect_eq(&rt, &written, &Some(Written { first: 2, n: 0 }));
     expect_eq(&rt, &tried.buffer.get(MessageId(u64::MAX)), &None);
     tried.expect_rest(&rt, &[(0, 4), (1, 5)]);
-    tell(&rt, tried.is_refused)
+    tried.tell(&rt)
 }
 
 #[test]
@@ -191,7 +195,7 @@ fn drain_both_halves(rt: HostRuntime) -> Result<(), Fail> {
     tried.expect_read(&rt, &[]);
     tried.expect_written(&rt, &[(2, 3)]);
     tried.expect_read(&rt, &[(2, 3)]);
-    tell(&rt, tried.is_refused)
+    tried.tell(&rt)
 }
 
 /// Both halves have no room left, so one of them has to grow if they are drained together.
@@ -212,7 +216,7 @@ fn drain_full_halves(rt: HostRuntime) -> Result<(), Fail> {
     tried.buffer.update();
     tried.expect_written(&rt, &want[4..]);
     tried.expect_drained(&rt, &want);
-    assert!(rt; tried.buffer.is_empty());
-    expect_eq(&rt, &tried.cursor.missed(&tried.buffer), &8);
-    tell(&rt, tried.is_refused)
+    let missed = tried.cursor.missed(&tried.buffer);
+    expect_eq(&rt, &(tried.buffer.is_empty(), missed), &(true, 8));
+    tried.tell(&rt)
 }

@@ -1,6 +1,7 @@
 // If there is no memory for a plan there is none, and the same call gives it once memory is
 // there.
-use super::{contradictory_plan, has_batches};
+use super::{CONTRADICTORY, contradictory_plan, has_batches};
+use crate::equal::expect_eq;
 use crate::outcome::tell;
 use msg_order::PlanRefusal;
 use std::alloc::Global;
@@ -11,7 +12,8 @@ use std::test::Fail;
 fn is_refused(rt: &impl Abort, alloc: Global) -> bool {
     match contradictory_plan(alloc) {
         Ok(plan) => {
-            assert!(rt; has_batches(&plan, &[&[2], &[0], &[3], &[1]]));
+            expect_eq(rt, &has_batches(&plan, &CONTRADICTORY), &true);
+            drop(plan);
             false
         }
         Err(PlanRefusal::NoMemory) => true,
@@ -23,7 +25,7 @@ fn is_refused(rt: &impl Abort, alloc: Global) -> bool {
 fn contradictory_order(rt: HostRuntime) -> Result<(), Fail> {
     let is_first_refused = is_refused(&rt, rt.alloc());
     if is_first_refused {
-        assert!(rt; !is_refused(&rt, rt.alloc()));
+        expect_eq(&rt, &is_refused(&rt, rt.alloc()), &false);
     }
     tell(&rt, is_first_refused)
 }

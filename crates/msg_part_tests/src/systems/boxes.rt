@@ -102,9 +102,11 @@ fn a_list_of_four_boxes(rt: HostRuntime) {
     let mut boxes = boxes.expect(&rt, "a list");
     let mut world = World::new(rt.alloc(), &[9, 9, 9], &[7]).expect(&rt, "a world");
     let replies = replies_of(&rt, &mut world, boxes.as_mut_slice());
+    drop(boxes);
     let text = format!(in rt.alloc(); "{replies:?}").expect(&rt, "a text");
     expect_eq(&rt, &text.as_str(), &REPLIES);
     expect_eq(&rt, &world.resource(r), &Some(18));
+    drop(world);
 }
 
 /// Each op, copied.
@@ -130,6 +132,6 @@ fn copies_of_every_op(rt: HostRuntime) {
         Op::Signal,
     ];
     for op in &ops {
-        assert!(rt; op.copy(alloc).expect(&rt, "a copy") == *op);
+        expect_eq(&rt, &op.copy(alloc).expect(&rt, "a copy"), op);
     }
 }

@@ -9,6 +9,7 @@ use crate::outcome::tell;
 use msg_buffer::{MessageCursor, MessageId, Messages, WriteRefusal};
 use msg_world::laws::{lent_parts_are_a_loan, lent_parts_may_come_home, writes_stand};
 use msg_world::{Access, HOST, Lent, NoMemory, Record, ResNo, TypeNo, World};
+use std::panic::Expect;
 use std::process::Abort;
 use std::test::Fail;
 
@@ -60,16 +61,12 @@ fn expect_numbers(rt: &impl Abort, messages: &Messages<Record>, numbers: (u64, u
 
 /// The type is home, and has these messages, numbered from 0, of which none was dropped.
 fn expect_messages(rt: &impl Abort, world: &World, t: TypeNo, records: &[Record]) {
-    let Some(messages) = world.messages(t) else {
-        panic!(rt; "type 0 is home")
-    };
+    let messages = world.messages(t).expect(rt, "type 0 is home");
     expect_numbers(rt, messages, (0, records.len() as u64));
     let mut cursor = MessageCursor::new(0);
     let mut unread = cursor.read(messages);
     for record in records {
-        let Some((_, kept)) = unread.next() else {
-            panic!(rt; "each is kept")
-        };
+        let (_, kept) = unread.next().expect(rt, "each is kept");
         expect_eq(rt, &kept, &record);
     }
 }
@@ -80,9 +77,7 @@ fn write(rt: &impl Abort, lent: &mut Lent, t: TypeNo, record: Record) -> bool
     ensures same { SameLoan lent.old lent.new }
 {
     writes_stand::<i64>();
-    let Some(messages) = lent.writer(t) else {
-        panic!(rt; "type 0 is lent")
-    };
+    let messages = lent.writer(t).expect(rt, "type 0 is lent");
     is_written(rt, messages.write(record), 1, record)
 }
 
@@ -123,6 +118,7 @@ fn lending(rt: HostRuntime) -> Result<(), Fail> {
     expect_all_home(&rt, &world, &access, true);
     expect_resource(&rt, &world, r, Some(value));
     expect_messages(&rt, &world, t, &[by_host(5), record][..1 + wrote as usize]);
+    drop(world);
     tell(&rt, !wrote)
 }
 
@@ -137,5 +133,6 @@ fn a_post(rt: HostRuntime) -> Result<(), Fail> {
     let records = [by_host(5), by_host(6)];
     expect_messages(&rt, &world, t, &records[..1 + is_posted as usize]);
     expect_resource(&rt, &world, r, Some(7));
+    drop(world);
     tell(&rt, !is_posted)
 }

@@ -9,12 +9,6 @@ without : {S : Type 0} (meaning : S → Meaning ℤ) (e : EngineOf S ℤ) (condi
     → HasRunSince meaning (pair_state conditions) [] [] e → HasRunSince meaning (pair_state []) [] [] e
 without meaning e conditions none since = subst (λ cs. HasRunSince meaning (pair_state cs) [] [] e) none since
 
-pub returns-in-Ok-accounts-clause-since : goal.returns-in-Ok-accounts-clause-since
-returns-in-Ok-accounts-clause-since g c =
-    let made = without _ _ _ c.new.ensures.items c.in-Ok.ensures.since in
-    let ran = c.in-Ok-run_frames.ensures.since (pair_state []) [] (rw c.new-logs.ensures.items made) in
-    (_, c.recycle.ensures.since (pair_state []) _ _ (c.in-Ok-replay_frame.ensures.since (pair_state []) c.args.frames.now _ ran))
-
-pub returns-in-Ok-accounts-clause-accounts : goal.returns-in-Ok-accounts-clause-accounts
-returns-in-Ok-accounts-clause-accounts g c =
-    c.in-Ok-accounts.ensures.accounts _ (returns-in-Ok-accounts-clause-since g c).1.stands
+pub live-requires : goal.live-requires
+live-requires g c =
+    (c.type_bounds.sync-R, (without _ _ _ c.new.ensures.items c.in-Ok.ensures.since, c.in-Ok.ensures.engine))
