@@ -85,21 +85,12 @@ fn lag(rt: &(impl Abort + AllocGlobal), rule: Rule, posted: TypeNo) -> Scenario 
 
 #[test]
 fn a_scenario_of_code_is_reported(rt: HostRuntime) {
-    let alloc = rt.alloc();
     let scenario = lag(&rt, Rule::before(0, 1), TypeNo::new(0).unwrap());
     assert!(rt; scenario.is_runnable());
-    let mut engine = sparing_engine(alloc, &scenario, 100).expect(&rt, "an engine");
+    let mut engine = sparing_engine(rt.alloc(), &scenario, 100).expect(&rt, "an engine");
     let mut sink = MemorySink::new();
     let workers = workers(&rt, 2);
-    let put = report(
-        &rt,
-        alloc,
-        &mut engine,
-        &scenario,
-        workers,
-        &NoGate,
-        &mut sink,
-    );
+    let put = report(&rt, &mut engine, &scenario, workers, &NoGate, &mut sink);
     expect_eq(&rt, &put, &Ok(()));
     expect_eq(&rt, &sink.bytes(), &REPORT.as_bytes());
 }
