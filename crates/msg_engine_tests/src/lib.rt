@@ -29,6 +29,8 @@ mod late;
 #[cfg(test)]
 mod limits;
 #[cfg(test)]
+mod loops;
+#[cfg(test)]
 mod making;
 #[cfg(test)]
 mod many_values;

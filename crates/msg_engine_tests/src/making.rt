@@ -178,7 +178,7 @@ pub fn quiet(alloc: Global) -> Frame {
 }
 
 /// `number` workers.
-fn workers(rt: &impl Abort, number: u32) -> Workers {
+pub fn workers(rt: &impl Abort, number: u32) -> Workers {
     Workers::new(number).expect(rt, "from 1 to 64 workers")
 }
 
