@@ -6,12 +6,14 @@ use std::io::{Error, ErrorKind, Read};
 use std::panic::Expect;
 use std::process::Abort;
 
-/// Gives `left` bytes, each of them 7, at most `at_once` at each read; then an error or the end.
+/// Gives `left` bytes, each of them 7, at most `at_once` at each read; then an error or the end,
+/// which is told so many times.
 #[derive(Drop)]
 struct Drips {
     left: usize,
     at_once: usize,
     fails: bool,
+    ends: u32,
 }
 
 impl Read for Drips {
@@ -24,11 +26,12 @@ impl Read for Drips {
             *byte = 7;
         }
         self.left -= n;
+        self.ends = self.ends.saturating_add(u32::from(n == 0));
         Ok(n)
     }
 }
 
-/// How many bytes there are, and how many come at each read.
+/// How many bytes there are, and how many come at each read. Nothing is read after the end.
 #[test]
 fn whole_inputs(rt: HostRuntime) {
     expect_whole(&rt, 0, 1);
@@ -42,13 +45,15 @@ fn whole_inputs(rt: HostRuntime) {
 
 fn expect_whole(rt: &(impl Abort + AllocGlobal), left: usize, at_once: usize) {
     let fails = false;
+    let ends = 0;
     let mut input = Drips {
         left,
         at_once,
         fails,
+        ends,
     };
     let all = read_all(rt.alloc(), &mut input).expect(rt, "all bytes");
-    expect_eq(rt, &all.len(), &left);
+    expect_eq(rt, &(all.len(), input.ends), &(left, 1));
     assert!(rt; all.iter().all(|byte| *byte == 7));
 }
 
@@ -64,10 +69,12 @@ fn faults(rt: HostRuntime) {
         (MAX_BYTES + 1, 4096, true, InputFault::TooLarge),
         (usize::MAX, 1, false, InputFault::TooLarge),
     ] {
+        let ends = 0;
         let mut input = Drips {
             left,
             at_once,
             fails,
+            ends,
         };
         expect_eq(&rt, &read_all(rt.alloc(), &mut input).err(), &Some(want));
     }
