@@ -1,7 +1,7 @@
 // Frames in a loop, each by the log of the one before it.
 ghost use Rattle.std.specs.Prelude.{◌≡◌, ◌↔◌, Err, OnOk};
 ghost use Rattle.msg_exec.specs.Engines.{IsEngine, IsSpoiled};
-ghost use Rattle.msg_exec.specs.Hosts.{HasMetMisfit, HasRunLoop};
+ghost use Rattle.msg_exec.specs.Hosts.{HasMetMisfit, HasRunFor, HasRunLoop};
 
 use crate::{EngineOf, Frame, Log, LoopFault, NoGate, NoMemory, RunFault, Workers};
 use msg_system::SystemOf;
@@ -74,6 +74,8 @@ impl<V: Value + Send + Sync, S: SystemOf<Value = V> + Send> EngineOf<S, V> {
         ensures alive { OnOk result (¬ IsSpoiled self.new) }
         ensures goes_on { (result ≡ Err LoopFault.Misfit) → ¬ IsSpoiled self.new }
         ensures no_memory_for_host { (result ≡ Err LoopFault.Host) → ¬ IsSpoiled self.new }
+        ensures ran_for_host { result ≡ Err LoopFault.Host → (now : H)
+            × HasRunFor V.values S.meaning H.gives host.old self.old now self.new }
         ensures spoiled { (result ≡ Err (LoopFault.Run RunFault.Spoiled)) ↔ IsSpoiled self.old }
         ensures unchanged { result ≡ Err (LoopFault.Run RunFault.Spoiled) → self.new ≡ self.old }
         ensures host_unasked { result ≡ Err (LoopFault.Run RunFault.Spoiled) → host.new ≡ host.old }

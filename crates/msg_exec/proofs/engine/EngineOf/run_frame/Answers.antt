@@ -1,4 +1,4 @@
-use Rattle.std.proofs.Common.{◌∷◌, [], inr, arith, sym, ap, ◌∙◌, is_some}
+use Rattle.std.proofs.Common.{◌∷◌, [], inr, arith, ap, is_some}
 use Rattle.msg_exec.proofs.EngineRunsFrames.{is_alive, its_core, still_fit, stood}
 use Rattle.msg_frames.proofs.Functions.{run_keeps}
 use Rattle.msg_exec.proofs.SinceThen.{since_frame}
