@@ -31,6 +31,15 @@ impl Read for Drips {
     }
 }
 
+fn input_of(left: usize, at_once: usize, fails: bool) -> Drips {
+    Drips {
+        left,
+        at_once,
+        fails,
+        ends: 0,
+    }
+}
+
 /// How many bytes there are, and how many come at each read. Nothing is read after the end.
 #[test]
 fn whole_inputs(rt: HostRuntime) {
@@ -44,14 +53,7 @@ fn whole_inputs(rt: HostRuntime) {
 }
 
 fn expect_whole(rt: &(impl Abort + AllocGlobal), left: usize, at_once: usize) {
-    let fails = false;
-    let ends = 0;
-    let mut input = Drips {
-        left,
-        at_once,
-        fails,
-        ends,
-    };
+    let mut input = input_of(left, at_once, false);
     let all = read_all(rt.alloc(), &mut input).expect(rt, "all bytes");
     expect_eq(rt, &(all.len(), input.ends), &(left, 1));
     assert!(rt; all.iter().all(|byte| *byte == 7));
@@ -69,13 +71,7 @@ fn faults(rt: HostRuntime) {
         (MAX_BYTES + 1, 4096, true, InputFault::TooLarge),
         (usize::MAX, 1, false, InputFault::TooLarge),
     ] {
-        let ends = 0;
-        let mut input = Drips {
-            left,
-            at_once,
-            fails,
-            ends,
-        };
+        let mut input = input_of(left, at_once, fails);
         expect_eq(&rt, &read_all(rt.alloc(), &mut input).err(), &Some(want));
     }
 }

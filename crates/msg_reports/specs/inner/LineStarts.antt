@@ -1,11 +1,11 @@
 -- What the lines of turns begin with, made once: the words of private functions.
-use Rattle.std.specs.Prelude.{◌≡◌, ◌++◌, ℕ, List, [], codes, flat_map, map, slice_get, zip, ℤ}
+use Rattle.std.specs.Prelude.{◌≡◌, ◌++◌, List, [], codes, flat_map, map, slice_get, zip, ℤ}
 use Rattle.std.specs.Option.{option_map_or}
 use Rattle.msg_text.specs.Prelude.{Text}
 use Rattle.msg_frames.specs.declared.log.{Outcome.Outcome, Turn.Turn}
 use Rattle.msg_frames.specs.declared.log.Outcome.TheVariants.{Ran, Skipped}
 use Rattle.msg_scenario_data.specs.{declared.scenario.Scenario.Scenario, declared.scenario.SystemSpec.SystemSpec}
-use Rattle.msg_reports.specs.{declared.reports.lines.SystemLines.SystemLines, declared.reports.put.Reporter.Reporter, ReportText.answered_line, ReportText.op_start}
+use Rattle.msg_reports.specs.{declared.reports.lines.SystemLines.SystemLines, ReportText.answered_line, ReportText.op_start}
 
 -- the line of a turn that a system skips, and how the line of each of its ops begins
 abbrev pub lines_of : Scenario → SystemSpec → Text × List Text
@@ -30,9 +30,3 @@ finished_outcome s lines (Ran answers) =
 abbrev pub finished_turn : Scenario → List SystemLines → Turn ℤ → Text
 finished_turn s lines turn =
     option_map_or (λ l. finished_outcome s l turn.outcome) (slice_get lines turn.system) []
-
--- the same report, so many frames of it done
-pub record IsAfter (count : ℕ) (old new : Reporter) : Type 0 where
-  pub scenario : new.scenario ≡ old.scenario
-  pub lines : new.lines ≡ old.lines
-  pub reported : new.reported ≡ count

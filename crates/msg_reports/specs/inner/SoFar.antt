@@ -9,7 +9,14 @@ use Rattle.msg_exec.specs.declared.engine.EngineOf.{EngineOf}
 use Rattle.msg_scenario_data.specs.Prelude.{state_of}
 use Rattle.msg_scenario_data.specs.declared.scenario.Scenario.{Scenario}
 use Rattle.msg_reports.specs.ReportText.{frames_text}
+use Rattle.msg_reports.specs.declared.reports.put.Reporter.{Reporter}
 use Rattle.msg_world.specs.Prelude.{i64_values}
+
+-- the same report, so many frames of it done
+pub record IsAfter (count : ℕ) (old new : Reporter) : Type 0 where
+  pub scenario : new.scenario ≡ old.scenario
+  pub lines : new.lines ≡ old.lines
+  pub reported : new.reported ≡ count
 
 module _ {S : Type 0} (contents : S → Option (List ℕ)) (failures : S → ℕ)
     {X : Type 0} (meaning : X → Meaning ℤ) (s : Scenario) (first : EngineOf X ℤ) where

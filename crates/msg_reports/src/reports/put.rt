@@ -2,7 +2,7 @@
 ghost use Rattle.std.specs.Prelude.{◌≡◌, ◌≢◌, ◌⊎◌, [], Err, IfErr, OnOk, OnErr};
 ghost use Rattle.std.specs.Io.KnownBytes.{Appends};
 ghost use Rattle.msg_reports.specs.Prelude.{accounts_text, frame_text};
-ghost use Rattle.msg_reports.specs.inner.LineStarts.{AreLines, IsAfter};
+ghost use Rattle.msg_reports.specs.{inner.LineStarts.AreLines, inner.SoFar.IsAfter};
 ghost use Rattle.msg_text.specs.Prelude.{AppendsPrefix, one_failure_more};
 
 use crate::reports::accounts::add_accounts;

@@ -4,7 +4,7 @@ ghost use Rattle.msg_exec.specs.declared.engine.EngineOf.{EngineOf as EngineView
 ghost use Rattle.msg_exec.specs.Prelude.{EngineStands};
 ghost use Rattle.msg_reports.specs.Prelude.{LeavesEngine, LeavesReport};
 ghost use Rattle.msg_scenario_data.specs.Prelude.{PostsAreToTypes, state_of};
-ghost use Rattle.msg_reports.specs.{inner.LineStarts.{AreLines, IsAfter}, inner.SoFar.ReportSoFar};
+ghost use Rattle.msg_reports.specs.{inner.LineStarts.AreLines, inner.SoFar.IsAfter, inner.SoFar.ReportSoFar};
 
 use crate::reports::lines::make_lines;
 use crate::reports::put::{Reporter, put_accounts, put_frame};

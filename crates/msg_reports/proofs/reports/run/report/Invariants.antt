@@ -1,4 +1,4 @@
-use Rattle.msg_reports.specs.inner.{LineStarts.IsAfter, SoFar.ReportSoFar}
+use Rattle.msg_reports.specs.inner.SoFar.{IsAfter, ReportSoFar}
 use Rattle.msg_reports.proofs.reports.run.report.Given as goal
 
 abbrev pub invariant-loop : goal.invariant-loop
