@@ -1,14 +1,17 @@
 // Refuses one request for memory of the program that loads this library: the one whose number the variable REFUSED
 // gives, counted from 1. Only requests of the program's own code count, and none of the C library. Where the request
-// is made, the file that REFUSED_MARK names is made too.
+// is made, the file that REFUSED_MARK names is made too. At the end the file that REQUESTS names gets one line: how many
+// requests were made, and for how many bytes in all.
 #define _GNU_SOURCE
 #include <fcntl.h>
 #include <link.h>
 #include <stdatomic.h>
+#include <stdio.h>
 #include <stdlib.h>
+#include <sys/syscall.h>
 #include <unistd.h>
 
-static atomic_long made;
+static atomic_long made, bytes;
 static long refused;
 static const char *mark;
 static char *first, *last;
@@ -34,8 +37,23 @@ __attribute__((constructor)) static void begin(void) {
     dl_iterate_phdr(find_code, NULL);
 }
 
-static int is_refused(char *caller) {
-    if (caller < first || last <= caller || atomic_fetch_add(&made, 1) + 1 != refused)
+// The program ends by this call.
+void _exit(int status) {
+    const char *name = getenv("REQUESTS");
+    FILE *file = name ? fopen(name, "w") : NULL;
+    if (file) {
+        fprintf(file, "%ld %ld\n", atomic_load(&made), atomic_load(&bytes));
+        fclose(file);
+    }
+    syscall(SYS_exit_group, status);
+    __builtin_unreachable();
+}
+
+static int is_refused(char *caller, size_t size) {
+    if (caller < first || last <= caller)
+        return 0;
+    atomic_fetch_add(&bytes, (long)size);
+    if (atomic_fetch_add(&made, 1) + 1 != refused)
         return 0;
     if (mark)
         close(open(mark, O_CREAT | O_WRONLY, 0600));
@@ -46,9 +64,9 @@ extern void *__libc_malloc(size_t);
 extern void *__libc_realloc(void *, size_t);
 
 void *malloc(size_t size) {
-    return is_refused(__builtin_return_address(0)) ? NULL : __libc_malloc(size);
+    return is_refused(__builtin_return_address(0), size) ? NULL : __libc_malloc(size);
 }
 
 void *realloc(void *old, size_t size) {
-    return is_refused(__builtin_return_address(0)) ? NULL : __libc_realloc(old, size);
+    return is_refused(__builtin_return_address(0), size) ? NULL : __libc_realloc(old, size);
 }
