@@ -71,21 +71,22 @@ fn run_jobs<R: Threads + Sync, W: Runs + Send>(
 /// the jobs' numbers, in the order of the jobs.
 #[test]
 fn threads_draw_jobs(rt: HostRuntime) {
+    let rt = &rt;
     for (n, passes) in [(100, 2), (MAX_JOBS as u32, MAX_PASSES), (1, 3)] {
-        let jobs: Vec<u32> = (0..n).collect(rt.alloc()).expect(&rt, "jobs");
+        let jobs: Vec<u32> = (0..n).collect(rt.alloc()).expect(rt, "jobs");
         assert!(rt; jobs.len() <= MAX_JOBS);
-        let results = run_jobs::<HostRuntime, AddOne>(&rt, rt.alloc(), jobs, passes);
-        let results = results.expect(&rt, "results");
-        expect_eq(&rt, &results.len(), &(n as usize));
+        let results = run_jobs::<HostRuntime, AddOne>(rt, rt.alloc(), jobs, passes);
+        let results = results.expect(rt, "results");
+        expect_eq(rt, results.len(), n as usize);
         for (result, want) in results.iter().zip(1..) {
-            expect_eq(&rt, result, &want);
+            expect_eq(rt, *result, want);
         }
     }
 }
 
 /// The pass isn't finished, and holds this job, if any.
 fn expect_holding(rt: &impl Abort, pass: &Pass<u32, u64>, number: Option<usize>) {
-    expect_eq(rt, &(pass.holding(), pass.is_finished()), &(number, false));
+    expect_eq(rt, (pass.holding(), pass.is_finished()), (number, false));
 }
 
 /// Draws the next job, which has this number.
@@ -133,7 +134,7 @@ fn draw_none<W: Work, A: Allocator + Copy>(
     ensures ended { HasEnded board.now pass.new }
 {
     assert!(rt; board.draw(pass).is_none());
-    expect_eq(rt, &(pass.is_finished(), pass.holding()), &(true, None));
+    expect_eq(rt, (pass.is_finished(), pass.holding()), (true, None));
 }
 
 /// The second pass holds a job while the first draws all others. Both draw None twice.
@@ -160,27 +161,29 @@ fn work_off(rt: &impl Abort, board: &Board<AddOne>, a: &mut Pass<u32, u64>, b: &
 
 #[test]
 fn two_passes_and_three_jobs(rt: HostRuntime) {
-    let jobs = vec![in rt.alloc(); 10, 20, 30].expect(&rt, "jobs");
-    let board = Board::<AddOne>::new(rt.alloc(), jobs, 2).expect(&rt, "a board");
+    let rt = &rt;
+    let jobs = vec![in rt.alloc(); 10, 20, 30].expect(rt, "jobs");
+    let board = Board::<AddOne>::new(rt.alloc(), jobs, 2).expect(rt, "a board");
     let (board, mut passes) = board;
-    let mut b = passes.pop().expect(&rt, "a pass");
-    let mut a = passes.pop().expect(&rt, "a pass");
-    work_off(&rt, &board, &mut a, &mut b);
-    passes.push(a).expect(&rt, "a list");
-    passes.push(b).expect(&rt, "a list");
-    let results = board.close(rt.alloc(), passes).expect(&rt, "results");
-    expect_eq(&rt, &results.as_slice(), &[11, 21, 31].as_slice());
+    let mut b = passes.pop().expect(rt, "a pass");
+    let mut a = passes.pop().expect(rt, "a pass");
+    work_off(rt, &board, &mut a, &mut b);
+    passes.push(a).expect(rt, "a list");
+    passes.push(b).expect(rt, "a list");
+    let results = board.close(rt.alloc(), passes).expect(rt, "results");
+    expect_eq(rt, results.as_slice(), [11, 21, 31].as_slice());
 }
 
 /// A board without jobs, over another allocator than `Global`.
 #[test]
 fn no_jobs_and_one_pass(rt: HostRuntime) {
+    let rt = &rt;
     let heap = rt.alloc();
     let board = Board::<AddOne, &Global>::new(&heap, Vec::new(&heap), 1);
-    let (board, mut passes) = board.expect(&rt, "a board");
-    let mut pass = passes.pop().expect(&rt, "a pass");
-    draw_none(&rt, &board, &mut pass);
-    passes.push(pass).expect(&rt, "a list");
-    let results = board.close(&heap, passes).expect(&rt, "results");
-    expect_eq(&rt, &results.len(), &0);
+    let (board, mut passes) = board.expect(rt, "a board");
+    let mut pass = passes.pop().expect(rt, "a pass");
+    draw_none(rt, &board, &mut pass);
+    passes.push(pass).expect(rt, "a list");
+    let results = board.close(&heap, passes).expect(rt, "results");
+    expect_eq(rt, results.len(), 0);
 }

@@ -30,44 +30,47 @@ fn plan_with(
     requires in_range { NameSystemsBelow (length accesses.now) rules.now }
 {
     let plan = Plan::build(rt.alloc(), accesses, rules, joined).expect(rt, "a plan");
-    expect_eq(rt, &has_batches(&plan, batches), &true);
+    expect_eq(rt, has_batches(&plan, batches), true);
     plan
 }
 
 /// Whether one system precedes the other.
 fn expect_precedes(rt: &impl Abort, plan: &Plan, one: u32, other: u32, want: bool) {
     let precedes = plan.precedes(one, other);
-    expect_eq(rt, &(one, other, precedes), &(one, other, want));
+    expect_eq(rt, (one, other, precedes), (one, other, want));
 }
 
 /// Whether the plan takes this order.
 fn expect_accepts(rt: &impl Abort, plan: &Plan, order: &[u32], want: bool) {
-    expect_eq(rt, &(order, plan.accepts(order)), &(order, want));
+    expect_eq(rt, (order, plan.accepts(order)), (order, want));
 }
 
 #[test]
 fn no_systems(rt: HostRuntime) {
-    let plan = plan_with(&rt, &[], &[], &[], &[]);
-    expect_accepts(&rt, &plan, &[], true);
-    expect_accepts(&rt, &plan, &[0], false);
-    expect_precedes(&rt, &plan, 0, 0, false);
+    let rt = &rt;
+    let plan = plan_with(rt, &[], &[], &[], &[]);
+    expect_accepts(rt, &plan, &[], true);
+    expect_accepts(rt, &plan, &[0], false);
+    expect_precedes(rt, &plan, 0, 0, false);
     drop(plan);
 }
 
 #[test]
 fn readers_run_side_by_side(rt: HostRuntime) {
+    let rt = &rt;
     let accesses = [uses(0, 1), uses(1, 0), uses(1, 0), uses(0, 1)];
-    let plan = plan_with(&rt, &accesses, &[], &[true; 4], &[&[0], &[1, 2], &[3]]);
-    expect_precedes(&rt, &plan, 0, 3, true);
-    expect_precedes(&rt, &plan, 1, 2, false);
+    let plan = plan_with(rt, &accesses, &[], &[true; 4], &[&[0], &[1, 2], &[3]]);
+    expect_precedes(rt, &plan, 0, 3, true);
+    expect_precedes(rt, &plan, 1, 2, false);
     drop(plan);
 }
 
 #[test]
 fn a_settled_pair_leaves_the_next_no_choice(rt: HostRuntime) {
+    let rt = &rt;
     let (accesses, rules) = ([uses(0, 1); 3], [Rule::before(2, 0)]);
-    let plan = plan_with(&rt, &accesses, &rules, &[true; 3], &[&[2], &[0], &[1]]);
-    expect_precedes(&rt, &plan, 2, 1, true);
+    let plan = plan_with(rt, &accesses, &rules, &[true; 3], &[&[2], &[0], &[1]]);
+    expect_precedes(rt, &plan, 2, 1, true);
     drop(plan);
 }
 
@@ -83,17 +86,18 @@ const CONTRADICTORY: [&[u32]; 4] = [&[2], &[0], &[3], &[1]];
 
 #[test]
 fn rules_against_the_order_of_addition(rt: HostRuntime) {
-    expect_eq(&rt, &Rule::after(0, 2), &Rule::before(2, 0));
-    let plan = contradictory_plan(rt.alloc()).expect(&rt, "a plan");
-    expect_eq(&rt, &has_batches(&plan, &CONTRADICTORY), &true);
-    expect_precedes(&rt, &plan, 2, 1, true);
-    expect_precedes(&rt, &plan, 1, 2, false);
-    expect_precedes(&rt, &plan, 2, 300, false);
-    expect_accepts(&rt, &plan, &[2, 0, 3, 1], true);
-    expect_accepts(&rt, &plan, &[0, 2, 3, 1], false);
-    expect_accepts(&rt, &plan, &[2, 0, 3], false);
-    expect_accepts(&rt, &plan, &[2, 0, 3, 1, 1], false);
-    expect_accepts(&rt, &plan, &[2, 0, 3, 300], false);
+    let rt = &rt;
+    expect_eq(rt, Rule::after(0, 2), Rule::before(2, 0));
+    let plan = contradictory_plan(rt.alloc()).expect(rt, "a plan");
+    expect_eq(rt, has_batches(&plan, &CONTRADICTORY), true);
+    expect_precedes(rt, &plan, 2, 1, true);
+    expect_precedes(rt, &plan, 1, 2, false);
+    expect_precedes(rt, &plan, 2, 300, false);
+    expect_accepts(rt, &plan, &[2, 0, 3, 1], true);
+    expect_accepts(rt, &plan, &[0, 2, 3, 1], false);
+    expect_accepts(rt, &plan, &[2, 0, 3], false);
+    expect_accepts(rt, &plan, &[2, 0, 3, 1, 1], false);
+    expect_accepts(rt, &plan, &[2, 0, 3, 300], false);
     drop(plan);
 }
 
@@ -115,20 +119,22 @@ fn expect_cycle(
 
 #[test]
 fn a_cycle_of_rules_names_its_lowest_system(rt: HostRuntime) {
+    let rt = &rt;
     let (idle, joined) = ([Access::none(); 2], [true; 2]);
     let around = [Rule::before(0, 1), Rule::before(1, 0)];
-    expect_cycle(&rt, &idle, &around, &joined, 0);
-    expect_cycle(&rt, &idle, &[Rule::before(1, 1)], &joined, 1);
+    expect_cycle(rt, &idle, &around, &joined, 0);
+    expect_cycle(rt, &idle, &[Rule::before(1, 1)], &joined, 1);
 }
 
 #[test]
 fn refusals_say_why(rt: HostRuntime) {
+    let rt = &rt;
     expect_text(
-        &rt,
+        rt,
         &PlanRefusal::Cycle(1),
         "the rules go round in a circle through system 1",
     );
-    expect_text(&rt, &PlanRefusal::NoMemory, "want of memory");
+    expect_text(rt, &PlanRefusal::NoMemory, "want of memory");
 }
 
 /// The lowest system on a cycle of these rules, if there is one.
@@ -136,31 +142,33 @@ fn expect_lowest(rt: &impl Abort, systems: usize, rules: &[Rule], want: Option<u
     requires few { systems ≤ MAX_SYSTEMS }
     requires in_range { NameSystemsBelow systems rules.now }
 {
-    expect_eq(rt, &lowest_on_cycle(systems, rules), &want);
+    expect_eq(rt, lowest_on_cycle(systems, rules), want);
 }
 
 #[test]
 fn the_lowest_system_on_a_cycle(rt: HostRuntime) {
+    let rt = &rt;
     let around = [Rule::before(0, 1), Rule::before(3, 2), Rule::after(3, 2)];
-    expect_lowest(&rt, 4, &around, Some(2));
-    expect_lowest(&rt, 4, &around[..2], None);
-    expect_lowest(&rt, 0, &[], None);
+    expect_lowest(rt, 4, &around, Some(2));
+    expect_lowest(rt, 4, &around[..2], None);
+    expect_lowest(rt, 0, &[], None);
 }
 
 #[test]
 fn what_has_not_joined_has_no_effect(rt: HostRuntime) {
+    let rt = &rt;
     let (idle, early, all) = ([Access::none(); 3], [true, false, true], [true; 3]);
     let chain = [Rule::before(0, 1), Rule::before(1, 2)];
-    let plan = plan_with(&rt, &idle, &chain, &early, &[&[0, 2]]);
-    expect_precedes(&rt, &plan, 0, 2, false);
-    expect_precedes(&rt, &plan, 0, 1, false);
+    let plan = plan_with(rt, &idle, &chain, &early, &[&[0, 2]]);
+    expect_precedes(rt, &plan, 0, 2, false);
+    expect_precedes(rt, &plan, 0, 1, false);
     drop(plan);
-    let plan = plan_with(&rt, &idle, &chain, &all, &[&[0], &[1], &[2]]);
-    expect_precedes(&rt, &plan, 0, 2, true);
+    let plan = plan_with(rt, &idle, &chain, &all, &[&[0], &[1], &[2]]);
+    expect_precedes(rt, &plan, 0, 2, true);
     drop(plan);
     let own = [Rule::before(1, 1)];
-    drop(plan_with(&rt, &idle, &own, &early, &[&[0, 2]]));
-    expect_cycle(&rt, &idle, &own, &all, 1);
+    drop(plan_with(rt, &idle, &own, &early, &[&[0, 2]]));
+    expect_cycle(rt, &idle, &own, &all, 1);
 }
 
 /// As many systems of one access as may be make so many batches.
@@ -168,13 +176,14 @@ fn expect_many(rt: &(impl Abort + AllocGlobal), access: Access, batches: usize, 
     let accesses = [access; MAX_SYSTEMS];
     let plan = Plan::build(rt.alloc(), &accesses, &[], &[true; MAX_SYSTEMS]);
     let plan = plan.expect(rt, "a plan");
-    expect_eq(rt, &plan.batches().len(), &batches);
+    expect_eq(rt, plan.batches().len(), batches);
     expect_precedes(rt, &plan, 0, MAX_SYSTEMS as u32 - 1, precedes);
     drop(plan);
 }
 
 #[test]
 fn many_systems(rt: HostRuntime) {
-    expect_many(&rt, uses(0, 1), MAX_SYSTEMS, true);
-    expect_many(&rt, uses(1, 0), 1, false);
+    let rt = &rt;
+    expect_many(rt, uses(0, 1), MAX_SYSTEMS, true);
+    expect_many(rt, uses(1, 0), 1, false);
 }

@@ -102,16 +102,17 @@ fn boxed<T: Drop>(rt: &(impl Abort + AllocGlobal), tool: T) -> Box<T> {
 
 #[test]
 fn boxes_of_two_kinds(rt: HostRuntime) {
+    let rt = &rt;
     let tools: Result<Vec<Box<dyn Tool>>, _> = vec![in rt.alloc();
-        boxed(&rt, Half),
-        boxed(&rt, Constant(7)),
-        boxed(&rt, Half),
+        boxed(rt, Half),
+        boxed(rt, Constant(7)),
+        boxed(rt, Half),
     ];
-    let (tools, base) = (tools.expect(&rt, "a list"), 20u64);
+    let (tools, base) = (tools.expect(rt, "a list"), 20u64);
     assert!(rt; tools.len() == 3);
-    let came = run_tools(&rt, rt.alloc(), &base, tools).expect(&rt, "values");
-    expect_eq(&rt, &came.len(), &3);
+    let came = run_tools(rt, rt.alloc(), &base, tools).expect(rt, "values");
+    expect_eq(rt, came.len(), 3);
     for (done, value) in came.iter().zip([10, 7, 10]) {
-        expect_eq(&rt, &done.value, &value);
+        expect_eq(rt, done.value, value);
     }
 }

@@ -68,7 +68,7 @@ fn expect_successors(rt: &impl Abort, results: &[Counted]) {
         panic!(rt; "three results")
     };
     let values = (first.value, second.value, third.value);
-    expect_eq(rt, &values, &(11, 21, 31));
+    expect_eq(rt, values, (11, 21, 31));
 }
 
 /// Draws the three jobs by two passes, hands in their successors, and ends both passes.
@@ -115,7 +115,7 @@ fn work_off_both<'a>(
 
 /// So many jobs, or results, were dropped.
 fn expect_dropped(rt: &impl Abort, dropped: &AtomicU64, number: u64) {
-    expect_eq(rt, &dropped.load(Ordering::SeqCst), &number);
+    expect_eq(rt, dropped.load(Ordering::SeqCst), number);
 }
 
 /// Works off a board of these three jobs, and says whether there was no memory for the board or for
@@ -145,8 +145,9 @@ fn is_refused<'a>(
 
 #[test]
 fn worked_board(rt: HostRuntime) -> Result<(), Fail> {
+    let rt = &rt;
     let (jobs_dropped, results_dropped) = (AtomicU64::new(0), AtomicU64::new(0));
     let jobs = three_jobs(rt.alloc(), &jobs_dropped)?;
-    let is_refused = is_refused(&rt, rt.alloc(), jobs, &jobs_dropped, &results_dropped);
-    tell(&rt, is_refused)
+    let is_refused = is_refused(rt, rt.alloc(), jobs, &jobs_dropped, &results_dropped);
+    tell(rt, is_refused)
 }

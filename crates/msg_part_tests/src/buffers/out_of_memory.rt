@@ -54,7 +54,7 @@ impl Tried {
 
     /// All is as it was seen before.
     fn expect_seen(&self, rt: &impl Abort, before: &Seen) {
-        expect_eq(rt, &self.look_at(), before);
+        expect_eq(rt, self.look_at(), *before);
     }
 
     /// Writes a message. None if no number is left.
@@ -65,7 +65,7 @@ impl Tried {
             Err(WriteRefusal::NumbersSpent(back)) => (back, true),
             Err(WriteRefusal::NoMemory(back)) => (back, false),
         };
-        expect_eq(rt, &back, &value);
+        expect_eq(rt, back, value);
         self.expect_seen(rt, &before);
         if is_spent {
             return None;
@@ -77,7 +77,7 @@ impl Tried {
     /// Writes messages, which get these numbers and have these values.
     fn expect_written(&mut self, rt: &impl Abort, want: &[(u64, i64)]) {
         for (number, value) in want {
-            expect_eq(rt, &self.write(rt, *value), &Some(MessageId(*number)));
+            expect_eq(rt, self.write(rt, *value), Some(MessageId(*number)));
         }
     }
 
@@ -90,7 +90,7 @@ impl Tried {
             Err(BatchRefusal::NumbersSpent(back)) => (back, true),
             Err(BatchRefusal::NoMemory(back)) => (back, false),
         };
-        expect_eq(rt, &(back.as_slice(), back.capacity()), &(values, capacity));
+        expect_eq(rt, (back.as_slice(), back.capacity()), (values, capacity));
         self.expect_seen(rt, &before);
         if is_spent {
             return None;
@@ -113,7 +113,7 @@ impl Tried {
     /// Takes out all messages, which have these numbers and values.
     fn expect_drained(&mut self, rt: &impl Abort, want: &[(u64, i64)]) {
         let drained = self.drain(rt);
-        expect_eq(rt, &drained.len(), &want.len());
+        expect_eq(rt, drained.len(), want.len());
         for (instance, item) in drained.iter().zip(want) {
             expect_message(rt, instance.id, instance.message, item);
         }
@@ -127,7 +127,7 @@ impl Tried {
     /// Reads all messages that are left, which have these numbers and values.
     fn expect_rest(&mut self, rt: &impl Abort, want: &[(u64, i64)]) {
         self.expect_read(rt, want);
-        expect_eq(rt, &self.cursor.is_empty(&self.buffer), &true);
+        expect_eq(rt, self.cursor.is_empty(&self.buffer), true);
     }
 
     /// Whether a call was refused.
@@ -154,53 +154,57 @@ fn expect_next(
 
 /// A message has this number and this value.
 fn expect_message(rt: &impl Abort, id: MessageId, value: i64, want: &(u64, i64)) {
-    expect_eq(rt, &(id.0, value), want);
+    expect_eq(rt, (id.0, value), *want);
 }
 
 #[test]
 fn items_left_unread(rt: HostRuntime) -> Result<(), Fail> {
+    let rt = &rt;
     let values = [1, 2, 3, 4, 5];
     let batch = Vec::from_slice(rt.alloc(), &values)?;
     let mut tried = Tried::new(rt.alloc(), 10);
-    let written = tried.write_batch(&rt, batch, &values);
-    expect_eq(&rt, &written, &Some(Written { first: 0, n: 5 }));
-    tried.expect_read(&rt, &[(0, 1), (1, 2)]);
+    let written = tried.write_batch(rt, batch, &values);
+    expect_eq(rt, written, Some(Written { first: 0, n: 5 }));
+    tried.expect_read(rt, &[(0, 1), (1, 2)]);
     tried.buffer.update();
-    tried.expect_rest(&rt, &[(2, 3), (3, 4), (4, 5)]);
-    tried.tell(&rt)
+    tried.expect_rest(rt, &[(2, 3), (3, 4), (4, 5)]);
+    tried.tell(rt)
 }
 
 #[test]
 fn last_number(rt: HostRuntime) -> Result<(), Fail> {
+    let rt = &rt;
     let batch = Vec::from_slice(rt.alloc(), &[1, 2, 3])?;
     let mut tried = Tried::new(rt.alloc(), 2);
-    expect_eq(&rt, &tried.write_batch(&rt, batch, &[1, 2, 3]), &None);
-    tried.expect_written(&rt, &[(0, 4), (1, 5)]);
-    expect_eq(&rt, &tried.write(&rt, 6), &None);
-    let written = tried.write_batch(&rt, Vec::new(rt.alloc()), &[]);
-    expect_eq(&rt, &written, &Some(Written { first: 2, n: 0 }));
-    expect_eq(&rt, &tried.buffer.get(MessageId(u64::MAX)), &None);
-    tried.expect_rest(&rt, &[(0, 4), (1, 5)]);
-    tried.tell(&rt)
+    expect_eq(rt, tried.write_batch(rt, batch, &[1, 2, 3]), None);
+    tried.expect_written(rt, &[(0, 4), (1, 5)]);
+    expect_eq(rt, tried.write(rt, 6), None);
+    let written = tried.write_batch(rt, Vec::new(rt.alloc()), &[]);
+    expect_eq(rt, written, Some(Written { first: 2, n: 0 }));
+    expect_eq(rt, tried.buffer.get(MessageId(u64::MAX)), None);
+    tried.expect_rest(rt, &[(0, 4), (1, 5)]);
+    tried.tell(rt)
 }
 
 #[test]
 fn drain_both_halves(rt: HostRuntime) -> Result<(), Fail> {
+    let rt = &rt;
     let mut tried = Tried::new(rt.alloc(), 10);
-    tried.expect_written(&rt, &[(0, 1)]);
+    tried.expect_written(rt, &[(0, 1)]);
     tried.buffer.update();
-    tried.expect_written(&rt, &[(1, 2)]);
-    tried.expect_drained(&rt, &[(0, 1), (1, 2)]);
-    expect_eq(&rt, &tried.cursor.missed(&tried.buffer), &2);
-    tried.expect_read(&rt, &[]);
-    tried.expect_written(&rt, &[(2, 3)]);
-    tried.expect_read(&rt, &[(2, 3)]);
-    tried.tell(&rt)
+    tried.expect_written(rt, &[(1, 2)]);
+    tried.expect_drained(rt, &[(0, 1), (1, 2)]);
+    expect_eq(rt, tried.cursor.missed(&tried.buffer), 2);
+    tried.expect_read(rt, &[]);
+    tried.expect_written(rt, &[(2, 3)]);
+    tried.expect_read(rt, &[(2, 3)]);
+    tried.tell(rt)
 }
 
 /// Both halves have no room left, so one of them has to grow if they are drained together.
 #[test]
 fn drain_full_halves(rt: HostRuntime) -> Result<(), Fail> {
+    let rt = &rt;
     let mut tried = Tried::new(rt.alloc(), 10);
     let want = [
         (0, 10),
@@ -212,11 +216,11 @@ fn drain_full_halves(rt: HostRuntime) -> Result<(), Fail> {
         (6, 16),
         (7, 17),
     ];
-    tried.expect_written(&rt, &want[..4]);
+    tried.expect_written(rt, &want[..4]);
     tried.buffer.update();
-    tried.expect_written(&rt, &want[4..]);
-    tried.expect_drained(&rt, &want);
+    tried.expect_written(rt, &want[4..]);
+    tried.expect_drained(rt, &want);
     let missed = tried.cursor.missed(&tried.buffer);
-    expect_eq(&rt, &(tried.buffer.is_empty(), missed), &(true, 8));
-    tried.tell(&rt)
+    expect_eq(rt, (tried.buffer.is_empty(), missed), (true, 8));
+    tried.tell(rt)
 }

@@ -12,7 +12,7 @@ use std::test::Fail;
 fn is_refused(rt: &impl Abort, alloc: Global) -> bool {
     match contradictory_plan(alloc) {
         Ok(plan) => {
-            expect_eq(rt, &has_batches(&plan, &CONTRADICTORY), &true);
+            expect_eq(rt, has_batches(&plan, &CONTRADICTORY), true);
             drop(plan);
             false
         }
@@ -23,9 +23,10 @@ fn is_refused(rt: &impl Abort, alloc: Global) -> bool {
 
 #[test]
 fn contradictory_order(rt: HostRuntime) -> Result<(), Fail> {
-    let is_first_refused = is_refused(&rt, rt.alloc());
+    let rt = &rt;
+    let is_first_refused = is_refused(rt, rt.alloc());
     if is_first_refused {
-        expect_eq(&rt, &is_refused(&rt, rt.alloc()), &false);
+        expect_eq(rt, is_refused(rt, rt.alloc()), false);
     }
-    tell(&rt, is_first_refused)
+    tell(rt, is_first_refused)
 }

@@ -92,29 +92,31 @@ fn replies_of(
 /// A writer, a relay, a tally, and one that drains what it wrote.
 #[test]
 fn a_list_of_four_boxes(rt: HostRuntime) {
+    let rt = &rt;
     let (t, u, v, r) = (type_no(0), type_no(1), type_no(2), res_no(0));
     let boxes: Result<Vec<Box<dyn System>>, _> = vec![in rt.alloc();
-        boxed(&rt, writer(&rt, t)),
-        boxed(&rt, Relay::new(t, u, Start::Zero, 1)),
-        boxed(&rt, Tally::new(u, r, Start::Zero, 2)),
-        boxed(&rt, drain(&rt, v)),
+        boxed(rt, writer(rt, t)),
+        boxed(rt, Relay::new(t, u, Start::Zero, 1)),
+        boxed(rt, Tally::new(u, r, Start::Zero, 2)),
+        boxed(rt, drain(rt, v)),
     ];
-    let mut boxes = boxes.expect(&rt, "a list");
-    let mut world = World::new(rt.alloc(), &[9, 9, 9], &[7]).expect(&rt, "a world");
-    let replies = replies_of(&rt, &mut world, boxes.as_mut_slice());
+    let mut boxes = boxes.expect(rt, "a list");
+    let mut world = World::new(rt.alloc(), &[9, 9, 9], &[7]).expect(rt, "a world");
+    let replies = replies_of(rt, &mut world, boxes.as_mut_slice());
     drop(boxes);
-    let text = format!(in rt.alloc(); "{replies:?}").expect(&rt, "a text");
-    expect_eq(&rt, &text.as_str(), &REPLIES);
-    expect_eq(&rt, &world.resource(r), &Some(18));
+    let text = format!(in rt.alloc(); "{replies:?}").expect(rt, "a text");
+    expect_eq(rt, text.as_str(), REPLIES);
+    expect_eq(rt, world.resource(r), Some(18));
     drop(world);
 }
 
 /// Each op, copied.
 #[test]
 fn copies_of_every_op(rt: HostRuntime) {
+    let rt = &rt;
     let alloc = rt.alloc();
     let (t, u, r) = (type_no(0), type_no(1), res_no(0));
-    let values = Items::from_vec(vec![in alloc; 2, 3].expect(&rt, "values"));
+    let values = Items::from_vec(vec![in alloc; 2, 3].expect(rt, "values"));
     let ops = [
         Op::Write(t, -5),
         Op::Batch(t, values),
@@ -132,6 +134,6 @@ fn copies_of_every_op(rt: HostRuntime) {
         Op::Signal,
     ];
     for op in &ops {
-        expect_eq(&rt, &op.copy(alloc).expect(&rt, "a copy"), op);
+        expect_eq(rt, &op.copy(alloc).expect(rt, "a copy"), op);
     }
 }

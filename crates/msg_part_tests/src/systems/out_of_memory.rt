@@ -12,13 +12,14 @@ fn expect_program(rt: &impl Abort, program: &Program) {
     let [Op::Batch(t, values), Op::Write(u, value)] = program.ops.as_slice() else {
         panic!(rt; "a batch and a write")
     };
-    expect_eq(rt, &(*t, *u, *value), &(type_no(0), type_no(0), 5));
-    expect_eq(rt, &values.as_slice(), &[2, 3].as_slice());
-    expect_eq(rt, &program.start, &Start::Current);
+    expect_eq(rt, (*t, *u, *value), (type_no(0), type_no(0), 5));
+    expect_eq(rt, values.as_slice(), [2, 3].as_slice());
+    expect_eq(rt, program.start, Start::Current);
 }
 
 #[test]
 fn a_copy(rt: HostRuntime) -> Result<(), Fail> {
+    let rt = &rt;
     let (alloc, t) = (rt.alloc(), type_no(0));
     let values = Items::from_vec(Vec::from_slice(alloc, &[2, 3])?);
     let ops = vec![in alloc; Op::Batch(t, values), Op::Write(t, 5)]?;
@@ -27,12 +28,12 @@ fn a_copy(rt: HostRuntime) -> Result<(), Fail> {
         start: Start::Current,
     };
     let copied = program.copy(alloc);
-    expect_program(&rt, &program);
+    expect_program(rt, &program);
     match copied {
         Ok(copied) => {
-            expect_program(&rt, &copied);
-            tell(&rt, false)
+            expect_program(rt, &copied);
+            tell(rt, false)
         }
-        Err(NoMemory) => tell(&rt, true),
+        Err(NoMemory) => tell(rt, true),
     }
 }

@@ -30,11 +30,11 @@ fn is_written(
 ) -> bool {
     match came {
         Ok(id) => {
-            expect_eq(rt, &id, &MessageId(number));
+            expect_eq(rt, id, MessageId(number));
             true
         }
         Err(WriteRefusal::NoMemory(back)) => {
-            expect_eq(rt, &back, &record);
+            expect_eq(rt, back, record);
             false
         }
         Err(WriteRefusal::NumbersSpent(_)) => panic!(rt; "four numbers are there"),
@@ -56,7 +56,7 @@ fn begin(rt: &impl Abort, world: &mut World, t: TypeNo) -> Result<(), NoMemory>
 
 /// The numbers of the oldest message and of the next.
 fn expect_numbers(rt: &impl Abort, messages: &Messages<Record>, numbers: (u64, u64)) {
-    expect_eq(rt, &(messages.oldest(), messages.count()), &numbers);
+    expect_eq(rt, (messages.oldest(), messages.count()), numbers);
 }
 
 /// The type is home, and has these messages, numbered from 0, of which none was dropped.
@@ -67,7 +67,7 @@ fn expect_messages(rt: &impl Abort, world: &World, t: TypeNo, records: &[Record]
     let mut unread = cursor.read(messages);
     for record in records {
         let (_, kept) = unread.next().expect(rt, "each is kept");
-        expect_eq(rt, &kept, &record);
+        expect_eq(rt, kept, record);
     }
 }
 
@@ -85,15 +85,16 @@ fn write(rt: &impl Abort, lent: &mut Lent, t: TypeNo, record: Record) -> bool
 fn write_both(rt: &impl Abort, lent: &mut Lent, t: TypeNo, r: ResNo, record: Record) -> bool
     ensures same { SameLoan lent.old lent.new }
 {
-    expect_eq(rt, &set(lent, r, 8), &Some(7));
+    expect_eq(rt, set(lent, r, 8), Some(7));
     write(rt, lent, t, record)
 }
 
 #[test]
 fn lending(rt: HostRuntime) -> Result<(), Fail> {
+    let rt = &rt;
     let (t, r) = (type_no(0), res_no(0));
     let mut world = World::new(rt.alloc(), &[4], &[7])?;
-    begin(&rt, &mut world, t)?;
+    begin(rt, &mut world, t)?;
     let access = Access::none()
         .with_write_type(t)
         .with_write_res(r)
@@ -106,33 +107,34 @@ fn lending(rt: HostRuntime) -> Result<(), Fail> {
     };
     let (mut value, mut wrote) = (7, false);
     if let Ok(taken) = world.lend_out(&access) {
-        expect_home(&rt, &world, t, false);
-        expect_resource(&rt, &world, r, None);
+        expect_home(rt, &world, t, false);
+        expect_resource(rt, &world, r, None);
         let mut lent = Lent::open(&world, &access, taken);
         value = 8;
-        wrote = write_both(&rt, &mut lent, t, r, record);
+        wrote = write_both(rt, &mut lent, t, r, record);
         lent_parts_may_come_home::<i64>();
         let taken = lent.into_taken();
         world.take_back(taken);
     }
-    expect_all_home(&rt, &world, &access, true);
-    expect_resource(&rt, &world, r, Some(value));
-    expect_messages(&rt, &world, t, &[by_host(5), record][..1 + wrote as usize]);
+    expect_all_home(rt, &world, &access, true);
+    expect_resource(rt, &world, r, Some(value));
+    expect_messages(rt, &world, t, &[by_host(5), record][..1 + wrote as usize]);
     drop(world);
-    tell(&rt, !wrote)
+    tell(rt, !wrote)
 }
 
 #[test]
 fn a_post(rt: HostRuntime) -> Result<(), Fail> {
+    let rt = &rt;
     let (t, r) = (type_no(0), res_no(0));
     let mut world = World::new(rt.alloc(), &[4], &[7])?;
-    begin(&rt, &mut world, t)?;
+    begin(rt, &mut world, t)?;
     assert!(rt; world.messages(t).is_some());
     let came = world.post(t, 6);
-    let is_posted = is_written(&rt, came, 1, by_host(6));
+    let is_posted = is_written(rt, came, 1, by_host(6));
     let records = [by_host(5), by_host(6)];
-    expect_messages(&rt, &world, t, &records[..1 + is_posted as usize]);
-    expect_resource(&rt, &world, r, Some(7));
+    expect_messages(rt, &world, t, &records[..1 + is_posted as usize]);
+    expect_resource(rt, &world, r, Some(7));
     drop(world);
-    tell(&rt, !is_posted)
+    tell(rt, !is_posted)
 }
