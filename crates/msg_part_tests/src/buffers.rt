@@ -1,17 +1,16 @@
 // Buffers: what calls files can't show, and the texts of refusals.
 mod out_of_memory;
 
-use crate::equal::{expect_eq, expect_text};
+use crate::equal::{Have, expect_eq, expect_text};
 use msg_buffer::laws::{
     histories_only_grow, messages_outlive_one_update, readers_tile, reads_may_be_left,
 };
 use msg_buffer::{BatchRefusal, MessageCursor, MessageId, Messages, WriteRefusal};
-use std::panic::Expect;
 use std::process::Abort;
 
 fn write_values(rt: &impl Abort, buffer: &mut Messages<i64>, values: &[i64]) {
     for value in values {
-        expect_eq(rt, buffer.write(*value).is_ok(), true);
+        buffer.write(*value).have(rt);
     }
 }
 
@@ -39,8 +38,8 @@ fn cursor_past_the_count(rt: HostRuntime) {
 fn of_words(rt: &(impl Abort + AllocGlobal), words: &[&str]) -> Messages<String> {
     let mut buffer = Messages::new(rt.alloc(), 10);
     for word in words {
-        let word = word.to_string(rt.alloc()).expect(rt, "a word");
-        expect_eq(rt, buffer.write(word).is_ok(), true);
+        let word = word.to_string(rt.alloc()).have(rt);
+        buffer.write(word).have(rt);
     }
     buffer
 }

@@ -4,17 +4,20 @@ ghost use Rattle.msg_order.specs.Prelude.{NameSystemsBelow};
 
 mod out_of_memory;
 
-use crate::equal::{expect_eq, expect_text};
+use crate::equal::{Have, expect_eq, expect_text};
 use crate::numbers::of_types as uses;
 use msg_order::{Plan, PlanRefusal, Rule, lowest_on_cycle};
 use msg_world::{Access, MAX_SYSTEMS};
 use std::alloc::Global;
-use std::panic::Expect;
 use std::process::Abort;
 
 fn has_batches(plan: &Plan, want: &[&[u32]]) -> bool {
-    let mut pairs = plan.batches().iter().zip(want);
-    plan.batches().len() == want.len() && pairs.all(|(batch, want)| batch.as_slice() == *want)
+    for (batch, want) in plan.batches().iter().zip(want) {
+        if batch.as_slice() != *want {
+            return false;
+        }
+    }
+    plan.batches().len() == want.len()
 }
 
 /// The plan of these systems, which has these batches.
@@ -29,7 +32,7 @@ fn plan_with(
     requires one_each { length joined.now ≡ length accesses.now }
     requires in_range { NameSystemsBelow (length accesses.now) rules.now }
 {
-    let plan = Plan::build(rt.alloc(), accesses, rules, joined).expect(rt, "a plan");
+    let plan = Plan::build(rt.alloc(), accesses, rules, joined).have(rt);
     expect_eq(rt, has_batches(&plan, batches), true);
     plan
 }
@@ -84,20 +87,27 @@ fn contradictory_plan(alloc: Global) -> Result<Plan, PlanRefusal> {
 /// Its batches.
 const CONTRADICTORY: [&[u32]; 4] = [&[2], &[0], &[3], &[1]];
 
+/// Orders, and whether it takes each.
+const ORDERS: [(&[u32], bool); 5] = [
+    (&[2, 0, 3, 1], true),
+    (&[0, 2, 3, 1], false),
+    (&[2, 0, 3], false),
+    (&[2, 0, 3, 1, 1], false),
+    (&[2, 0, 3, 300], false),
+];
+
 #[test]
 fn rules_against_the_order_of_addition(rt: HostRuntime) {
     let rt = &rt;
     expect_eq(rt, Rule::after(0, 2), Rule::before(2, 0));
-    let plan = contradictory_plan(rt.alloc()).expect(rt, "a plan");
+    let plan = contradictory_plan(rt.alloc()).have(rt);
     expect_eq(rt, has_batches(&plan, &CONTRADICTORY), true);
     expect_precedes(rt, &plan, 2, 1, true);
     expect_precedes(rt, &plan, 1, 2, false);
     expect_precedes(rt, &plan, 2, 300, false);
-    expect_accepts(rt, &plan, &[2, 0, 3, 1], true);
-    expect_accepts(rt, &plan, &[0, 2, 3, 1], false);
-    expect_accepts(rt, &plan, &[2, 0, 3], false);
-    expect_accepts(rt, &plan, &[2, 0, 3, 1, 1], false);
-    expect_accepts(rt, &plan, &[2, 0, 3, 300], false);
+    for (order, want) in &ORDERS {
+        expect_accepts(rt, &plan, order, *want);
+    }
     drop(plan);
 }
 
@@ -175,7 +185,7 @@ fn what_has_not_joined_has_no_effect(rt: HostRuntime) {
 fn expect_many(rt: &(impl Abort + AllocGlobal), access: Access, batches: usize, precedes: bool) {
     let accesses = [access; MAX_SYSTEMS];
     let plan = Plan::build(rt.alloc(), &accesses, &[], &[true; MAX_SYSTEMS]);
-    let plan = plan.expect(rt, "a plan");
+    let plan = plan.have(rt);
     expect_eq(rt, plan.batches().len(), batches);
     expect_precedes(rt, &plan, 0, MAX_SYSTEMS as u32 - 1, precedes);
     drop(plan);

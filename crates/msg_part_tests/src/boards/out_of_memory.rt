@@ -4,11 +4,10 @@ ghost use Rattle.msg_board.specs.Prelude.{HasEnded, IsIdle};
 ghost use Rattle.msg_board.specs.Board.{IsNewPass};
 
 use super::{draw_next, draw_none};
-use crate::equal::expect_eq;
+use crate::equal::{Have, expect_eq};
 use crate::outcome::tell;
 use msg_board::{Board, Pass, Work};
 use std::alloc::{AllocError, Global};
-use std::panic::Expect;
 use std::process::Abort;
 use std::sync::atomic::{AtomicU64, Ordering};
 use std::test::Fail;
@@ -54,8 +53,8 @@ fn three_jobs<'a>(alloc: Global, dropped: &'a AtomicU64) -> Result<Vec<Counted<'
 fn finish<'a>(rt: &impl Abort, job: Counted<'a>, value: u64, dropped: &'a AtomicU64) -> Counted<'a>
     ensures { result.value ≡ job.entry.value + 1 }
 {
-    assert_eq!(rt; job.value, value);
-    assert!(rt; value < 100);
+    assert!(rt; job.value == value && value < 100);
+    drop(job);
     Counted {
         value: value + 1,
         dropped,
@@ -64,10 +63,8 @@ fn finish<'a>(rt: &impl Abort, job: Counted<'a>, value: u64, dropped: &'a Atomic
 
 /// What the three jobs came to.
 fn expect_successors(rt: &impl Abort, results: &[Counted]) {
-    let [first, second, third] = results else {
-        panic!(rt; "three results")
-    };
-    let values = (first.value, second.value, third.value);
+    assert!(rt; results.len() == 3);
+    let values = (results[0].value, results[1].value, results[2].value);
     expect_eq(rt, values, (11, 21, 31));
 }
 
@@ -106,11 +103,11 @@ fn work_off_both<'a>(
     ensures two { length passes.new.items ≡ 2 }
     ensures ended { All (HasEnded board.now) passes.new.items }
 {
-    let mut b = passes.pop().expect(rt, "a pass");
-    let mut a = passes.pop().expect(rt, "a pass");
+    let mut b = passes.pop().have(rt);
+    let mut a = passes.pop().have(rt);
     work_off(rt, board, &mut a, &mut b, dropped);
-    passes.push(a).expect(rt, "a list");
-    passes.push(b).expect(rt, "a list");
+    passes.push(a).have(rt);
+    passes.push(b).have(rt);
 }
 
 /// So many jobs, or results, were dropped.
@@ -140,6 +137,7 @@ fn is_refused<'a>(
         return true;
     };
     expect_successors(rt, results.as_slice());
+    drop(results);
     false
 }
 

@@ -1,19 +1,18 @@
 // What a refused write, batch or drain leaves: the buffer and its cursor as they were, and what was
 // passed is handed back. A call that was refused memory is made again, and then there is memory.
-use crate::equal::expect_eq;
+use crate::equal::{Have, expect_eq};
 use crate::outcome::tell;
 use msg_buffer::{
     BatchRefusal, Instance, MessageCursor, MessageId, Messages, WriteRefusal, Written,
 };
 use std::alloc::Global;
 use std::io::Print;
-use std::panic::Expect;
 use std::process::Abort;
 use std::test::Fail;
 
 /// A buffer and a cursor as their callers see them: what is kept under the numbers 0 to 9, what is
 /// current, and what the cursor tells.
-#[derive(Clone, Copy, Debug, PartialEq, Eq)]
+#[derive(Clone, Copy, PartialEq, Eq)]
 struct Seen {
     count: u64,
     oldest: u64,
@@ -54,7 +53,7 @@ impl Tried {
 
     /// All is as it was seen before.
     fn expect_seen(&self, rt: &impl Abort, before: &Seen) {
-        expect_eq(rt, self.look_at(), *before);
+        assert!(rt; self.look_at() == *before);
     }
 
     /// Writes a message. None if no number is left.
@@ -87,12 +86,12 @@ impl Tried {
         let (before, capacity) = (self.look_at(), batch.capacity());
         let (back, is_spent) = match self.buffer.write_batch(batch) {
             Ok(written) => return Some(written),
-            Err(BatchRefusal::NumbersSpent(back)) => (back, true),
-            Err(BatchRefusal::NoMemory(back)) => (back, false),
+            Err(refusal) => handed_back(refusal),
         };
         expect_eq(rt, (back.as_slice(), back.capacity()), (values, capacity));
         self.expect_seen(rt, &before);
         if is_spent {
+            drop(back);
             return None;
         }
         self.is_refused = true;
@@ -107,7 +106,7 @@ impl Tried {
         }
         self.expect_seen(rt, &before);
         self.is_refused = true;
-        self.buffer.drain().expect(rt, "there is memory now")
+        self.buffer.drain().have(rt)
     }
 
     /// Takes out all messages, which have these numbers and values.
@@ -117,6 +116,7 @@ impl Tried {
         for (instance, item) in drained.iter().zip(want) {
             expect_message(rt, instance.id, instance.message, item);
         }
+        drop(drained);
     }
 
     /// Reads the next messages, which have these numbers and values.
@@ -138,6 +138,14 @@ impl Tried {
     }
 }
 
+/// The batch, and whether it was refused since too few numbers are left.
+fn handed_back(refusal: BatchRefusal<i64>) -> (Vec<i64>, bool) {
+    match refusal {
+        BatchRefusal::NumbersSpent(back) => (back, true),
+        BatchRefusal::NoMemory(back) => (back, false),
+    }
+}
+
 /// The next messages for this cursor have these numbers and values.
 fn expect_next(
     rt: &impl Abort,
@@ -147,7 +155,7 @@ fn expect_next(
 ) {
     let mut unread = cursor.read(buffer);
     for item in want {
-        let (id, value) = unread.next().expect(rt, "a message");
+        let (id, value) = unread.next().have(rt);
         expect_message(rt, id, *value, item);
     }
 }

@@ -16,8 +16,10 @@ fn is_refused(rt: &impl Abort, alloc: Global) -> bool {
             drop(plan);
             false
         }
-        Err(PlanRefusal::NoMemory) => true,
-        Err(PlanRefusal::Cycle(_)) => panic!(rt; "the rules make no cycle"),
+        Err(refusal) => {
+            assert!(rt; matches!(refusal, PlanRefusal::NoMemory));
+            true
+        }
     }
 }
 
