@@ -8,7 +8,7 @@ mod out_of_memory;
 
 use crate::equal::{Have, expect_eq};
 use msg_board::{Board, MAX_JOBS, MAX_PASSES, NoMemory, Pass, Work};
-use std::alloc::{Allocator, Global};
+use std::alloc::Global;
 use std::process::Abort;
 use std::thread;
 use std::thread::Threads;
@@ -72,32 +72,29 @@ fn run_jobs<R: Threads + Sync, W: Runs + Send>(
     }
 }
 
-/// So many threads run so many jobs. The results are the successors of the jobs' numbers, in the
-/// order of the jobs.
-fn expect_drawn<R: Threads + Sync + Abort + AllocGlobal>(rt: &R, n: u32, passes: u32)
-    requires { (0 < passes) × (passes ≤ MAX_PASSES) }
-{
-    let jobs: Vec<u32> = (0..n).collect(rt.alloc()).have(rt);
-    assert!(rt; jobs.len() <= MAX_JOBS);
-    let results = run_jobs::<R, AddOne>(rt, rt.alloc(), jobs, passes).have(rt);
-    expect_successors(rt, results.as_slice(), n as usize);
-    drop(results);
-}
-
-/// These are the numbers from 1 on, and so many.
-fn expect_successors(rt: &impl Abort, results: &[u64], n: usize) {
-    expect_eq(rt, results.len(), n);
-    for (result, want) in results.iter().zip(1..) {
-        expect_eq(rt, *result, want);
+/// The first of the numbers from 1 on that doesn't stand at its place, if one doesn't.
+fn first_wrong(numbers: &[u64]) -> Option<u64> {
+    for (number, want) in numbers.iter().zip(1..) {
+        if *number != want {
+            return Some(want);
+        }
     }
+    None
 }
 
+/// Each row has how many jobs there are and how many threads. The results are the successors of
+/// the jobs' numbers, in the order of the jobs.
 #[test]
 fn threads_draw_jobs(rt: HostRuntime) {
     let rt = &rt;
-    expect_drawn(rt, 100, 2);
-    expect_drawn(rt, MAX_JOBS as u32, MAX_PASSES);
-    expect_drawn(rt, 1, 3);
+    for (n, passes) in [(100, 2), (MAX_JOBS as u32, MAX_PASSES), (1, 3)] {
+        let jobs: Vec<u32> = (0..n).collect(rt.alloc()).have(rt);
+        assert!(rt; jobs.len() <= MAX_JOBS);
+        let results = run_jobs::<HostRuntime, AddOne>(rt, rt.alloc(), jobs, passes).have(rt);
+        let came = (results.len(), first_wrong(results.as_slice()));
+        expect_eq(rt, came, (n as usize, None));
+        drop(results);
+    }
 }
 
 /// The pass isn't finished, and holds this job, if any.
@@ -141,11 +138,7 @@ fn draw_value(
 }
 
 /// Draws None, and is finished.
-fn draw_none<W: Work, A: Allocator + Copy>(
-    rt: &impl Abort,
-    board: &Board<W, A>,
-    pass: &mut Pass<W::Job, W::Done>,
-)
+fn draw_none<W: Work>(rt: &impl Abort, board: &Board<W>, pass: &mut Pass<W::Job, W::Done>)
     requires idle { IsIdle board.now pass.old }
     ensures ended { HasEnded board.now pass.new }
 {
@@ -210,7 +203,8 @@ fn no_jobs_and_one_pass(rt: HostRuntime) {
     let board = Board::<AddOne, &Global>::new(&heap, Vec::new(&heap), 1);
     let (board, mut passes) = board.have(rt);
     let mut pass = passes.pop().have(rt);
-    draw_none(rt, &board, &mut pass);
+    assert!(rt; board.draw(&mut pass).is_none());
+    expect_eq(rt, (pass.is_finished(), pass.holding()), (true, None));
     passes.push(pass).have(rt);
     let results = board.close(&heap, passes).have(rt);
     expect_eq(rt, results.len(), 0);

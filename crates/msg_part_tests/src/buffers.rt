@@ -14,12 +14,6 @@ fn write_values(rt: &impl Abort, buffer: &mut Messages<i64>, values: &[i64]) {
     }
 }
 
-/// The buffer has nothing for this cursor.
-fn expect_none_for(rt: &impl Abort, cursor: &mut MessageCursor, buffer: &Messages<i64>) {
-    expect_eq(rt, (cursor.missed(buffer), cursor.len(buffer)), (0, 0));
-    expect_eq(rt, cursor.read(buffer).next(), None);
-}
-
 #[test]
 fn cursor_past_the_count(rt: HostRuntime) {
     let rt = &rt;
@@ -27,7 +21,8 @@ fn cursor_past_the_count(rt: HostRuntime) {
     write_values(rt, &mut buffer, &[0, 1, 2]);
     let mut cursor = buffer.get_cursor_current();
     let fresh: Messages<i64> = Messages::new(rt.alloc(), 10);
-    expect_none_for(rt, &mut cursor, &fresh);
+    expect_eq(rt, (cursor.missed(&fresh), cursor.len(&fresh)), (0, 0));
+    expect_eq(rt, cursor.read(&fresh).next(), None);
     expect_eq(rt, cursor.place(), 3);
     cursor.clear(&fresh);
     expect_eq(rt, cursor.place(), 0);

@@ -111,6 +111,14 @@ fn rules_against_the_order_of_addition(rt: HostRuntime) {
     drop(plan);
 }
 
+/// The lowest system on the cycle for which a plan was refused.
+fn cycle_in(refusal: PlanRefusal) -> Option<u32> {
+    match refusal {
+        PlanRefusal::Cycle(lowest) => Some(lowest),
+        PlanRefusal::NoMemory => None,
+    }
+}
+
 /// There is no plan of these systems: their rules make a cycle, of which this is the lowest system.
 fn expect_cycle(
     rt: &(impl Abort + AllocGlobal),
@@ -124,7 +132,7 @@ fn expect_cycle(
     requires in_range { NameSystemsBelow (length accesses.now) rules.now }
 {
     let refused = Plan::build(rt.alloc(), accesses, rules, joined).err();
-    assert!(rt; matches!(refused, Some(PlanRefusal::Cycle(system)) if system == lowest));
+    expect_eq(rt, cycle_in(refused.have(rt)), Some(lowest));
 }
 
 #[test]
@@ -147,21 +155,13 @@ fn refusals_say_why(rt: HostRuntime) {
     expect_text(rt, &PlanRefusal::NoMemory, "want of memory");
 }
 
-/// The lowest system on a cycle of these rules, if there is one.
-fn expect_lowest(rt: &impl Abort, systems: usize, rules: &[Rule], want: Option<u32>)
-    requires few { systems ≤ MAX_SYSTEMS }
-    requires in_range { NameSystemsBelow systems rules.now }
-{
-    expect_eq(rt, lowest_on_cycle(systems, rules), want);
-}
-
 #[test]
 fn the_lowest_system_on_a_cycle(rt: HostRuntime) {
     let rt = &rt;
     let around = [Rule::before(0, 1), Rule::before(3, 2), Rule::after(3, 2)];
-    expect_lowest(rt, 4, &around, Some(2));
-    expect_lowest(rt, 4, &around[..2], None);
-    expect_lowest(rt, 0, &[], None);
+    expect_eq(rt, lowest_on_cycle(4, &around), Some(2));
+    expect_eq(rt, lowest_on_cycle(4, &around[..2]), None);
+    expect_eq(rt, lowest_on_cycle(0, &[]), None);
 }
 
 #[test]

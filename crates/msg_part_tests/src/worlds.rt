@@ -81,21 +81,11 @@ fn a_loan_shows_what_its_access_uses(rt: HostRuntime) {
     expect_shown(rt, &mut lent, t, true);
     expect_shown(rt, &mut lent, u, false);
     expect_shown(rt, &mut lent, type_no(2), false);
-    expect_only_read(rt, &mut lent, r, 7);
+    // The resource is lent to be read, and the registry isn't lent.
+    let shown = (lent.res(r), lent.res_mut(r).is_some(), lent.signal());
+    expect_eq(rt, shown, (Some(7), false, false));
     drop(lent);
     drop(world);
-}
-
-/// The loan shows this value of a resource, and lets neither the resource nor the registry be
-/// written.
-fn expect_only_read(rt: &impl Abort, lent: &mut Lent, r: ResNo, value: i64) {
-    let shown = (lent.res(r), lent.res_mut(r).is_some(), lent.signal());
-    expect_eq(rt, shown, (Some(value), false, false));
-}
-
-/// Whether all that an access uses is home.
-fn expect_all_home(rt: &impl Abort, world: &World, access: &Access, want: bool) {
-    expect_eq(rt, world.is_home(access), want);
 }
 
 /// What a resource is, if it is home.
@@ -119,15 +109,15 @@ fn a_written_resource_comes_home(rt: HostRuntime) {
     let mut world = a_world(rt);
     let access = Access::none().with_write_res(r).with_registry();
     let taken = lend(rt, &mut world, &access);
-    expect_all_home(rt, &world, &Access::none().with_registry(), false);
-    expect_all_home(rt, &world, &Access::none().with_read_res(q), true);
+    expect_eq(rt, world.is_home(&Access::none().with_registry()), false);
+    expect_eq(rt, world.is_home(&Access::none().with_read_res(q)), true);
     expect_resource(rt, &world, r, None);
     let mut lent = Lent::open(&world, &access, taken);
     write_resources(rt, &mut lent, r, q);
     lent_parts_may_come_home::<i64>();
     let taken = lent.into_taken();
     world.take_back(taken);
-    expect_all_home(rt, &world, &access, true);
+    expect_eq(rt, world.is_home(&access), true);
     expect_resource(rt, &world, r, Some(8));
     expect_resource(rt, &world, q, Some(70));
     drop(world);
@@ -139,7 +129,7 @@ fn an_empty_world(rt: HostRuntime) {
     let world = World::<i64>::new(rt.alloc(), &[], &[]).have(rt);
     world.stands_for_some();
     loans_stand_side_by_side::<i64>();
-    expect_all_home(rt, &world, &Access::none(), true);
+    expect_eq(rt, world.is_home(&Access::none()), true);
     expect_home(rt, &world, type_no(0), false);
     expect_resource(rt, &world, res_no(0), None);
     expect_eq(rt, world.counts().of(type_no(0)), None);
@@ -276,13 +266,6 @@ fn a_world_that_is_not_held(rt: HostRuntime) {
     drop(world);
 }
 
-/// The type has this message as its first, and gives the next one the number 1.
-fn expect_first(rt: &impl Abort, world: &mut World, t: TypeNo, record: Record) {
-    let messages = world.messages(t).have(rt);
-    expect_eq(rt, messages.get(MessageId(0)).copied(), Some(record));
-    expect_eq(rt, world.post(t, 5).ok(), Some(MessageId(1)));
-}
-
 #[test]
 fn a_loan_that_ends_leaves_what_it_wrote(rt: HostRuntime) {
     let rt = &rt;
@@ -290,7 +273,7 @@ fn a_loan_that_ends_leaves_what_it_wrote(rt: HostRuntime) {
     let mut world = a_world(rt);
     let access = Access::none().with_write_type(t).with_read_res(r);
     let taken = lend(rt, &mut world, &access);
-    expect_all_home(rt, &world, &access, false);
+    expect_eq(rt, world.is_home(&access), false);
     expect_home(rt, &world, t, false);
     let mut lent = Lent::open(&world, &access, taken);
     lent.stands_for_some();
@@ -304,6 +287,8 @@ fn a_loan_that_ends_leaves_what_it_wrote(rt: HostRuntime) {
     world.take_back(taken);
     expect_home(rt, &world, u, true);
     expect_resource(rt, &world, r, Some(7));
-    expect_first(rt, &mut world, t, record);
+    let messages = world.messages(t).have(rt);
+    expect_eq(rt, messages.get(MessageId(0)).copied(), Some(record));
+    expect_eq(rt, world.post(t, 5).have(rt), MessageId(1));
     drop(world);
 }

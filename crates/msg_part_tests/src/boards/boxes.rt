@@ -91,23 +91,22 @@ fn add<'a>(
     jobs.push(ToolJob { tool, base }).have(rt);
 }
 
+/// What the tools give of 20.
+const VALUES: [u64; 3] = [10, 7, 10];
+
 #[test]
 fn boxes_of_two_kinds(rt: HostRuntime) {
     let rt = &rt;
-    let (mut jobs, base) = (Vec::new(rt.alloc()), 20);
+    let base = 20;
+    let mut jobs = Vec::new(rt.alloc());
     add(rt, &mut jobs, &base, boxed(rt, Half));
     add(rt, &mut jobs, &base, boxed(rt, Constant(7)));
     add(rt, &mut jobs, &base, boxed(rt, Half));
     assert!(rt; jobs.len() == 3);
     let done = run_jobs::<HostRuntime, Tools<Box<dyn Tool>>>(rt, rt.alloc(), jobs, 2).have(rt);
-    expect_values(rt, done.as_slice(), &[10, 7, 10]);
-    drop(done);
-}
-
-/// What each tool gave.
-fn expect_values(rt: &impl Abort, came: &[ToolDone<Box<dyn Tool>>], values: &[u64]) {
-    expect_eq(rt, came.len(), values.len());
-    for (done, value) in came.iter().zip(values) {
+    expect_eq(rt, done.len(), 3);
+    for (done, value) in done.iter().zip(&VALUES) {
         expect_eq(rt, done.value, *value);
     }
+    drop(done);
 }

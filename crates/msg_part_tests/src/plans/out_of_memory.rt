@@ -1,9 +1,8 @@
 // If there is no memory for a plan there is none, and the same call gives it once memory is
 // there.
-use super::{CONTRADICTORY, contradictory_plan, has_batches};
+use super::{CONTRADICTORY, contradictory_plan, cycle_in, has_batches};
 use crate::equal::expect_eq;
 use crate::outcome::tell;
-use msg_order::PlanRefusal;
 use std::alloc::Global;
 use std::process::Abort;
 use std::test::Fail;
@@ -17,7 +16,7 @@ fn is_refused(rt: &impl Abort, alloc: Global) -> bool {
             false
         }
         Err(refusal) => {
-            assert!(rt; matches!(refusal, PlanRefusal::NoMemory));
+            expect_eq(rt, cycle_in(refusal), None);
             true
         }
     }

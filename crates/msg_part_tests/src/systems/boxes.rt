@@ -79,19 +79,6 @@ fn add(rt: &impl Abort, boxes: &mut Vec<Box<dyn System>>, system: Box<dyn System
     boxes.push(system).have(rt);
 }
 
-/// What the systems reply, run one after the other.
-fn replies_of(
-    rt: &(impl Abort + AllocGlobal),
-    world: &mut World,
-    systems: &mut [Box<dyn System>],
-) -> Vec<Reply> {
-    let mut replies = Vec::new(rt.alloc());
-    for system in systems {
-        run_once(rt, rt.alloc(), world, system, &mut replies);
-    }
-    replies
-}
-
 /// A writer, a relay, a tally, and one that drains what it wrote.
 #[test]
 fn a_list_of_four_boxes(rt: HostRuntime) {
@@ -105,18 +92,17 @@ fn a_list_of_four_boxes(rt: HostRuntime) {
     add(rt, &mut boxes, boxed(rt, tally));
     add(rt, &mut boxes, boxed(rt, drain(rt, v)));
     let mut world = World::new(rt.alloc(), &[9, 9, 9], &[7]).have(rt);
-    let replies = replies_of(rt, &mut world, boxes.as_mut_slice());
+    let mut replies = Vec::new(rt.alloc());
+    for system in boxes.as_mut_slice() {
+        run_once(rt, rt.alloc(), &mut world, system, &mut replies);
+    }
     drop(boxes);
-    expect_shown(rt, &replies, REPLIES);
+    let text = format!(in rt.alloc(); "{replies:?}").have(rt);
     drop(replies);
+    expect_eq(rt, text.as_str(), REPLIES);
+    drop(text);
     expect_eq(rt, world.resource(r), Some(18));
     drop(world);
-}
-
-/// The replies show themselves as this text.
-fn expect_shown(rt: &(impl Abort + AllocGlobal), replies: &Vec<Reply>, want: &str) {
-    let text = format!(in rt.alloc(); "{replies:?}").have(rt);
-    expect_eq(rt, text.as_str(), want);
 }
 
 /// Each op, copied.

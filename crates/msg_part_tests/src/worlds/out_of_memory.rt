@@ -2,7 +2,7 @@
 // message is handed back.
 ghost use Rattle.msg_world.specs.Prelude.{SameLoan};
 
-use super::{expect_all_home, expect_home, expect_resource, post, set};
+use super::{expect_home, expect_resource, post, set};
 use crate::equal::{Have, expect_eq};
 use crate::numbers::{res_no, type_no};
 use crate::outcome::tell;
@@ -60,16 +60,12 @@ fn begun(rt: &(impl Abort + AllocGlobal)) -> Result<World, NoMemory> {
     Ok(world)
 }
 
-/// The numbers of the oldest message and of the next.
-fn expect_numbers(rt: &impl Abort, messages: &Messages<Record>, numbers: (u64, u64)) {
-    expect_eq(rt, (messages.oldest(), messages.count()), numbers);
-}
-
 /// The first type is home, and keeps the host's message 0, and behind it `next` if that was
 /// written; no message was dropped.
 fn expect_messages(rt: &impl Abort, world: &World, next: &Record, is_written: bool) {
     let messages = world.messages(type_no(0)).have(rt);
-    expect_numbers(rt, messages, (0, 1 + is_written as u64));
+    let numbers = (messages.oldest(), messages.count());
+    expect_eq(rt, numbers, (0, 1 + is_written as u64));
     let mut cursor = MessageCursor::new(0);
     let mut unread = cursor.read(messages);
     expect_eq(rt, unread.next(), Some((MessageId(0), &by_host(5))));
@@ -98,45 +94,34 @@ fn write_both(rt: &impl Abort, lent: &mut Lent, t: TypeNo, r: ResNo, record: Rec
     write(rt, lent, t, record)
 }
 
-/// Makes the resource 8 on a loan, and writes a message. Says what the resource is then, and
-/// whether the message was written: there may be no memory for the loan, or for the message.
-fn write_on_loan(
-    rt: &impl Abort,
-    world: &mut World,
-    access: &Access,
-    record: Record,
-) -> (i64, bool) {
-    let (t, r) = (type_no(0), res_no(0));
-    assert!(rt; world.is_home(access));
-    lent_parts_are_a_loan::<i64>();
-    let Ok(taken) = world.lend_out(access) else {
-        return (7, false);
-    };
-    expect_home(rt, world, t, false);
-    expect_resource(rt, world, r, None);
-    let mut lent = Lent::open(world, access, taken);
-    let wrote = write_both(rt, &mut lent, t, r, record);
-    lent_parts_may_come_home::<i64>();
-    let taken = lent.into_taken();
-    world.take_back(taken);
-    (8, wrote)
-}
-
 #[test]
 fn lending(rt: HostRuntime) -> Result<(), Fail> {
     let rt = &rt;
     let mut world = begun(rt)?;
+    let (t, r) = (type_no(0), res_no(0));
     let access = Access::none()
-        .with_write_type(type_no(0))
-        .with_write_res(res_no(0))
+        .with_write_type(t)
+        .with_write_res(r)
         .with_registry();
+    assert!(rt; world.is_home(&access));
+    lent_parts_are_a_loan::<i64>();
     let record = Record {
         writer: 3,
         value: 9,
     };
-    let (value, wrote) = write_on_loan(rt, &mut world, &access, record);
-    expect_all_home(rt, &world, &access, true);
-    expect_resource(rt, &world, res_no(0), Some(value));
+    let (mut value, mut wrote) = (7, false);
+    if let Ok(taken) = world.lend_out(&access) {
+        expect_home(rt, &world, t, false);
+        expect_resource(rt, &world, r, None);
+        let mut lent = Lent::open(&world, &access, taken);
+        value = 8;
+        wrote = write_both(rt, &mut lent, t, r, record);
+        lent_parts_may_come_home::<i64>();
+        let taken = lent.into_taken();
+        world.take_back(taken);
+    }
+    expect_eq(rt, world.is_home(&access), true);
+    expect_resource(rt, &world, r, Some(value));
     expect_messages(rt, &world, &record, wrote);
     drop(world);
     tell(rt, !wrote)
