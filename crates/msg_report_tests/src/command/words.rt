@@ -1,7 +1,6 @@
 // What command lines ask for.
-use crate::equal::expect_eq;
+use crate::equal::{Have, expect_eq};
 use msg_command::{WordFault, parse_words};
-use std::panic::Expect;
 use std::process::Abort;
 
 /// The words of a line, which blanks part. Two quotes are the empty word.
@@ -9,8 +8,7 @@ fn words_of(rt: &(impl Abort + AllocGlobal), line: &str) -> Vec<String> {
     let mut words = Vec::new(rt.alloc());
     for word in line.split_whitespace() {
         let word = if word == "''" { "" } else { word };
-        let word = word.to_string(rt.alloc()).expect(rt, "memory");
-        words.push(word).expect(rt, "memory");
+        words.push(word.to_string(rt.alloc()).have(rt)).have(rt);
     }
     words
 }
@@ -81,11 +79,15 @@ const ACTIONS: [(&str, &str); 45] = [
 
 #[test]
 fn actions(rt: HostRuntime) {
+    let rt = &rt;
     for (line, want) in &ACTIONS {
-        let words = words_of(&rt, line);
+        let words = words_of(rt, line);
         let parsed = parse_words(rt.alloc(), words.as_slice());
-        let text = format!(in rt.alloc(); "{parsed:?}").expect(&rt, "memory");
-        expect_eq(&rt, &(*line, text.as_str()), &(*line, *want));
+        drop(words);
+        let text = format!(in rt.alloc(); "{parsed:?}").have(rt);
+        drop(parsed);
+        expect_eq(rt, (*line, text.as_str()), (*line, *want));
+        drop(text);
     }
 }
 
@@ -120,14 +122,25 @@ const HELPS: [(&str, [&str; 3]); 6] = [
 #[test]
 fn help(rt: HostRuntime) {
     for (line, pieces) in &HELPS {
-        let words = words_of(&rt, line);
-        match parse_words(rt.alloc(), words.as_slice()) {
-            Err(WordFault::Help(text)) => {
-                for piece in pieces {
-                    assert!(rt; text.contains(*piece), "{line}: {text}");
-                }
-            }
-            other => panic!(rt; "{line}: {other:?}"),
-        }
+        expect_help(&rt, line, pieces);
+    }
+}
+
+/// A command line gets help that has these pieces.
+fn expect_help(rt: &(impl Abort + AllocGlobal), line: &str, pieces: &[&str]) {
+    let words = words_of(rt, line);
+    let fault = parse_words(rt.alloc(), words.as_slice()).err().have(rt);
+    drop(words);
+    let text = help_in(fault).have(rt);
+    for piece in pieces {
+        expect_eq(rt, (line, text.contains(*piece)), (line, true));
+    }
+    drop(text);
+}
+
+fn help_in(fault: WordFault) -> Option<String> {
+    match fault {
+        WordFault::Help(text) => Some(text),
+        _ => None,
     }
 }
