@@ -6,7 +6,7 @@ use std::process::Abort;
 
 /// Both are equal.
 pub fn expect_eq<T: PartialEq + Debug + Copy>(rt: &impl Abort, found: T, want: T) {
-    assert_eq!(rt; found, want);
+    assert!(rt; found == want, "{found:?} is not {want:?}");
 }
 
 /// What may not be there, and has to be. A test doesn't say what that is: each such text is as

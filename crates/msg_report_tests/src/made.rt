@@ -1,10 +1,11 @@
 // Scenarios that are made in code, and never were files.
 use crate::equal::{Have, expect_eq};
-use crate::sparing::{sparing_engine, workers};
+use crate::reports::report_by_engine;
+use crate::sparing::workers;
 use msg_exec::NoGate;
 use msg_frames::{Frame, Items, Place};
 use msg_order::Rule;
-use msg_scenario::{Kind, MemorySink, Name, Scenario, SystemSpec, report};
+use msg_scenario::{Kind, MemorySink, Name, Scenario, SystemSpec};
 use msg_system::{Op, Program, Start};
 use msg_world::TypeNo;
 use std::process::Abort;
@@ -87,13 +88,11 @@ fn a_scenario_of_code_is_reported(rt: HostRuntime) {
     let rt = &rt;
     let scenario = lag(rt, Rule::before(0, 1), TypeNo::new(0).unwrap());
     assert!(rt; scenario.is_runnable());
-    let mut engine = sparing_engine(rt.alloc(), &scenario, 100).have(rt);
     let mut sink = MemorySink::new();
     let workers = workers(rt, 2);
-    let put = report(rt, &mut engine, &scenario, workers, &NoGate, &mut sink);
+    let (put, _) = report_by_engine(rt, &scenario, workers, 100, &NoGate, &mut sink);
     expect_eq(rt, put, Ok(()));
     expect_eq(rt, sink.bytes(), REPORT.as_bytes());
-    drop(engine);
     drop(scenario);
     drop(sink);
 }

@@ -48,7 +48,7 @@ const WHOLE: &str = "\
 
 /// What the report by an engine came to, each of whose systems has memory for `runs` runs; how many
 /// frames that engine counts then, and whether it is spoiled.
-fn report_by_engine<R: Threads + Sync + Abort + AllocGlobal, S: Sink, G: Gate>(
+pub fn report_by_engine<R: Threads + Sync + Abort + AllocGlobal, S: Sink, G: Gate>(
     rt: &R,
     scenario: &Scenario,
     workers: Workers,
