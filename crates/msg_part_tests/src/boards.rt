@@ -8,7 +8,7 @@ mod out_of_memory;
 
 use crate::equal::{Have, expect_eq};
 use msg_board::{Board, MAX_JOBS, MAX_PASSES, NoMemory, Pass, Work};
-use std::alloc::Global;
+use std::alloc::{Allocator, Global};
 use std::process::Abort;
 use std::thread;
 use std::thread::Threads;
@@ -138,7 +138,11 @@ fn draw_value(
 }
 
 /// Draws None, and is finished.
-fn draw_none<W: Work>(rt: &impl Abort, board: &Board<W>, pass: &mut Pass<W::Job, W::Done>)
+fn draw_none<W: Work, A: Allocator + Copy>(
+    rt: &impl Abort,
+    board: &Board<W, A>,
+    pass: &mut Pass<W::Job, W::Done>,
+)
     requires idle { IsIdle board.now pass.old }
     ensures ended { HasEnded board.now pass.new }
 {
@@ -203,8 +207,7 @@ fn no_jobs_and_one_pass(rt: HostRuntime) {
     let board = Board::<AddOne, &Global>::new(&heap, Vec::new(&heap), 1);
     let (board, mut passes) = board.have(rt);
     let mut pass = passes.pop().have(rt);
-    assert!(rt; board.draw(&mut pass).is_none());
-    expect_eq(rt, (pass.is_finished(), pass.holding()), (true, None));
+    draw_none(rt, &board, &mut pass);
     passes.push(pass).have(rt);
     let results = board.close(&heap, passes).have(rt);
     expect_eq(rt, results.len(), 0);

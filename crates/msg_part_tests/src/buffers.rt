@@ -26,7 +26,8 @@ fn cursor_past_the_count(rt: HostRuntime) {
     expect_eq(rt, cursor.place(), 3);
     cursor.clear(&fresh);
     expect_eq(rt, cursor.place(), 0);
-    drop((buffer, fresh));
+    drop(buffer);
+    drop(fresh);
 }
 
 /// A buffer of these words.

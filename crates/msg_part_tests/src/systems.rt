@@ -23,7 +23,8 @@ fn a_copy_of_a_clash_is_one(rt: HostRuntime) {
     let copied = clash.copy(alloc).have(rt);
     expect_eq(rt, copied.access(), clash.access());
     expect_eq(rt, copied.ops.as_slice(), clash.ops.as_slice());
-    drop((clash, copied));
+    drop(clash);
+    drop(copied);
 }
 
 #[test]
@@ -37,7 +38,8 @@ fn programs_are_copied_and_tell_their_access(rt: HostRuntime) {
     let program = program_of(ops.have(rt));
     let copied = program.copy(alloc).have(rt);
     let access = copied.access();
-    drop((program, copied));
+    drop(program);
+    drop(copied);
     let resource = (access.writes_res(r), access.reads_res(r));
     expect_eq(rt, resource, (true, false));
     let first = (access.reads_type(t), access.writes_type(t));

@@ -47,7 +47,7 @@ fn a_world(rt: &(impl Abort + AllocGlobal)) -> World
 }
 
 /// Lends out what this access uses, which is home.
-fn lend(rt: &impl Abort, world: &mut World, access: &Access) -> Taken
+pub fn lend(rt: &impl Abort, world: &mut World, access: &Access) -> Taken
     ensures lent { LendsOut access.now world.old world.new result }
     ensures loan { IsLoanOf access.now world.new result }
 {

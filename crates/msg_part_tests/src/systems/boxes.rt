@@ -3,11 +3,12 @@ ghost use Rattle.std.specs.Prelude.{◌≤◌, length};
 
 use crate::equal::{Have, expect_eq};
 use crate::numbers::{res_no, type_no};
+use crate::worlds::lend;
 use msg_system::{
     Items, MAX_OPS, Numbered, Op, Program, Relay, Reply, Scripted, Start, System, Tally,
     open_loans_cover,
 };
-use msg_world::laws::{lent_parts_are_a_loan, lent_parts_may_come_home};
+use msg_world::laws::lent_parts_may_come_home;
 use msg_world::{Lent, TypeNo, World};
 use std::alloc::Global;
 use std::process::Abort;
@@ -32,9 +33,7 @@ fn run_once<S: System>(
     out: &mut Vec<Reply>,
 ) {
     let access = system.access();
-    assert!(rt; world.is_home(&access));
-    lent_parts_are_a_loan::<i64>();
-    let taken = world.lend_out(&access).have(rt);
+    let taken = lend(rt, world, &access);
     let lent = Lent::open(world, &access, taken);
     open_loans_cover::<i64>();
     let taken = system.run(alloc, lent, out).have(rt);
