@@ -66,6 +66,11 @@ fn expect_run_fault(rt: &(impl Abort + AllocGlobal), fault: RunFault, line: &str
     expect_line(rt, fault, line, 1, text);
 }
 
+/// The fault's line is its text too.
+fn expect_told(rt: &(impl Abort + AllocGlobal), fault: MainFault, line: &str, status: u8) {
+    expect_line(rt, fault, line, status, line);
+}
+
 #[test]
 fn reports_that_stop(rt: HostRuntime) {
     let rt = &rt;
@@ -75,26 +80,44 @@ fn reports_that_stop(rt: HostRuntime) {
     expect_run_fault(rt, RunFault::BadOrder, "run fault 2 BadOrder", unlawful);
     let refused = "run fault: want of memory";
     expect_run_fault(rt, RunFault::NoMemory, "run fault 3 NoMemory", refused);
-    let write = MainFault::Report(ReportFault::Write);
-    expect_line(rt, write, "write fault", 1, "write fault");
-    let refused = MainFault::Report(ReportFault::NoMemory);
-    expect_line(rt, refused, "want of memory", 1, "want of memory");
-    expect_line(rt, MainFault::Built, "want of memory", 1, "want of memory");
+    expect_told(rt, MainFault::Report(ReportFault::Write), "write fault", 1);
+    expect_told(
+        rt,
+        MainFault::Report(ReportFault::NoMemory),
+        "want of memory",
+        1,
+    );
+    expect_told(rt, MainFault::Built, "want of memory", 1);
 }
 
 #[test]
 fn inputs_and_words(rt: HostRuntime) {
     let rt = &rt;
-    let failed = MainFault::Input(InputFault::Failed);
-    expect_line(rt, failed, "cannot read input", 1, "cannot read input");
-    let large = MainFault::Input(InputFault::TooLarge);
-    expect_line(rt, large, "input too large", 2, "input too large");
-    let refused = MainFault::Input(InputFault::NoMemory);
-    expect_line(rt, refused, "want of memory", 1, "want of memory");
-    let bad = MainFault::Words(WordFault::Bad);
-    expect_line(rt, bad, "bad command line", 2, "bad command line");
-    let refused = MainFault::Words(WordFault::NoMemory);
-    expect_line(rt, refused, "want of memory", 1, "want of memory");
+    expect_told(
+        rt,
+        MainFault::Input(InputFault::Failed),
+        "cannot read input",
+        1,
+    );
+    expect_told(
+        rt,
+        MainFault::Input(InputFault::TooLarge),
+        "input too large",
+        2,
+    );
+    expect_told(
+        rt,
+        MainFault::Input(InputFault::NoMemory),
+        "want of memory",
+        1,
+    );
+    expect_told(rt, MainFault::Words(WordFault::Bad), "bad command line", 2);
+    expect_told(
+        rt,
+        MainFault::Words(WordFault::NoMemory),
+        "want of memory",
+        1,
+    );
 }
 
 /// Help is no fault: it has no line, status 0, and its own text.
