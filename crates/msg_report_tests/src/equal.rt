@@ -1,5 +1,5 @@
-//! How tests compare, and take what has to be there. Each crate of tests has this file: no library
-//! may have a function that can end the process.
+//! How tests compare, and take what has to be there. Each crate of tests has such a file: no
+//! library may have a function that can end the process.
 use std::fmt::{Debug, Display};
 use std::panic::Expect;
 use std::process::Abort;
