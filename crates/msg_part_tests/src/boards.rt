@@ -1,14 +1,14 @@
 // Boards of no jobs, boards that threads share, and jobs that hold boxes.
-ghost use Rattle.std.specs.Prelude.{◌≡◌, ◌+◌, ◌<◌, ◌≤◌, Some, length, slice_get};
+ghost use Rattle.std.specs.Prelude.{◌≡◌, ◌+◌, ◌<◌, ◌≤◌, All, Some, length, slice_get};
 ghost use Rattle.msg_board.specs.Prelude.{HasEnded, IsIdle, IsOf, jobs_of};
+ghost use Rattle.msg_board.specs.Board.{IsNewPass};
 
 mod boxes;
 mod out_of_memory;
 
-use crate::equal::expect_eq;
+use crate::equal::{Have, expect_eq};
 use msg_board::{Board, MAX_JOBS, MAX_PASSES, NoMemory, Pass, Work};
 use std::alloc::{Allocator, Global};
-use std::panic::Expect;
 use std::process::Abort;
 use std::thread;
 use std::thread::Threads;
@@ -63,29 +63,43 @@ fn run_jobs<R: Threads + Sync, W: Runs + Send>(
         requires { IsIdle shared.now pass }
         ensures { HasEnded shared.entry.now result }
     { work(shared, pass) };
-    let ended = thread::map_vec(rt, passes, &each)?;
-    board.close(alloc, ended)
+    match thread::map_vec(rt, passes, &each) {
+        Ok(ended) => board.close(alloc, ended),
+        Err(_) => {
+            drop(board);
+            Err(NoMemory)
+        }
+    }
+}
+
+/// The first of the numbers from 1 on that doesn't stand at its place, if one doesn't.
+fn first_wrong(numbers: &[u64]) -> Option<u64> {
+    for (number, want) in numbers.iter().zip(1..) {
+        if *number != want {
+            return Some(want);
+        }
+    }
+    None
 }
 
 /// Each row has how many jobs there are and how many threads. The results are the successors of
 /// the jobs' numbers, in the order of the jobs.
 #[test]
 fn threads_draw_jobs(rt: HostRuntime) {
+    let rt = &rt;
     for (n, passes) in [(100, 2), (MAX_JOBS as u32, MAX_PASSES), (1, 3)] {
-        let jobs: Vec<u32> = (0..n).collect(rt.alloc()).expect(&rt, "jobs");
+        let jobs: Vec<u32> = (0..n).collect(rt.alloc()).have(rt);
         assert!(rt; jobs.len() <= MAX_JOBS);
-        let results = run_jobs::<HostRuntime, AddOne>(&rt, rt.alloc(), jobs, passes);
-        let results = results.expect(&rt, "results");
-        expect_eq(&rt, &results.len(), &(n as usize));
-        for (result, want) in results.iter().zip(1..) {
-            expect_eq(&rt, result, &want);
-        }
+        let results = run_jobs::<HostRuntime, AddOne>(rt, rt.alloc(), jobs, passes).have(rt);
+        let came = (results.len(), first_wrong(results.as_slice()));
+        expect_eq(rt, came, (n as usize, None));
+        drop(results);
     }
 }
 
 /// The pass isn't finished, and holds this job, if any.
 fn expect_holding(rt: &impl Abort, pass: &Pass<u32, u64>, number: Option<usize>) {
-    expect_eq(rt, &(pass.holding(), pass.is_finished()), &(number, false));
+    expect_eq(rt, (pass.holding(), pass.is_finished()), (number, false));
 }
 
 /// Draws the next job, which has this number.
@@ -100,7 +114,7 @@ fn draw_next<W: Work>(
     ensures holds { pass.new.holding ≡ Some number }
     ensures job { slice_get (jobs_of board.now) number ≡ Some result }
 {
-    let (k, job) = board.draw(pass).expect(rt, "a job");
+    let (k, job) = board.draw(pass).have(rt);
     assert!(rt; k == number);
     job
 }
@@ -132,8 +146,10 @@ fn draw_none<W: Work, A: Allocator + Copy>(
     requires idle { IsIdle board.now pass.old }
     ensures ended { HasEnded board.now pass.new }
 {
-    assert!(rt; board.draw(pass).is_none());
-    expect_eq(rt, &(pass.is_finished(), pass.holding()), &(true, None));
+    let drawn = board.draw(pass);
+    assert!(rt; drawn.is_none());
+    drop(drawn);
+    expect_eq(rt, (pass.is_finished(), pass.holding()), (true, None));
 }
 
 /// The second pass holds a job while the first draws all others. Both draw None twice.
@@ -158,29 +174,42 @@ fn work_off(rt: &impl Abort, board: &Board<AddOne>, a: &mut Pass<u32, u64>, b: &
     draw_none(rt, board, b);
 }
 
+/// Draws three jobs by the two passes in turn, and ends both.
+fn work_off_both(rt: &impl Abort, board: &Board<AddOne>, passes: &mut Vec<Pass<u32, u64>>)
+    requires two { length passes.old.items ≡ 2 }
+    requires fresh { All (IsNewPass board.now) passes.old.items }
+    ensures two { length passes.new.items ≡ 2 }
+    ensures ended { All (HasEnded board.now) passes.new.items }
+{
+    let mut b = passes.pop().have(rt);
+    let mut a = passes.pop().have(rt);
+    work_off(rt, board, &mut a, &mut b);
+    passes.push(a).have(rt);
+    passes.push(b).have(rt);
+}
+
 #[test]
 fn two_passes_and_three_jobs(rt: HostRuntime) {
-    let jobs = vec![in rt.alloc(); 10, 20, 30].expect(&rt, "jobs");
-    let board = Board::<AddOne>::new(rt.alloc(), jobs, 2).expect(&rt, "a board");
-    let (board, mut passes) = board;
-    let mut b = passes.pop().expect(&rt, "a pass");
-    let mut a = passes.pop().expect(&rt, "a pass");
-    work_off(&rt, &board, &mut a, &mut b);
-    passes.push(a).expect(&rt, "a list");
-    passes.push(b).expect(&rt, "a list");
-    let results = board.close(rt.alloc(), passes).expect(&rt, "results");
-    expect_eq(&rt, &results.as_slice(), &[11, 21, 31].as_slice());
+    let rt = &rt;
+    let jobs = vec![in rt.alloc(); 10, 20, 30].have(rt);
+    let (board, mut passes) = Board::<AddOne>::new(rt.alloc(), jobs, 2).have(rt);
+    work_off_both(rt, &board, &mut passes);
+    let results = board.close(rt.alloc(), passes).have(rt);
+    expect_eq(rt, results.as_slice(), [11, 21, 31].as_slice());
+    drop(results);
 }
 
 /// A board without jobs, over another allocator than `Global`.
 #[test]
 fn no_jobs_and_one_pass(rt: HostRuntime) {
+    let rt = &rt;
     let heap = rt.alloc();
     let board = Board::<AddOne, &Global>::new(&heap, Vec::new(&heap), 1);
-    let (board, mut passes) = board.expect(&rt, "a board");
-    let mut pass = passes.pop().expect(&rt, "a pass");
-    draw_none(&rt, &board, &mut pass);
-    passes.push(pass).expect(&rt, "a list");
-    let results = board.close(&heap, passes).expect(&rt, "results");
-    expect_eq(&rt, &results.len(), &0);
+    let (board, mut passes) = board.have(rt);
+    let mut pass = passes.pop().have(rt);
+    draw_none(rt, &board, &mut pass);
+    passes.push(pass).have(rt);
+    let results = board.close(&heap, passes).have(rt);
+    expect_eq(rt, results.len(), 0);
+    drop(results);
 }

@@ -1,45 +1,41 @@
 // Buffers: what calls files can't show, and the texts of refusals.
 mod out_of_memory;
 
-use crate::equal::{expect_eq, expect_text};
+use crate::equal::{Have, expect_eq, expect_text};
 use msg_buffer::laws::{
     histories_only_grow, messages_outlive_one_update, readers_tile, reads_may_be_left,
 };
 use msg_buffer::{BatchRefusal, MessageCursor, MessageId, Messages, WriteRefusal};
-use std::panic::Expect;
 use std::process::Abort;
 
 fn write_values(rt: &impl Abort, buffer: &mut Messages<i64>, values: &[i64]) {
     for value in values {
-        expect_eq(rt, &buffer.write(*value).is_ok(), &true);
+        buffer.write(*value).have(rt);
     }
-}
-
-/// The buffer has nothing for this cursor.
-fn expect_none_for(rt: &impl Abort, cursor: &mut MessageCursor, buffer: &Messages<i64>) {
-    expect_eq(rt, &(cursor.missed(buffer), cursor.len(buffer)), &(0, 0));
-    expect_eq(rt, &cursor.read(buffer).next(), &None);
 }
 
 #[test]
 fn cursor_past_the_count(rt: HostRuntime) {
+    let rt = &rt;
     let mut buffer = Messages::new(rt.alloc(), 10);
-    write_values(&rt, &mut buffer, &[0, 1, 2]);
+    write_values(rt, &mut buffer, &[0, 1, 2]);
     let mut cursor = buffer.get_cursor_current();
     let fresh: Messages<i64> = Messages::new(rt.alloc(), 10);
-    expect_none_for(&rt, &mut cursor, &fresh);
-    expect_eq(&rt, &cursor.place(), &3);
+    expect_eq(rt, (cursor.missed(&fresh), cursor.len(&fresh)), (0, 0));
+    expect_eq(rt, cursor.read(&fresh).next(), None);
+    expect_eq(rt, cursor.place(), 3);
     cursor.clear(&fresh);
-    expect_eq(&rt, &cursor.place(), &0);
-    drop((buffer, fresh));
+    expect_eq(rt, cursor.place(), 0);
+    drop(buffer);
+    drop(fresh);
 }
 
 /// A buffer of these words.
 fn of_words(rt: &(impl Abort + AllocGlobal), words: &[&str]) -> Messages<String> {
     let mut buffer = Messages::new(rt.alloc(), 10);
     for word in words {
-        let word = word.to_string(rt.alloc()).expect(rt, "a word");
-        expect_eq(rt, &buffer.write(word).is_ok(), &true);
+        let word = word.to_string(rt.alloc()).have(rt);
+        buffer.write(word).have(rt);
     }
     buffer
 }
@@ -62,17 +58,18 @@ fn expect_walk(
     want: Option<MessageId>,
     place: u64,
 ) {
-    expect_eq(rt, &walk_to(cursor, buffer, "east"), &want);
-    expect_eq(rt, &cursor.place(), &place);
+    expect_eq(rt, walk_to(cursor, buffer, "east"), want);
+    expect_eq(rt, cursor.place(), place);
 }
 
 #[test]
 fn a_walk_left_early(rt: HostRuntime) {
-    let buffer = of_words(&rt, &["north", "east", "south", "west"]);
+    let rt = &rt;
+    let buffer = of_words(rt, &["north", "east", "south", "west"]);
     let mut cursor = buffer.get_cursor();
-    expect_walk(&rt, &mut cursor, &buffer, Some(MessageId(1)), 2);
-    expect_eq(&rt, &cursor.read(&buffer).len(), &2);
-    expect_walk(&rt, &mut cursor, &buffer, None, 4);
+    expect_walk(rt, &mut cursor, &buffer, Some(MessageId(1)), 2);
+    expect_eq(rt, cursor.read(&buffer).len(), 2);
+    expect_walk(rt, &mut cursor, &buffer, None, 4);
     buffer.stands_for_some();
     histories_only_grow::<String>();
     messages_outlive_one_update::<String>();
@@ -82,14 +79,15 @@ fn a_walk_left_early(rt: HostRuntime) {
 
 #[test]
 fn refusals_say_why(rt: HostRuntime) {
+    let rt = &rt;
     let none_left: WriteRefusal<i64> = WriteRefusal::NumbersSpent(1);
-    expect_text(&rt, &none_left, "no number is left");
+    expect_text(rt, &none_left, "no number is left");
     let refused: WriteRefusal<i64> = WriteRefusal::NoMemory(1);
-    expect_text(&rt, &refused, "want of memory");
+    expect_text(rt, &refused, "want of memory");
     let few_left: BatchRefusal<i64> = BatchRefusal::NumbersSpent(Vec::new(rt.alloc()));
-    expect_text(&rt, &few_left, "too few numbers are left");
+    expect_text(rt, &few_left, "too few numbers are left");
     let refused: BatchRefusal<i64> = BatchRefusal::NoMemory(Vec::new(rt.alloc()));
-    expect_text(&rt, &refused, "want of memory");
+    expect_text(rt, &refused, "want of memory");
 }
 
 /// A buffer that dropped the messages 0 and 1, and keeps the next three.
@@ -106,16 +104,17 @@ fn after_two(rt: &(impl Abort + AllocGlobal)) -> Messages<i64> {
 fn expect_left(rt: &impl Abort, buffer: &Messages<i64>, taken: u64, place: u64) {
     let mut cursor = MessageCursor::default();
     reads_may_be_left(&mut cursor, buffer, taken);
-    expect_eq(rt, &(taken, cursor.place()), &(taken, place));
-    expect_eq(rt, &cursor.missed(buffer), &0);
-    expect_eq(rt, &cursor.len(buffer), &5u64.saturating_sub(place));
+    expect_eq(rt, (taken, cursor.place()), (taken, place));
+    expect_eq(rt, cursor.missed(buffer), 0);
+    expect_eq(rt, cursor.len(buffer), 5u64.saturating_sub(place));
 }
 
 #[test]
 fn what_is_not_taken_stays_unread(rt: HostRuntime) {
-    let buffer = after_two(&rt);
+    let rt = &rt;
+    let buffer = after_two(rt);
     for (taken, place) in [(0, 2), (1, 3), (2, 4), (3, 5), (4, 5), (u64::MAX, 5)] {
-        expect_left(&rt, &buffer, taken, place);
+        expect_left(rt, &buffer, taken, place);
     }
     drop(buffer);
 }

@@ -4,17 +4,20 @@ ghost use Rattle.msg_order.specs.Prelude.{NameSystemsBelow};
 
 mod out_of_memory;
 
-use crate::equal::{expect_eq, expect_text};
+use crate::equal::{Have, expect_eq, expect_text};
 use crate::numbers::of_types as uses;
 use msg_order::{Plan, PlanRefusal, Rule, lowest_on_cycle};
 use msg_world::{Access, MAX_SYSTEMS};
 use std::alloc::Global;
-use std::panic::Expect;
 use std::process::Abort;
 
 fn has_batches(plan: &Plan, want: &[&[u32]]) -> bool {
-    let mut pairs = plan.batches().iter().zip(want);
-    plan.batches().len() == want.len() && pairs.all(|(batch, want)| batch.as_slice() == *want)
+    for (batch, want) in plan.batches().iter().zip(want) {
+        if batch.as_slice() != *want {
+            return false;
+        }
+    }
+    plan.batches().len() == want.len()
 }
 
 /// The plan of these systems, which has these batches.
@@ -29,45 +32,48 @@ fn plan_with(
     requires one_each { length joined.now ≡ length accesses.now }
     requires in_range { NameSystemsBelow (length accesses.now) rules.now }
 {
-    let plan = Plan::build(rt.alloc(), accesses, rules, joined).expect(rt, "a plan");
-    expect_eq(rt, &has_batches(&plan, batches), &true);
+    let plan = Plan::build(rt.alloc(), accesses, rules, joined).have(rt);
+    expect_eq(rt, has_batches(&plan, batches), true);
     plan
 }
 
 /// Whether one system precedes the other.
 fn expect_precedes(rt: &impl Abort, plan: &Plan, one: u32, other: u32, want: bool) {
     let precedes = plan.precedes(one, other);
-    expect_eq(rt, &(one, other, precedes), &(one, other, want));
+    expect_eq(rt, (one, other, precedes), (one, other, want));
 }
 
 /// Whether the plan takes this order.
 fn expect_accepts(rt: &impl Abort, plan: &Plan, order: &[u32], want: bool) {
-    expect_eq(rt, &(order, plan.accepts(order)), &(order, want));
+    expect_eq(rt, (order, plan.accepts(order)), (order, want));
 }
 
 #[test]
 fn no_systems(rt: HostRuntime) {
-    let plan = plan_with(&rt, &[], &[], &[], &[]);
-    expect_accepts(&rt, &plan, &[], true);
-    expect_accepts(&rt, &plan, &[0], false);
-    expect_precedes(&rt, &plan, 0, 0, false);
+    let rt = &rt;
+    let plan = plan_with(rt, &[], &[], &[], &[]);
+    expect_accepts(rt, &plan, &[], true);
+    expect_accepts(rt, &plan, &[0], false);
+    expect_precedes(rt, &plan, 0, 0, false);
     drop(plan);
 }
 
 #[test]
 fn readers_run_side_by_side(rt: HostRuntime) {
+    let rt = &rt;
     let accesses = [uses(0, 1), uses(1, 0), uses(1, 0), uses(0, 1)];
-    let plan = plan_with(&rt, &accesses, &[], &[true; 4], &[&[0], &[1, 2], &[3]]);
-    expect_precedes(&rt, &plan, 0, 3, true);
-    expect_precedes(&rt, &plan, 1, 2, false);
+    let plan = plan_with(rt, &accesses, &[], &[true; 4], &[&[0], &[1, 2], &[3]]);
+    expect_precedes(rt, &plan, 0, 3, true);
+    expect_precedes(rt, &plan, 1, 2, false);
     drop(plan);
 }
 
 #[test]
 fn a_settled_pair_leaves_the_next_no_choice(rt: HostRuntime) {
+    let rt = &rt;
     let (accesses, rules) = ([uses(0, 1); 3], [Rule::before(2, 0)]);
-    let plan = plan_with(&rt, &accesses, &rules, &[true; 3], &[&[2], &[0], &[1]]);
-    expect_precedes(&rt, &plan, 2, 1, true);
+    let plan = plan_with(rt, &accesses, &rules, &[true; 3], &[&[2], &[0], &[1]]);
+    expect_precedes(rt, &plan, 2, 1, true);
     drop(plan);
 }
 
@@ -81,20 +87,36 @@ fn contradictory_plan(alloc: Global) -> Result<Plan, PlanRefusal> {
 /// Its batches.
 const CONTRADICTORY: [&[u32]; 4] = [&[2], &[0], &[3], &[1]];
 
+/// Orders, and whether it takes each.
+const ORDERS: [(&[u32], bool); 5] = [
+    (&[2, 0, 3, 1], true),
+    (&[0, 2, 3, 1], false),
+    (&[2, 0, 3], false),
+    (&[2, 0, 3, 1, 1], false),
+    (&[2, 0, 3, 300], false),
+];
+
 #[test]
 fn rules_against_the_order_of_addition(rt: HostRuntime) {
-    expect_eq(&rt, &Rule::after(0, 2), &Rule::before(2, 0));
-    let plan = contradictory_plan(rt.alloc()).expect(&rt, "a plan");
-    expect_eq(&rt, &has_batches(&plan, &CONTRADICTORY), &true);
-    expect_precedes(&rt, &plan, 2, 1, true);
-    expect_precedes(&rt, &plan, 1, 2, false);
-    expect_precedes(&rt, &plan, 2, 300, false);
-    expect_accepts(&rt, &plan, &[2, 0, 3, 1], true);
-    expect_accepts(&rt, &plan, &[0, 2, 3, 1], false);
-    expect_accepts(&rt, &plan, &[2, 0, 3], false);
-    expect_accepts(&rt, &plan, &[2, 0, 3, 1, 1], false);
-    expect_accepts(&rt, &plan, &[2, 0, 3, 300], false);
+    let rt = &rt;
+    expect_eq(rt, Rule::after(0, 2), Rule::before(2, 0));
+    let plan = contradictory_plan(rt.alloc()).have(rt);
+    expect_eq(rt, has_batches(&plan, &CONTRADICTORY), true);
+    expect_precedes(rt, &plan, 2, 1, true);
+    expect_precedes(rt, &plan, 1, 2, false);
+    expect_precedes(rt, &plan, 2, 300, false);
+    for (order, want) in &ORDERS {
+        expect_accepts(rt, &plan, order, *want);
+    }
     drop(plan);
+}
+
+/// The lowest system on the cycle for which a plan was refused.
+fn cycle_in(refusal: PlanRefusal) -> Option<u32> {
+    match refusal {
+        PlanRefusal::Cycle(lowest) => Some(lowest),
+        PlanRefusal::NoMemory => None,
+    }
 }
 
 /// There is no plan of these systems: their rules make a cycle, of which this is the lowest system.
@@ -110,71 +132,68 @@ fn expect_cycle(
     requires in_range { NameSystemsBelow (length accesses.now) rules.now }
 {
     let refused = Plan::build(rt.alloc(), accesses, rules, joined).err();
-    assert!(rt; matches!(refused, Some(PlanRefusal::Cycle(system)) if system == lowest));
+    expect_eq(rt, cycle_in(refused.have(rt)), Some(lowest));
 }
 
 #[test]
 fn a_cycle_of_rules_names_its_lowest_system(rt: HostRuntime) {
+    let rt = &rt;
     let (idle, joined) = ([Access::none(); 2], [true; 2]);
     let around = [Rule::before(0, 1), Rule::before(1, 0)];
-    expect_cycle(&rt, &idle, &around, &joined, 0);
-    expect_cycle(&rt, &idle, &[Rule::before(1, 1)], &joined, 1);
+    expect_cycle(rt, &idle, &around, &joined, 0);
+    expect_cycle(rt, &idle, &[Rule::before(1, 1)], &joined, 1);
 }
 
 #[test]
 fn refusals_say_why(rt: HostRuntime) {
+    let rt = &rt;
     expect_text(
-        &rt,
+        rt,
         &PlanRefusal::Cycle(1),
         "the rules go round in a circle through system 1",
     );
-    expect_text(&rt, &PlanRefusal::NoMemory, "want of memory");
-}
-
-/// The lowest system on a cycle of these rules, if there is one.
-fn expect_lowest(rt: &impl Abort, systems: usize, rules: &[Rule], want: Option<u32>)
-    requires few { systems ≤ MAX_SYSTEMS }
-    requires in_range { NameSystemsBelow systems rules.now }
-{
-    expect_eq(rt, &lowest_on_cycle(systems, rules), &want);
+    expect_text(rt, &PlanRefusal::NoMemory, "want of memory");
 }
 
 #[test]
 fn the_lowest_system_on_a_cycle(rt: HostRuntime) {
+    let rt = &rt;
     let around = [Rule::before(0, 1), Rule::before(3, 2), Rule::after(3, 2)];
-    expect_lowest(&rt, 4, &around, Some(2));
-    expect_lowest(&rt, 4, &around[..2], None);
-    expect_lowest(&rt, 0, &[], None);
+    expect_eq(rt, lowest_on_cycle(4, &around), Some(2));
+    expect_eq(rt, lowest_on_cycle(4, &around[..2]), None);
+    expect_eq(rt, lowest_on_cycle(0, &[]), None);
 }
 
 #[test]
 fn what_has_not_joined_has_no_effect(rt: HostRuntime) {
+    let rt = &rt;
     let (idle, early, all) = ([Access::none(); 3], [true, false, true], [true; 3]);
     let chain = [Rule::before(0, 1), Rule::before(1, 2)];
-    let plan = plan_with(&rt, &idle, &chain, &early, &[&[0, 2]]);
-    expect_precedes(&rt, &plan, 0, 2, false);
-    expect_precedes(&rt, &plan, 0, 1, false);
+    let plan = plan_with(rt, &idle, &chain, &early, &[&[0, 2]]);
+    expect_precedes(rt, &plan, 0, 2, false);
+    expect_precedes(rt, &plan, 0, 1, false);
     drop(plan);
-    let plan = plan_with(&rt, &idle, &chain, &all, &[&[0], &[1], &[2]]);
-    expect_precedes(&rt, &plan, 0, 2, true);
+    let plan = plan_with(rt, &idle, &chain, &all, &[&[0], &[1], &[2]]);
+    expect_precedes(rt, &plan, 0, 2, true);
     drop(plan);
     let own = [Rule::before(1, 1)];
-    drop(plan_with(&rt, &idle, &own, &early, &[&[0, 2]]));
-    expect_cycle(&rt, &idle, &own, &all, 1);
+    drop(plan_with(rt, &idle, &own, &early, &[&[0, 2]]));
+    expect_cycle(rt, &idle, &own, &all, 1);
 }
 
 /// As many systems of one access as may be make so many batches.
 fn expect_many(rt: &(impl Abort + AllocGlobal), access: Access, batches: usize, precedes: bool) {
     let accesses = [access; MAX_SYSTEMS];
     let plan = Plan::build(rt.alloc(), &accesses, &[], &[true; MAX_SYSTEMS]);
-    let plan = plan.expect(rt, "a plan");
-    expect_eq(rt, &plan.batches().len(), &batches);
+    let plan = plan.have(rt);
+    expect_eq(rt, plan.batches().len(), batches);
     expect_precedes(rt, &plan, 0, MAX_SYSTEMS as u32 - 1, precedes);
     drop(plan);
 }
 
 #[test]
 fn many_systems(rt: HostRuntime) {
-    expect_many(&rt, uses(0, 1), MAX_SYSTEMS, true);
-    expect_many(&rt, uses(1, 0), 1, false);
+    let rt = &rt;
+    expect_many(rt, uses(0, 1), MAX_SYSTEMS, true);
+    expect_many(rt, uses(1, 0), 1, false);
 }

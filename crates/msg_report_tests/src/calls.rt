@@ -1,6 +1,6 @@
 // The text that a calls file is answered with, and the pieces that it is put in.
 use crate::counting::Counting;
-use crate::equal::expect_eq;
+use crate::equal::{Have, expect_eq};
 use crate::narrow::Narrow;
 use crate::texts::long_file;
 use msg_scenario::{Calls, MemorySink, ReportFault, read_calls, run_calls};
@@ -8,10 +8,7 @@ use std::process::Abort;
 
 /// The calls of a file that is accepted.
 pub fn calls_of(rt: &(impl Abort + AllocGlobal), file: &str) -> Calls {
-    match read_calls(rt.alloc(), file.as_bytes()) {
-        Ok(calls) => calls,
-        Err(refusal) => panic!(rt; "refused {file}: {refusal}"),
-    }
+    read_calls(rt.alloc(), file.as_bytes()).have(rt)
 }
 
 /// A file and its text: what the examples don't show of limits and of limited reads.
@@ -31,8 +28,10 @@ const WORKED: [(&str, &str); 3] = [
 fn expect_text(rt: &(impl Abort + AllocGlobal), file: &str, text: &str) {
     let calls = calls_of(rt, file);
     let mut sink = MemorySink::new();
-    expect_eq(rt, &run_calls(rt.alloc(), &calls, &mut sink), &Ok(()));
-    expect_eq(rt, &(file, sink.bytes()), &(file, text.as_bytes()));
+    expect_eq(rt, run_calls(rt.alloc(), &calls, &mut sink), Ok(()));
+    expect_eq(rt, (file, sink.bytes()), (file, text.as_bytes()));
+    drop(calls);
+    drop(sink);
 }
 
 #[test]
@@ -53,35 +52,43 @@ fn expect_put(
 ) {
     let mut sink = sink;
     let put = run_calls(rt.alloc(), calls, &mut sink);
-    expect_eq(rt, &(text, put), &(text, want));
+    expect_eq(rt, (text, put), (text, want));
     sink.expect(rt, put.is_err() as u64, text);
+    drop(sink);
 }
 
 /// A sink that fails after `left` bytes has just these; one that takes byte by byte has all.
 #[test]
 fn sinks_that_fail(rt: HostRuntime) {
+    let rt = &rt;
     let file = r#"{"limit":9,"calls":[["write",7],["update"],["read",0]]}"#;
     let text = b"write 0+1\nupdate\nread 0 missed 0: 0=7\n";
-    let calls = calls_of(&rt, file);
+    let calls = calls_of(rt, file);
     for left in 0..text.len() {
         let (cut, fault) = (&text[..left], Err(ReportFault::Write));
-        expect_put(&rt, &calls, Narrow::new(4, left, false), fault, cut);
-        expect_put(&rt, &calls, Narrow::new(4, left, true), fault, cut);
+        expect_put(rt, &calls, Narrow::new(4, left, false), fault, cut);
+        expect_put(rt, &calls, Narrow::new(4, left, true), fault, cut);
     }
     let sink = Narrow::new(1, text.len(), false);
-    expect_put(&rt, &calls, sink, Ok(()), text.as_slice());
+    expect_put(rt, &calls, sink, Ok(()), text.as_slice());
+    drop(calls);
 }
 
 /// Ten thousand lines of seven bytes each are put in a few pieces, the longest of which has 65,536
 /// bytes or up to six more.
 #[test]
 fn lines_are_put_in_large_pieces(rt: HostRuntime) {
-    let (_, file) = long_file(&rt, r#"Ok 10000 ["update"] {"limit":1,"calls":[*]}"#);
-    let calls = calls_of(&rt, file.as_str());
+    let rt = &rt;
+    let (_, file) = long_file(rt, r#"Ok 10000 ["update"] {"limit":1,"calls":[*]}"#);
+    let calls = calls_of(rt, file.as_str());
+    drop(file);
     let mut sink = Counting::new();
-    expect_eq(&rt, &run_calls(rt.alloc(), &calls, &mut sink), &Ok(()));
+    expect_eq(rt, run_calls(rt.alloc(), &calls, &mut sink), Ok(()));
     let (pieces, longest) = (sink.pieces(), sink.longest());
-    expect_eq(&rt, &sink.bytes(), &70_000);
-    assert!(rt; pieces <= 4, "{pieces} pieces");
-    assert!(rt; 65_536 <= longest && longest <= 65_542, "{longest} bytes");
+    expect_eq(rt, sink.bytes(), 70_000);
+    expect_eq(rt, (pieces, pieces <= 4), (pieces, true));
+    let lies_within = 65_536 <= longest && longest <= 65_542;
+    expect_eq(rt, (longest, lies_within), (longest, true));
+    drop(calls);
+    drop(sink);
 }

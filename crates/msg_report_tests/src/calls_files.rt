@@ -1,16 +1,17 @@
 // What a calls file denotes, and which are refused.
 use crate::calls::calls_of;
-use crate::equal::expect_eq;
+use crate::equal::{Have, expect_eq};
 use crate::texts::{expect_refusal, long_file, nested, wanted};
 use msg_scenario::{Refusal, read_calls};
-use std::panic::Expect;
 use std::process::Abort;
 
 /// The file is accepted, and its limit and its calls show themselves as `want`.
 fn expect_calls(rt: &(impl Abort + AllocGlobal), file: &str, want: &str) {
     let calls = calls_of(rt, file);
-    let shown = format!(in rt.alloc(); "{} {:?}", calls.limit(), calls.calls());
-    expect_eq(rt, &shown.expect(rt, "memory").as_str(), &want);
+    let shown = format!(in rt.alloc(); "{} {:?}", calls.limit(), calls.calls()).have(rt);
+    drop(calls);
+    expect_eq(rt, shown.as_str(), want);
+    drop(shown);
 }
 
 /// Calls, each with what it is read as.
@@ -39,17 +40,15 @@ const HEADS: [&str; 20] = [
 
 #[test]
 fn every_head(rt: HostRuntime) {
+    let rt = &rt;
     for row in &HEADS {
-        let (call, want) = wanted(&rt, row);
-        expect_call(&rt, call, want);
+        let (call, want) = wanted(rt, row);
+        let file = format!(in rt.alloc(); r#"{{"calls":[{call}],"limit":1000000}}"#).have(rt);
+        let want = format!(in rt.alloc(); "1000000 [{want}]").have(rt);
+        expect_calls(rt, file.as_str(), want.as_str());
+        drop(file);
+        drop(want);
     }
-}
-
-/// A file of this call is accepted, and shows it as `want`.
-fn expect_call(rt: &(impl Abort + AllocGlobal), call: &str, want: &str) {
-    let file = format!(in rt.alloc(); r#"{{"calls":[{call}],"limit":1000000}}"#);
-    let want = format!(in rt.alloc(); "1000000 [{want}]").expect(rt, "memory");
-    expect_calls(rt, file.expect(rt, "memory").as_str(), want.as_str());
 }
 
 /// Files, each behind the refusal that it gets.
@@ -106,19 +105,20 @@ const REFUSED: [&str; 48] = [
 
 #[test]
 fn refused_files(rt: HostRuntime) {
+    let rt = &rt;
     for row in &REFUSED {
-        let (want, text) = wanted(&rt, row);
+        let (want, text) = wanted(rt, row);
         let refused = read_calls(rt.alloc(), text.as_bytes()).err();
-        expect_refusal(&rt, refused, want, text);
+        expect_refusal(rt, refused, want, text);
     }
-    expect_calls(&rt, r#"{"limit":-1,"limit":5,"calls":[]}"#, "5 []");
-    expect_refused(&rt, b"\xff", Refusal::NotJson);
+    expect_calls(rt, r#"{"limit":-1,"limit":5,"calls":[]}"#, "5 []");
+    expect_refused(rt, b"\xff", Refusal::NotJson);
     let no_text = b"{\"limit\":1,\"calls\":[[\"\xff\"]]}";
-    expect_refused(&rt, no_text, Refusal::NotJson);
+    expect_refused(rt, no_text, Refusal::NotJson);
 }
 
 fn expect_refused(rt: &(impl Abort + AllocGlobal), file: &[u8], want: Refusal) {
-    expect_eq(rt, &read_calls(rt.alloc(), file).err(), &Some(want));
+    expect_eq(rt, read_calls(rt.alloc(), file).err(), Some(want));
 }
 
 /// Files with a long list, each behind how it is refused, the list's length and its item.
@@ -139,23 +139,30 @@ const LONG: [&str; 12] = [
 
 #[test]
 fn long_files(rt: HostRuntime) {
+    let rt = &rt;
     for row in &LONG {
-        let (want, text) = long_file(&rt, row);
+        let (want, text) = long_file(rt, row);
         let refused = read_calls(rt.alloc(), text.as_bytes()).err();
-        expect_refusal(&rt, refused, want, row);
+        drop(text);
+        expect_refusal(rt, refused, want, row);
     }
-    let text = nested(&rt, "[", 100, "", "]");
-    expect_refused(&rt, text.as_bytes(), Refusal::Shape);
-    let text = nested(&rt, "[", 200, "", "]");
-    expect_refused(&rt, text.as_bytes(), Refusal::NotJson);
+    expect_list_refused(rt, 100, Refusal::Shape);
+    expect_list_refused(rt, 200, Refusal::NotJson);
+}
+
+/// A list in so many others.
+fn expect_list_refused(rt: &(impl Abort + AllocGlobal), depth: usize, want: Refusal) {
+    let text = nested(rt, "[", depth, "", "]");
+    expect_refused(rt, text.as_bytes(), want);
+    drop(text);
 }
 
 #[test]
 fn cut_files(rt: HostRuntime) {
-    let whole = br#"{"limit":10,"calls":[["write",7],["read",0]]}"#;
-    assert!(rt; read_calls(rt.alloc(), whole).is_ok());
+    let whole = r#"{"limit":10,"calls":[["write",7],["read",0]]}"#;
+    drop(calls_of(&rt, whole));
     for n in 0..whole.len() {
-        let cut = read_calls(rt.alloc(), &whole[..n]).err();
-        expect_eq(&rt, &(n, cut), &(n, Some(Refusal::NotJson)));
+        let cut = read_calls(rt.alloc(), &whole.as_bytes()[..n]).err();
+        expect_eq(&rt, (n, cut), (n, Some(Refusal::NotJson)));
     }
 }

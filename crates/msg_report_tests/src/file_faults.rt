@@ -1,8 +1,7 @@
 // Why files are refused, and where in them.
-use crate::equal::expect_eq;
+use crate::equal::{Have, expect_eq};
 use msg_scenario::Step::{Element, Item, Nots, Part, Section, Value};
 use msg_scenario::{Fault, FileFault, Key, Location, Reason, Step, check_calls, check_scenario};
-use std::panic::Expect;
 use std::process::Abort;
 
 /// The fault of this reason at what the steps lead to, first those of `outer`.
@@ -34,19 +33,17 @@ const CALLS: [(&str, Reason, &[Step]); 9] = [
     (r#"["batch",[1,1.5]]"#, Reason::Whole, &[Part(1), Value(1)]),
 ];
 
+/// Each is the second call of a file.
 #[test]
 fn faults_of_calls(rt: HostRuntime) {
+    let rt = &rt;
     for (call, reason, steps) in &CALLS {
         let want = fault_at(*reason, &[Section(Key::Calls), Element(1)], steps);
-        expect_fault_of_call(&rt, call, want);
+        let file = format!(in rt.alloc(); r#"{{"limit":5,"calls":[["update"],{call}]}}"#).have(rt);
+        let came = check_calls(rt.alloc(), file.as_bytes()).err();
+        drop(file);
+        expect_eq(rt, (*call, came), (*call, want));
     }
-}
-
-/// The fault of a file whose second call this is.
-fn expect_fault_of_call(rt: &(impl Abort + AllocGlobal), call: &str, want: Option<FileFault>) {
-    let file = format!(in rt.alloc(); r#"{{"limit":5,"calls":[["update"],{call}]}}"#);
-    let came = check_calls(rt.alloc(), file.expect(rt, "memory").as_bytes()).err();
-    expect_eq(rt, &(call, came), &(call, want));
 }
 
 /// Keys of the second of two systems, each with why it is refused, and where in that system.
@@ -131,19 +128,21 @@ const SYSTEMS: [(&str, Reason, &[Step]); 16] = [
 
 #[test]
 fn faults_of_systems(rt: HostRuntime) {
+    let rt = &rt;
     for (keys, reason, steps) in &SYSTEMS {
         let file = format!(in rt.alloc();
             r#"{{"types":[["hit",9]],"systems":[{{"name":"a","ops":[]}},{{{keys}}}],"frames":[]}}"#
-        );
+        ).have(rt);
         let want = fault_at(*reason, &[Section(Key::Systems), Element(1)], steps);
-        expect_fault(&rt, file.expect(&rt, "memory").as_str(), want);
+        expect_fault(rt, file.as_str(), want);
+        drop(file);
     }
 }
 
 /// The fault of a scenario file.
 fn expect_fault(rt: &(impl Abort + AllocGlobal), file: &str, want: Option<FileFault>) {
     let came = check_scenario(rt.alloc(), file.as_bytes()).err();
-    expect_eq(rt, &(file, came), &(file, want));
+    expect_eq(rt, (file, came), (file, want));
 }
 
 /// Files, each with why it is refused, and where in it.
@@ -222,6 +221,7 @@ fn faults_of_scenarios(rt: HostRuntime) {
 /// An unknown key is told by its number in the order of the keys.
 #[test]
 fn unknown_keys(rt: HostRuntime) {
+    let rt = &rt;
     let location = Location {
         member: Some(3),
         ..Location::here()
@@ -229,20 +229,21 @@ fn unknown_keys(rt: HostRuntime) {
     let reason = Reason::UnknownKey;
     let want = Some(FileFault::At(Fault { reason, location }));
     let file = r#"{"types":[],"x":0,"systems":[],"frames":[]}"#;
-    expect_fault(&rt, file, want);
+    expect_fault(rt, file, want);
     let systems = r#"{"types":[],"frames":[],"systems":[{"name":"a","y":1,"ops":[],"if":[]}]}"#;
     let location = location.after(Element(0)).after(Section(Key::Systems));
     let want = Some(FileFault::At(Fault { reason, location }));
-    expect_fault(&rt, systems, want);
+    expect_fault(rt, systems, want);
 }
 
 /// Bytes that are no JSON text are refused with the line and the column where that shows.
 #[test]
 fn faults_of_texts(rt: HostRuntime) {
-    expect_no_json(&rt, "", 1, 0);
-    expect_no_json(&rt, "{\"limit\":", 1, 9);
-    expect_no_json(&rt, "{\n\"types\": [,]}", 2, 11);
-    expect_no_json(&rt, "[1]\n\n 7", 3, 2);
+    let rt = &rt;
+    expect_no_json(rt, "", 1, 0);
+    expect_no_json(rt, "{\"limit\":", 1, 9);
+    expect_no_json(rt, "{\n\"types\": [,]}", 2, 11);
+    expect_no_json(rt, "[1]\n\n 7", 3, 2);
 }
 
 /// The text is neither a scenario file nor a calls file: it shows on this line and at this column.
@@ -250,5 +251,5 @@ fn expect_no_json(rt: &(impl Abort + AllocGlobal), text: &str, line: usize, colu
     let want = Some(FileFault::NotJson { line, column });
     expect_fault(rt, text, want);
     let came = check_calls(rt.alloc(), text.as_bytes()).err();
-    expect_eq(rt, &(text, came), &(text, want));
+    expect_eq(rt, (text, came), (text, want));
 }

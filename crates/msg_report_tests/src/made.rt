@@ -1,13 +1,13 @@
 // Scenarios that are made in code, and never were files.
-use crate::equal::expect_eq;
-use crate::sparing::{sparing_engine, workers};
+use crate::equal::{Have, expect_eq};
+use crate::reports::report_by_engine;
+use crate::sparing::workers;
 use msg_exec::NoGate;
 use msg_frames::{Frame, Items, Place};
 use msg_order::Rule;
-use msg_scenario::{Kind, MemorySink, Name, Scenario, SystemSpec, report};
+use msg_scenario::{Kind, MemorySink, Name, Scenario, SystemSpec};
 use msg_system::{Op, Program, Start};
 use msg_world::TypeNo;
-use std::panic::Expect;
 use std::process::Abort;
 
 const REPORT: &str = "\
@@ -24,7 +24,7 @@ const REPORT: &str = "\
 fn script(rt: &(impl Abort + AllocGlobal), name: &str, op: Op) -> SystemSpec {
     let alloc = rt.alloc();
     SystemSpec {
-        name: Name::new(alloc, name).expect(rt, "a name"),
+        name: Name::new(alloc, name).have(rt),
         kind: Kind::Script,
         program: Program {
             ops: only(rt, op),
@@ -40,15 +40,15 @@ fn script(rt: &(impl Abort + AllocGlobal), name: &str, op: Op) -> SystemSpec {
 /// A list of one.
 fn only<T: Drop>(rt: &(impl Abort + AllocGlobal), item: T) -> Items<T> {
     let mut items = Vec::new(rt.alloc());
-    items.push(item).expect(rt, "memory");
+    items.push(item).have(rt);
     Items::from_vec(items)
 }
 
 /// A list of two.
 fn both<T: Drop>(rt: &(impl Abort + AllocGlobal), one: T, other: T) -> Items<T> {
     let mut items = Vec::new(rt.alloc());
-    items.push(one).expect(rt, "memory");
-    items.push(other).expect(rt, "memory");
+    items.push(one).have(rt);
+    items.push(other).have(rt);
     Items::from_vec(items)
 }
 
@@ -72,7 +72,7 @@ fn systems(rt: &(impl Abort + AllocGlobal), t: TypeNo) -> Items<SystemSpec> {
 
 /// A reader and a writer with a rule between them, and two frames; in the second the host posts.
 fn lag(rt: &(impl Abort + AllocGlobal), rule: Rule, posted: TypeNo) -> Scenario {
-    let name = Name::new(rt.alloc(), "hit").expect(rt, "a name");
+    let name = Name::new(rt.alloc(), "hit").have(rt);
     Scenario {
         types: only(rt, (name, 10)),
         resources: Items::from_vec(Vec::new(rt.alloc())),
@@ -85,27 +85,31 @@ fn lag(rt: &(impl Abort + AllocGlobal), rule: Rule, posted: TypeNo) -> Scenario 
 
 #[test]
 fn a_scenario_of_code_is_reported(rt: HostRuntime) {
-    let scenario = lag(&rt, Rule::before(0, 1), TypeNo::new(0).unwrap());
+    let rt = &rt;
+    let scenario = lag(rt, Rule::before(0, 1), TypeNo::new(0).unwrap());
     assert!(rt; scenario.is_runnable());
-    let mut engine = sparing_engine(rt.alloc(), &scenario, 100).expect(&rt, "an engine");
     let mut sink = MemorySink::new();
-    let workers = workers(&rt, 2);
-    let put = report(&rt, &mut engine, &scenario, workers, &NoGate, &mut sink);
-    expect_eq(&rt, &put, &Ok(()));
-    expect_eq(&rt, &sink.bytes(), &REPORT.as_bytes());
+    let workers = workers(rt, 2);
+    let (put, _) = report_by_engine(rt, &scenario, workers, 100, &NoGate, &mut sink);
+    expect_eq(rt, put, Ok(()));
+    expect_eq(rt, sink.bytes(), REPORT.as_bytes());
+    drop(scenario);
+    drop(sink);
 }
 
 /// The lagging scenario by this rule, and with a post to this type, can't be run.
 fn expect_no_run(rt: &(impl Abort + AllocGlobal), rule: Rule, posted: TypeNo) {
     let scenario = lag(rt, rule, posted);
-    assert!(rt; !scenario.is_runnable());
+    expect_eq(rt, scenario.is_runnable(), false);
+    drop(scenario);
 }
 
 /// A rule that names no system, one that makes a cycle, and a post to no type.
 #[test]
 fn scenarios_that_cant_be_run(rt: HostRuntime) {
+    let rt = &rt;
     let (hit, none) = (TypeNo::new(0).unwrap(), TypeNo::new(1).unwrap());
-    expect_no_run(&rt, Rule::before(0, 2), hit);
-    expect_no_run(&rt, Rule::before(1, 1), hit);
-    expect_no_run(&rt, Rule::before(0, 1), none);
+    expect_no_run(rt, Rule::before(0, 2), hit);
+    expect_no_run(rt, Rule::before(1, 1), hit);
+    expect_no_run(rt, Rule::before(0, 1), none);
 }

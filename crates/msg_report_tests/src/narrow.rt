@@ -29,7 +29,7 @@ impl Narrow {
 
     /// So many puts failed, and these bytes were taken.
     pub fn expect(&self, rt: &impl Abort, failures: u64, taken: &[u8]) {
-        expect_eq(rt, &(self.failed, self.taken.bytes()), &(failures, taken));
+        expect_eq(rt, (self.failed, self.taken.bytes()), (failures, taken));
     }
 }
 

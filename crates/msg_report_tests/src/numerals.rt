@@ -1,7 +1,6 @@
 // Numbers in decimal: of each length up to the greatest, and the least.
-use crate::equal::expect_eq;
+use crate::equal::{Have, expect_eq};
 use msg_text::numerals::{add_number, add_value};
-use std::panic::Expect;
 
 const NUMBERS: [(u64, &str); 9] = [
     (0, "0"),
@@ -26,18 +25,22 @@ const VALUES: [(i64, &str); 6] = [
 
 #[test]
 fn numbers(rt: HostRuntime) {
+    let rt = &rt;
     for (number, want) in &NUMBERS {
         let mut text = Vec::new(rt.alloc());
-        add_number(&mut text, *number).expect(&rt, "memory");
-        expect_eq(&rt, &text.as_slice(), &want.as_bytes());
+        add_number(&mut text, *number).have(rt);
+        expect_eq(rt, text.as_slice(), want.as_bytes());
+        drop(text);
     }
 }
 
 #[test]
 fn values(rt: HostRuntime) {
+    let rt = &rt;
     for (value, want) in &VALUES {
         let mut text = Vec::new(rt.alloc());
-        add_value(&mut text, *value).expect(&rt, "memory");
-        expect_eq(&rt, &text.as_slice(), &want.as_bytes());
+        add_value(&mut text, *value).have(rt);
+        expect_eq(rt, text.as_slice(), want.as_bytes());
+        drop(text);
     }
 }

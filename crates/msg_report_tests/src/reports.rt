@@ -2,13 +2,12 @@
 ghost use Rattle.std.specs.Prelude.{◌≤◌};
 ghost use Rattle.msg_scenario_data.specs.Prelude.{IsRunnable};
 
-use crate::equal::expect_eq;
+use crate::equal::{Have, expect_eq};
 use crate::narrow::Narrow;
 use crate::scenario_files::accepted;
 use crate::sparing::{sparing_engine, sparing_systems, workers};
 use msg_exec::{Gate, NoGate, RunFault, Workers};
 use msg_scenario::{MemorySink, ReportFault, Scenario, Sink, report, run_scenario};
-use std::panic::Expect;
 use std::process::Abort;
 use std::sync::atomic::{AtomicU64, Ordering};
 use std::thread::Threads;
@@ -49,7 +48,7 @@ const WHOLE: &str = "\
 
 /// What the report by an engine came to, each of whose systems has memory for `runs` runs; how many
 /// frames that engine counts then, and whether it is spoiled.
-fn report_by_engine<R: Threads + Sync + Abort + AllocGlobal, S: Sink, G: Gate>(
+pub fn report_by_engine<R: Threads + Sync + Abort + AllocGlobal, S: Sink, G: Gate>(
     rt: &R,
     scenario: &Scenario,
     workers: Workers,
@@ -59,9 +58,11 @@ fn report_by_engine<R: Threads + Sync + Abort + AllocGlobal, S: Sink, G: Gate>(
 ) -> (Result<(), ReportFault>, (u32, bool))
     requires runnable { IsRunnable scenario.now }
 {
-    let mut engine = sparing_engine(rt.alloc(), scenario, runs).expect(rt, "an engine");
+    let mut engine = sparing_engine(rt.alloc(), scenario, runs).have(rt);
     let put = report(rt, &mut engine, scenario, workers, gate, sink);
-    (put, (engine.frames_run(), engine.world().is_none()))
+    let told = (engine.frames_run(), engine.world().is_none());
+    drop(engine);
+    (put, told)
 }
 
 /// What the report by systems came to, each of which has memory for `runs` runs.
@@ -75,9 +76,9 @@ fn report_by_systems<R: Threads + Sync + Abort + AllocGlobal, S: Sink, G: Gate>(
 ) -> Result<(), ReportFault>
     requires runnable { IsRunnable scenario.now }
 {
-    let systems = sparing_systems(rt.alloc(), scenario, runs).expect(rt, "systems");
+    let systems = sparing_systems(rt.alloc(), scenario, runs).have(rt);
     let put = run_scenario(rt, scenario, systems, workers, gate, sink);
-    put.expect(rt, "an engine")
+    put.have(rt)
 }
 
 /// A scenario file, the number of workers, for how many runs each system has memory, and whether
@@ -99,12 +100,15 @@ fn report_of<R: Threads + Sync + Abort + AllocGlobal, S: Sink, G: Gate>(
 ) -> (Result<(), ReportFault>, Option<(u32, bool)>) {
     let scenario = accepted(rt, asked.file);
     let workers = workers(rt, asked.on);
-    if asked.of_engine {
+    let came = if asked.of_engine {
         let (put, engine) = report_by_engine(rt, &scenario, workers, asked.runs, gate, sink);
-        return (put, Some(engine));
-    }
-    let put = report_by_systems(rt, &scenario, workers, asked.runs, gate, sink);
-    (put, None)
+        (put, Some(engine))
+    } else {
+        let put = report_by_systems(rt, &scenario, workers, asked.runs, gate, sink);
+        (put, None)
+    };
+    drop(scenario);
+    came
 }
 
 /// The report of `LAG` on one worker.
@@ -121,15 +125,17 @@ fn lag(of_engine: bool) -> Asked {
 fn expect_taken<R: Threads + Sync + Abort + AllocGlobal>(rt: &R, at_once: usize, of_engine: bool) {
     let mut sink = Narrow::new(at_once, 155, false);
     let (put, _) = report_of(rt, lag(of_engine), &NoGate, &mut sink);
-    expect_eq(rt, &(at_once, put), &(at_once, Ok(())));
+    expect_eq(rt, (at_once, put), (at_once, Ok(())));
     sink.expect(rt, 0, LAG_REPORT.as_bytes());
+    drop(sink);
 }
 
 #[test]
 fn sinks_that_take_little(rt: HostRuntime) {
-    expect_taken(&rt, 1, true);
-    expect_taken(&rt, 7, true);
-    expect_taken(&rt, 1, false);
+    let rt = &rt;
+    expect_taken(rt, 1, true);
+    expect_taken(rt, 7, true);
+    expect_taken(rt, 1, false);
 }
 
 /// A sink that fails after `left` bytes of the 155 has just these. Gives what is told of the engine.
@@ -142,28 +148,31 @@ fn expect_cut<R: Threads + Sync + Abort + AllocGlobal>(
 {
     let mut sink = Narrow::new(1000, left, left % 2 == 0);
     let (put, engine) = report_of(rt, lag(of_engine), &NoGate, &mut sink);
-    expect_eq(rt, &(left, put), &(left, Err(ReportFault::Write)));
+    expect_eq(rt, (left, put), (left, Err(ReportFault::Write)));
     sink.expect(rt, 1, &LAG_REPORT.as_bytes()[..left]);
+    drop(sink);
     engine
 }
 
 /// The first frame has 50 bytes, and if they weren't taken the second frame wasn't run.
 #[test]
 fn sinks_that_fail(rt: HostRuntime) {
+    let rt = &rt;
     for left in 0..=154 {
         let frames = if left <= 49 { 1 } else { 2 };
-        let engine = expect_cut(&rt, left, true);
-        expect_eq(&rt, &(left, engine), &(left, Some((frames, false))));
-        expect_cut(&rt, left, false);
+        let engine = expect_cut(rt, left, true);
+        expect_eq(rt, (left, engine), (left, Some((frames, false))));
+        expect_cut(rt, left, false);
     }
 }
 
 #[test]
 fn a_sink_of_nine_bytes(rt: HostRuntime) {
+    let rt = &rt;
     let mut sink = Narrow::new(9, 9, false);
-    let came = report_of(&rt, lag(true), &NoGate, &mut sink);
-    expect_eq(&rt, &came, &(Err(ReportFault::Write), Some((1, false))));
-    sink.expect(&rt, 1, b"frame 1\nr".as_slice());
+    let came = report_of(rt, lag(true), &NoGate, &mut sink);
+    expect_eq(rt, came, (Err(ReportFault::Write), Some((1, false))));
+    sink.expect(rt, 1, b"frame 1\nr".as_slice());
 }
 
 /// The report of the two readers on two workers.
@@ -188,16 +197,18 @@ fn expect_spoiled<R: Threads + Sync + Abort + AllocGlobal>(
     let mut sink = MemorySink::new();
     let came = report_of(rt, two_readers(runs, of_engine), &NoGate, &mut sink);
     let fault = ReportFault::Run(RunFault::NoMemory);
-    expect_eq(rt, &came, &(Err(fault), engine));
-    expect_eq(rt, &(runs, sink.bytes()), &(runs, text.as_bytes()));
+    expect_eq(rt, came, (Err(fault), engine));
+    expect_eq(rt, (runs, sink.bytes()), (runs, text.as_bytes()));
+    drop(sink);
 }
 
 #[test]
 fn systems_without_memory(rt: HostRuntime) {
-    expect_spoiled(&rt, 0, true, Some((0, true)), "");
-    expect_spoiled(&rt, 0, false, None, "");
-    expect_spoiled(&rt, 1, true, Some((1, true)), FIRST_FRAME);
-    expect_spoiled(&rt, 1, false, None, FIRST_FRAME);
+    let rt = &rt;
+    expect_spoiled(rt, 0, true, Some((0, true)), "");
+    expect_spoiled(rt, 0, false, None, "");
+    expect_spoiled(rt, 1, true, Some((1, true)), FIRST_FRAME);
+    expect_spoiled(rt, 1, false, None, FIRST_FRAME);
 }
 
 /// Holds system 0 until it was called for another.
@@ -230,15 +241,18 @@ fn expect_side_by_side<R: Threads + Sync + Abort + AllocGlobal>(rt: &R, of_engin
     };
     let mut sink = MemorySink::new();
     let (put, _) = report_of(rt, two_readers(2, of_engine), &gate, &mut sink);
-    expect_eq(rt, &put, &Ok(()));
+    expect_eq(rt, put, Ok(()));
     let came = gate.came.load(Ordering::SeqCst);
     let limits_met = gate.limits_met.load(Ordering::SeqCst);
-    expect_eq(rt, &(came, limits_met), &(2, 0));
-    expect_eq(rt, &sink.bytes(), &WHOLE.as_bytes());
+    expect_eq(rt, (came, limits_met), (2, 0));
+    expect_eq(rt, sink.bytes(), WHOLE.as_bytes());
+    drop(sink);
+    drop(gate);
 }
 
 #[test]
 fn readers_run_side_by_side(rt: HostRuntime) {
-    expect_side_by_side(&rt, true);
-    expect_side_by_side(&rt, false);
+    let rt = &rt;
+    expect_side_by_side(rt, true);
+    expect_side_by_side(rt, false);
 }

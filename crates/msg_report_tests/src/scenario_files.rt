@@ -1,20 +1,16 @@
 // What a scenario file denotes, and which are refused.
 ghost use Rattle.msg_scenario_data.specs.Prelude.{IsRunnable};
 
-use crate::equal::expect_eq;
+use crate::equal::{Have, expect_eq};
 use crate::texts::{expect_refusal, long_file, nested, wanted};
 use msg_scenario::{Refusal, Scenario, read_scenario};
-use std::panic::Expect;
 use std::process::Abort;
 
 /// The scenario of a text that is accepted.
 pub fn accepted(rt: &(impl Abort + AllocGlobal), text: &str) -> Scenario
     ensures runnable { IsRunnable result }
 {
-    match read_scenario(rt.alloc(), text.as_bytes()) {
-        Ok(scenario) => scenario,
-        Err(refusal) => panic!(rt; "{text}: {refusal:?}"),
-    }
+    read_scenario(rt.alloc(), text.as_bytes()).have(rt)
 }
 
 /// The text itself if it is a file; of systems alone, a file with them and the type `hit`.
@@ -24,7 +20,7 @@ fn whole(rt: &(impl Abort + AllocGlobal), text: &str) -> String {
     } else {
         text.to_string(rt.alloc())
     };
-    file.expect(rt, "memory")
+    file.have(rt)
 }
 
 /// Files, or their systems, each behind the refusal that it gets.
@@ -92,14 +88,16 @@ const REFUSED: [&str; 59] = [
 
 #[test]
 fn refused_files(rt: HostRuntime) {
+    let rt = &rt;
     for row in &REFUSED {
-        let (want, text) = wanted(&rt, row);
-        let text = whole(&rt, text);
+        let (want, text) = wanted(rt, row);
+        let text = whole(rt, text);
         let refused = read_scenario(rt.alloc(), text.as_bytes()).err();
-        expect_refusal(&rt, refused, want, row);
+        drop(text);
+        expect_refusal(rt, refused, want, row);
     }
     let no_text = read_scenario(rt.alloc(), b"\xff").err();
-    expect_eq(&rt, &no_text, &Some(Refusal::NotJson));
+    expect_eq(rt, no_text, Some(Refusal::NotJson));
 }
 
 /// Files with a long list, each behind how it is refused, the list's length and its item: the
@@ -128,18 +126,22 @@ const LONG: [&str; 19] = [
 
 #[test]
 fn long_files(rt: HostRuntime) {
+    let rt = &rt;
     for row in &LONG {
-        let (want, text) = long_file(&rt, row);
-        let text = whole(&rt, text.as_str());
-        let refused = read_scenario(rt.alloc(), text.as_bytes()).err();
-        expect_refusal(&rt, refused, want, row);
+        let (want, text) = long_file(rt, row);
+        let file = whole(rt, text.as_str());
+        drop(text);
+        let refused = read_scenario(rt.alloc(), file.as_bytes()).err();
+        drop(file);
+        expect_refusal(rt, refused, want, row);
     }
 }
 
 /// How a file is refused.
-fn expect_refused(rt: &(impl Abort + AllocGlobal), file: &str, want: &str) {
+fn expect_refused(rt: &(impl Abort + AllocGlobal), file: String, want: &str) {
     let refused = read_scenario(rt.alloc(), file.as_bytes()).err();
-    expect_refusal(rt, refused, want, file);
+    expect_refusal(rt, refused, want, file.as_str());
+    drop(file);
 }
 
 /// A file whose condition has so many `not`s around `probe`.
@@ -148,40 +150,50 @@ fn with_nots(rt: &(impl Abort + AllocGlobal), nots: usize, probe: &str) -> Strin
     let file = format!(in rt.alloc();
         r#"{{"types":[],"systems":[{{"name":"a","ops":[],"if":[{condition}]}}],"frames":[]}}"#
     );
-    file.expect(rt, "memory")
+    drop(condition);
+    file.have(rt)
 }
 
 /// Sixteen `not`s are read, and seventeen are too many. A list as deep is no scenario.
 #[test]
 fn deep_files(rt: HostRuntime) {
+    let rt = &rt;
     let (asks, equals) = (r#"["on_message","hat"]"#, r#"["resource_equals","k",1]"#);
-    expect_refused(&rt, with_nots(&rt, 16, asks).as_str(), "UnknownName");
-    expect_refused(&rt, with_nots(&rt, 17, asks).as_str(), "TooMany");
-    expect_refused(&rt, with_nots(&rt, 17, equals).as_str(), "TooMany");
-    expect_refused(&rt, nested(&rt, "[", 100, "", "]").as_str(), "Shape");
+    expect_refused(rt, with_nots(rt, 16, asks), "UnknownName");
+    expect_refused(rt, with_nots(rt, 17, asks), "TooMany");
+    expect_refused(rt, with_nots(rt, 17, equals), "TooMany");
+    expect_refused(rt, nested(rt, "[", 100, "", "]"), "Shape");
+}
+
+/// The one item of a list.
+fn only<T>(items: &[T]) -> Option<&T> {
+    match items {
+        [item] => Some(item),
+        _ => None,
+    }
 }
 
 #[test]
 fn longest_names(rt: HostRuntime) {
+    let rt = &rt;
     let text =
         r#"{"types":[["aaaaaaaaaaaaaaaaaaaaaaaaaaaaaaaa",1000000]],"systems":[],"frames":[]}"#;
-    let scenario = accepted(&rt, text);
-    let [(name, limit)] = scenario.types.as_slice() else {
-        panic!(rt; "one type is declared");
-    };
+    let scenario = accepted(rt, text);
+    let (name, limit) = only(scenario.types.as_slice()).have(rt);
     let longest = ("aaaaaaaaaaaaaaaaaaaaaaaaaaaaaaaa", 1_000_000);
-    expect_eq(&rt, &(name.as_str(), *limit), &longest);
+    expect_eq(rt, (name.as_str(), *limit), longest);
+    drop(scenario);
 }
 
 #[test]
 fn one_name_of_a_type_and_a_resource(rt: HostRuntime) {
+    let rt = &rt;
     let text = r#"{"types":[["hit",1]],"resources":[["hit",-5]],"systems":[],"frames":[[],[]]}"#;
-    let scenario = accepted(&rt, text);
-    let [(_, value)] = scenario.resources.as_slice() else {
-        panic!(rt; "one resource is declared");
-    };
+    let scenario = accepted(rt, text);
+    let (_, value) = only(scenario.resources.as_slice()).have(rt);
     let frames = scenario.frames.as_slice().len();
-    expect_eq(&rt, &(*value, frames, scenario.held), &(-5, 2, false));
+    expect_eq(rt, (*value, frames, scenario.held), (-5, 2, false));
+    drop(scenario);
 }
 
 /// A file with every op and every key.
@@ -193,18 +205,21 @@ const EVERY_SHOWN: &str =
 
 #[test]
 fn every_op_and_key(rt: HostRuntime) {
-    let scenario = accepted(&rt, EVERY);
-    let shown = format!(in rt.alloc(); "{scenario:?}");
-    expect_eq(&rt, &shown.expect(&rt, "memory").as_str(), &EVERY_SHOWN);
+    let rt = &rt;
+    let scenario = accepted(rt, EVERY);
+    let shown = format!(in rt.alloc(); "{scenario:?}").have(rt);
+    drop(scenario);
+    expect_eq(rt, shown.as_str(), EVERY_SHOWN);
+    drop(shown);
 }
 
 #[test]
 fn cut_files(rt: HostRuntime) {
     let whole =
-        br#"{"types":[["hit",10]],"systems":[{"name":"r","ops":[["read","hit"]]},{"name":"w","ops":[["write","hit",5]]}],"rules":[["r","w"]],"frames":[[],[]]}"#;
-    assert!(rt; read_scenario(rt.alloc(), whole).is_ok());
+        r#"{"types":[["hit",10]],"systems":[{"name":"r","ops":[["read","hit"]]},{"name":"w","ops":[["write","hit",5]]}],"rules":[["r","w"]],"frames":[[],[]]}"#;
+    drop(accepted(&rt, whole));
     for n in 0..whole.len() {
-        let cut = read_scenario(rt.alloc(), &whole[..n]).err();
-        expect_eq(&rt, &(n, cut), &(n, Some(Refusal::NotJson)));
+        let cut = read_scenario(rt.alloc(), &whole.as_bytes()[..n]).err();
+        expect_eq(&rt, (n, cut), (n, Some(Refusal::NotJson)));
     }
 }

@@ -5,6 +5,7 @@ ghost use Rattle.msg_exec.specs.Prelude.{EachIs, EngineStands};
 ghost use Rattle.msg_reports.specs.Prelude.{IsSystemAt};
 ghost use Rattle.msg_scenario_data.specs.Prelude.{IsRunnable, state_of};
 
+use crate::equal::Have;
 use msg_exec::{EngineOf, Workers};
 use msg_scenario::{Scenario, SystemSpec, add_system, engine_of};
 use msg_system::{Access, NoMemory, Reply, Scripted, Start, SystemOf};
@@ -13,10 +14,7 @@ use std::alloc::Global;
 use std::process::Abort;
 
 pub fn workers(rt: &impl Abort, number: u32) -> Workers {
-    match Workers::new(number) {
-        Some(workers) => workers,
-        None => panic!(rt; "from 1 to 64 workers"),
-    }
+    Workers::new(number).have(rt)
 }
 
 /// A script that has memory for `runs` more runs.

@@ -1,15 +1,11 @@
 // Rows of tables of files, and texts made of pieces.
-use crate::equal::expect_eq;
+use crate::equal::{Have, expect_eq};
 use msg_scenario::Refusal;
-use std::panic::Expect;
 use std::process::Abort;
 
 /// What stands before the first blank of a row, and what stands after it.
 pub fn wanted<'a>(rt: &impl Abort, row: &'a str) -> (&'a str, &'a str) {
-    match row.split_once(' ') {
-        Some(parts) => parts,
-        None => panic!(rt; "no blank in {row}"),
-    }
+    row.split_once(' ').have(rt)
 }
 
 /// The refusal that came is `want`, which is `Ok` if the file has to be accepted. A failure
@@ -24,13 +20,14 @@ pub fn expect_refusal(
         Some(refusal) => format!(in rt.alloc(); "{refusal:?}"),
         None => "Ok".to_string(rt.alloc()),
     };
-    let shown = shown.expect(rt, "memory");
-    expect_eq(rt, &(text, shown.as_str()), &(text, want));
+    let shown = shown.have(rt);
+    expect_eq(rt, (text, shown.as_str()), (text, want));
+    drop(shown);
 }
 
 /// Adds a piece to a text.
 fn push(rt: &impl Abort, text: &mut String, piece: &str) {
-    text.push_str(piece).expect(rt, "memory");
+    text.push_str(piece).have(rt);
 }
 
 /// Of a row `WANT NUMBER ITEM FILE`: WANT, and FILE with NUMBER times ITEM in place of its star,
@@ -39,9 +36,8 @@ pub fn long_file<'a>(rt: &(impl Abort + AllocGlobal), row: &'a str) -> (&'a str,
     let (want, row) = wanted(rt, row);
     let (number, row) = wanted(rt, row);
     let (item, file) = wanted(rt, row);
-    let (Ok(number), Some((front, back))) = (number.parse::<usize>(), file.split_once('*')) else {
-        panic!(rt; "no number or no star in {row}")
-    };
+    let number = number.parse::<usize>().have(rt);
+    let (front, back) = file.split_once('*').have(rt);
     let mut text = String::new(rt.alloc());
     push(rt, &mut text, front);
     push_times(rt, &mut text, item, number);

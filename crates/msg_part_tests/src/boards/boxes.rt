@@ -1,14 +1,11 @@
 // Jobs that hold a boxed object and a shared reference to a number.
-ghost use Rattle.std.specs.Prelude.{◌≡◌, ◌/◌, ◌≤◌, ℕ, length};
+ghost use Rattle.std.specs.Prelude.{◌≡◌, ◌/◌, ℕ};
 
 use super::{Runs, run_jobs};
-use crate::equal::expect_eq;
-use msg_board::{MAX_JOBS, NoMemory, Work};
-use std::alloc::Global;
+use crate::equal::{Have, expect_eq};
+use msg_board::Work;
 use std::marker::PhantomData;
-use std::panic::Expect;
 use std::process::Abort;
-use std::thread::Threads;
 
 trait Tool: Send + Drop {
     ghost gain: { Self → ℕ → ℕ };
@@ -80,38 +77,36 @@ impl<'a, T: Tool> Runs for Tools<'a, T> {
     }
 }
 
-// What each tool gives of the number.
-fn run_tools<R: Threads + Sync, T: Tool>(
-    rt: &R,
-    alloc: Global,
-    base: &u64,
-    tools: Vec<T>,
-) -> Result<Vec<ToolDone<T>>, NoMemory>
-    requires { length tools.items ≤ MAX_JOBS }
-{
-    let mut jobs = Vec::new(alloc);
-    for tool in tools {
-        jobs.push(ToolJob { tool, base })?;
-    }
-    run_jobs::<R, Tools<T>>(rt, alloc, jobs, 2)
+fn boxed<T: Drop>(rt: &(impl Abort + AllocGlobal), tool: T) -> Box<T> {
+    Box::new(rt.alloc(), tool).have(rt)
 }
 
-fn boxed<T: Drop>(rt: &(impl Abort + AllocGlobal), tool: T) -> Box<T> {
-    Box::new(rt.alloc(), tool).expect(rt, "a box")
+/// Adds a job that applies this tool to the number.
+fn add<'a>(
+    rt: &impl Abort,
+    jobs: &mut Vec<ToolJob<'a, Box<dyn Tool>>>,
+    base: &'a u64,
+    tool: Box<dyn Tool>,
+) {
+    jobs.push(ToolJob { tool, base }).have(rt);
 }
+
+/// What the tools give of 20.
+const VALUES: [u64; 3] = [10, 7, 10];
 
 #[test]
 fn boxes_of_two_kinds(rt: HostRuntime) {
-    let tools: Result<Vec<Box<dyn Tool>>, _> = vec![in rt.alloc();
-        boxed(&rt, Half),
-        boxed(&rt, Constant(7)),
-        boxed(&rt, Half),
-    ];
-    let (tools, base) = (tools.expect(&rt, "a list"), 20u64);
-    assert!(rt; tools.len() == 3);
-    let came = run_tools(&rt, rt.alloc(), &base, tools).expect(&rt, "values");
-    expect_eq(&rt, &came.len(), &3);
-    for (done, value) in came.iter().zip([10, 7, 10]) {
-        expect_eq(&rt, &done.value, &value);
+    let rt = &rt;
+    let base = 20;
+    let mut jobs = Vec::new(rt.alloc());
+    add(rt, &mut jobs, &base, boxed(rt, Half));
+    add(rt, &mut jobs, &base, boxed(rt, Constant(7)));
+    add(rt, &mut jobs, &base, boxed(rt, Half));
+    assert!(rt; jobs.len() == 3);
+    let done = run_jobs::<HostRuntime, Tools<Box<dyn Tool>>>(rt, rt.alloc(), jobs, 2).have(rt);
+    expect_eq(rt, done.len(), 3);
+    for (done, value) in done.iter().zip(&VALUES) {
+        expect_eq(rt, done.value, *value);
     }
+    drop(done);
 }

@@ -4,11 +4,10 @@ ghost use Rattle.msg_board.specs.Prelude.{HasEnded, IsIdle};
 ghost use Rattle.msg_board.specs.Board.{IsNewPass};
 
 use super::{draw_next, draw_none};
-use crate::equal::expect_eq;
+use crate::equal::{Have, expect_eq};
 use crate::outcome::tell;
 use msg_board::{Board, Pass, Work};
 use std::alloc::{AllocError, Global};
-use std::panic::Expect;
 use std::process::Abort;
 use std::sync::atomic::{AtomicU64, Ordering};
 use std::test::Fail;
@@ -54,8 +53,8 @@ fn three_jobs<'a>(alloc: Global, dropped: &'a AtomicU64) -> Result<Vec<Counted<'
 fn finish<'a>(rt: &impl Abort, job: Counted<'a>, value: u64, dropped: &'a AtomicU64) -> Counted<'a>
     ensures { result.value ≡ job.entry.value + 1 }
 {
-    assert_eq!(rt; job.value, value);
-    assert!(rt; value < 100);
+    assert!(rt; job.value == value && value < 100);
+    drop(job);
     Counted {
         value: value + 1,
         dropped,
@@ -64,11 +63,9 @@ fn finish<'a>(rt: &impl Abort, job: Counted<'a>, value: u64, dropped: &'a Atomic
 
 /// What the three jobs came to.
 fn expect_successors(rt: &impl Abort, results: &[Counted]) {
-    let [first, second, third] = results else {
-        panic!(rt; "three results")
-    };
-    let values = (first.value, second.value, third.value);
-    expect_eq(rt, &values, &(11, 21, 31));
+    assert!(rt; results.len() == 3);
+    let values = (results[0].value, results[1].value, results[2].value);
+    expect_eq(rt, values, (11, 21, 31));
 }
 
 /// Draws the three jobs by two passes, hands in their successors, and ends both passes.
@@ -106,16 +103,16 @@ fn work_off_both<'a>(
     ensures two { length passes.new.items ≡ 2 }
     ensures ended { All (HasEnded board.now) passes.new.items }
 {
-    let mut b = passes.pop().expect(rt, "a pass");
-    let mut a = passes.pop().expect(rt, "a pass");
+    let mut b = passes.pop().have(rt);
+    let mut a = passes.pop().have(rt);
     work_off(rt, board, &mut a, &mut b, dropped);
-    passes.push(a).expect(rt, "a list");
-    passes.push(b).expect(rt, "a list");
+    passes.push(a).have(rt);
+    passes.push(b).have(rt);
 }
 
 /// So many jobs, or results, were dropped.
 fn expect_dropped(rt: &impl Abort, dropped: &AtomicU64, number: u64) {
-    expect_eq(rt, &dropped.load(Ordering::SeqCst), &number);
+    expect_eq(rt, dropped.load(Ordering::SeqCst), number);
 }
 
 /// Works off a board of these three jobs, and says whether there was no memory for the board or for
@@ -140,13 +137,15 @@ fn is_refused<'a>(
         return true;
     };
     expect_successors(rt, results.as_slice());
+    drop(results);
     false
 }
 
 #[test]
 fn worked_board(rt: HostRuntime) -> Result<(), Fail> {
+    let rt = &rt;
     let (jobs_dropped, results_dropped) = (AtomicU64::new(0), AtomicU64::new(0));
     let jobs = three_jobs(rt.alloc(), &jobs_dropped)?;
-    let is_refused = is_refused(&rt, rt.alloc(), jobs, &jobs_dropped, &results_dropped);
-    tell(&rt, is_refused)
+    let is_refused = is_refused(rt, rt.alloc(), jobs, &jobs_dropped, &results_dropped);
+    tell(rt, is_refused)
 }

@@ -1,19 +1,18 @@
 // What a refused write, batch or drain leaves: the buffer and its cursor as they were, and what was
 // passed is handed back. A call that was refused memory is made again, and then there is memory.
-use crate::equal::expect_eq;
+use crate::equal::{Have, expect_eq};
 use crate::outcome::tell;
 use msg_buffer::{
     BatchRefusal, Instance, MessageCursor, MessageId, Messages, WriteRefusal, Written,
 };
 use std::alloc::Global;
 use std::io::Print;
-use std::panic::Expect;
 use std::process::Abort;
 use std::test::Fail;
 
 /// A buffer and a cursor as their callers see them: what is kept under the numbers 0 to 9, what is
 /// current, and what the cursor tells.
-#[derive(Clone, Copy, Debug, PartialEq, Eq)]
+#[derive(Clone, Copy, PartialEq, Eq)]
 struct Seen {
     count: u64,
     oldest: u64,
@@ -54,7 +53,7 @@ impl Tried {
 
     /// All is as it was seen before.
     fn expect_seen(&self, rt: &impl Abort, before: &Seen) {
-        expect_eq(rt, &self.look_at(), before);
+        assert!(rt; self.look_at() == *before);
     }
 
     /// Writes a message. None if no number is left.
@@ -65,7 +64,7 @@ impl Tried {
             Err(WriteRefusal::NumbersSpent(back)) => (back, true),
             Err(WriteRefusal::NoMemory(back)) => (back, false),
         };
-        expect_eq(rt, &back, &value);
+        expect_eq(rt, back, value);
         self.expect_seen(rt, &before);
         if is_spent {
             return None;
@@ -77,7 +76,7 @@ impl Tried {
     /// Writes messages, which get these numbers and have these values.
     fn expect_written(&mut self, rt: &impl Abort, want: &[(u64, i64)]) {
         for (number, value) in want {
-            expect_eq(rt, &self.write(rt, *value), &Some(MessageId(*number)));
+            expect_eq(rt, self.write(rt, *value), Some(MessageId(*number)));
         }
     }
 
@@ -87,12 +86,12 @@ impl Tried {
         let (before, capacity) = (self.look_at(), batch.capacity());
         let (back, is_spent) = match self.buffer.write_batch(batch) {
             Ok(written) => return Some(written),
-            Err(BatchRefusal::NumbersSpent(back)) => (back, true),
-            Err(BatchRefusal::NoMemory(back)) => (back, false),
+            Err(refusal) => handed_back(refusal),
         };
-        expect_eq(rt, &(back.as_slice(), back.capacity()), &(values, capacity));
+        expect_eq(rt, (back.as_slice(), back.capacity()), (values, capacity));
         self.expect_seen(rt, &before);
         if is_spent {
+            drop(back);
             return None;
         }
         self.is_refused = true;
@@ -107,16 +106,17 @@ impl Tried {
         }
         self.expect_seen(rt, &before);
         self.is_refused = true;
-        self.buffer.drain().expect(rt, "there is memory now")
+        self.buffer.drain().have(rt)
     }
 
     /// Takes out all messages, which have these numbers and values.
     fn expect_drained(&mut self, rt: &impl Abort, want: &[(u64, i64)]) {
         let drained = self.drain(rt);
-        expect_eq(rt, &drained.len(), &want.len());
+        expect_eq(rt, drained.len(), want.len());
         for (instance, item) in drained.iter().zip(want) {
             expect_message(rt, instance.id, instance.message, item);
         }
+        drop(drained);
     }
 
     /// Reads the next messages, which have these numbers and values.
@@ -127,7 +127,7 @@ impl Tried {
     /// Reads all messages that are left, which have these numbers and values.
     fn expect_rest(&mut self, rt: &impl Abort, want: &[(u64, i64)]) {
         self.expect_read(rt, want);
-        expect_eq(rt, &self.cursor.is_empty(&self.buffer), &true);
+        expect_eq(rt, self.cursor.is_empty(&self.buffer), true);
     }
 
     /// Whether a call was refused.
@@ -135,6 +135,14 @@ impl Tried {
         let is_refused = self.is_refused;
         drop(self);
         tell(rt, is_refused)
+    }
+}
+
+/// The batch, and whether it was refused since too few numbers are left.
+fn handed_back(refusal: BatchRefusal<i64>) -> (Vec<i64>, bool) {
+    match refusal {
+        BatchRefusal::NumbersSpent(back) => (back, true),
+        BatchRefusal::NoMemory(back) => (back, false),
     }
 }
 
@@ -147,60 +155,64 @@ fn expect_next(
 ) {
     let mut unread = cursor.read(buffer);
     for item in want {
-        let (id, value) = unread.next().expect(rt, "a message");
+        let (id, value) = unread.next().have(rt);
         expect_message(rt, id, *value, item);
     }
 }
 
 /// A message has this number and this value.
 fn expect_message(rt: &impl Abort, id: MessageId, value: i64, want: &(u64, i64)) {
-    expect_eq(rt, &(id.0, value), want);
+    expect_eq(rt, (id.0, value), *want);
 }
 
 #[test]
 fn items_left_unread(rt: HostRuntime) -> Result<(), Fail> {
+    let rt = &rt;
     let values = [1, 2, 3, 4, 5];
     let batch = Vec::from_slice(rt.alloc(), &values)?;
     let mut tried = Tried::new(rt.alloc(), 10);
-    let written = tried.write_batch(&rt, batch, &values);
-    expect_eq(&rt, &written, &Some(Written { first: 0, n: 5 }));
-    tried.expect_read(&rt, &[(0, 1), (1, 2)]);
+    let written = tried.write_batch(rt, batch, &values);
+    expect_eq(rt, written, Some(Written { first: 0, n: 5 }));
+    tried.expect_read(rt, &[(0, 1), (1, 2)]);
     tried.buffer.update();
-    tried.expect_rest(&rt, &[(2, 3), (3, 4), (4, 5)]);
-    tried.tell(&rt)
+    tried.expect_rest(rt, &[(2, 3), (3, 4), (4, 5)]);
+    tried.tell(rt)
 }
 
 #[test]
 fn last_number(rt: HostRuntime) -> Result<(), Fail> {
+    let rt = &rt;
     let batch = Vec::from_slice(rt.alloc(), &[1, 2, 3])?;
     let mut tried = Tried::new(rt.alloc(), 2);
-    expect_eq(&rt, &tried.write_batch(&rt, batch, &[1, 2, 3]), &None);
-    tried.expect_written(&rt, &[(0, 4), (1, 5)]);
-    expect_eq(&rt, &tried.write(&rt, 6), &None);
-    let written = tried.write_batch(&rt, Vec::new(rt.alloc()), &[]);
-    expect_eq(&rt, &written, &Some(Written { first: 2, n: 0 }));
-    expect_eq(&rt, &tried.buffer.get(MessageId(u64::MAX)), &None);
-    tried.expect_rest(&rt, &[(0, 4), (1, 5)]);
-    tried.tell(&rt)
+    expect_eq(rt, tried.write_batch(rt, batch, &[1, 2, 3]), None);
+    tried.expect_written(rt, &[(0, 4), (1, 5)]);
+    expect_eq(rt, tried.write(rt, 6), None);
+    let written = tried.write_batch(rt, Vec::new(rt.alloc()), &[]);
+    expect_eq(rt, written, Some(Written { first: 2, n: 0 }));
+    expect_eq(rt, tried.buffer.get(MessageId(u64::MAX)), None);
+    tried.expect_rest(rt, &[(0, 4), (1, 5)]);
+    tried.tell(rt)
 }
 
 #[test]
 fn drain_both_halves(rt: HostRuntime) -> Result<(), Fail> {
+    let rt = &rt;
     let mut tried = Tried::new(rt.alloc(), 10);
-    tried.expect_written(&rt, &[(0, 1)]);
+    tried.expect_written(rt, &[(0, 1)]);
     tried.buffer.update();
-    tried.expect_written(&rt, &[(1, 2)]);
-    tried.expect_drained(&rt, &[(0, 1), (1, 2)]);
-    expect_eq(&rt, &tried.cursor.missed(&tried.buffer), &2);
-    tried.expect_read(&rt, &[]);
-    tried.expect_written(&rt, &[(2, 3)]);
-    tried.expect_read(&rt, &[(2, 3)]);
-    tried.tell(&rt)
+    tried.expect_written(rt, &[(1, 2)]);
+    tried.expect_drained(rt, &[(0, 1), (1, 2)]);
+    expect_eq(rt, tried.cursor.missed(&tried.buffer), 2);
+    tried.expect_read(rt, &[]);
+    tried.expect_written(rt, &[(2, 3)]);
+    tried.expect_read(rt, &[(2, 3)]);
+    tried.tell(rt)
 }
 
 /// Both halves have no room left, so one of them has to grow if they are drained together.
 #[test]
 fn drain_full_halves(rt: HostRuntime) -> Result<(), Fail> {
+    let rt = &rt;
     let mut tried = Tried::new(rt.alloc(), 10);
     let want = [
         (0, 10),
@@ -212,11 +224,11 @@ fn drain_full_halves(rt: HostRuntime) -> Result<(), Fail> {
         (6, 16),
         (7, 17),
     ];
-    tried.expect_written(&rt, &want[..4]);
+    tried.expect_written(rt, &want[..4]);
     tried.buffer.update();
-    tried.expect_written(&rt, &want[4..]);
-    tried.expect_drained(&rt, &want);
+    tried.expect_written(rt, &want[4..]);
+    tried.expect_drained(rt, &want);
     let missed = tried.cursor.missed(&tried.buffer);
-    expect_eq(&rt, &(tried.buffer.is_empty(), missed), &(true, 8));
-    tried.tell(&rt)
+    expect_eq(rt, (tried.buffer.is_empty(), missed), (true, 8));
+    tried.tell(rt)
 }

@@ -1,9 +1,8 @@
 // If there is no memory for a plan there is none, and the same call gives it once memory is
 // there.
-use super::{CONTRADICTORY, contradictory_plan, has_batches};
+use super::{CONTRADICTORY, contradictory_plan, cycle_in, has_batches};
 use crate::equal::expect_eq;
 use crate::outcome::tell;
-use msg_order::PlanRefusal;
 use std::alloc::Global;
 use std::process::Abort;
 use std::test::Fail;
@@ -12,20 +11,23 @@ use std::test::Fail;
 fn is_refused(rt: &impl Abort, alloc: Global) -> bool {
     match contradictory_plan(alloc) {
         Ok(plan) => {
-            expect_eq(rt, &has_batches(&plan, &CONTRADICTORY), &true);
+            expect_eq(rt, has_batches(&plan, &CONTRADICTORY), true);
             drop(plan);
             false
         }
-        Err(PlanRefusal::NoMemory) => true,
-        Err(PlanRefusal::Cycle(_)) => panic!(rt; "the rules make no cycle"),
+        Err(refusal) => {
+            expect_eq(rt, cycle_in(refusal), None);
+            true
+        }
     }
 }
 
 #[test]
 fn contradictory_order(rt: HostRuntime) -> Result<(), Fail> {
-    let is_first_refused = is_refused(&rt, rt.alloc());
+    let rt = &rt;
+    let is_first_refused = is_refused(rt, rt.alloc());
     if is_first_refused {
-        expect_eq(&rt, &is_refused(&rt, rt.alloc()), &false);
+        expect_eq(rt, is_refused(rt, rt.alloc()), false);
     }
-    tell(&rt, is_first_refused)
+    tell(rt, is_first_refused)
 }

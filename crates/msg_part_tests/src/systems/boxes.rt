@@ -1,16 +1,16 @@
 // Boxed systems of the three kinds, each run on a loan of its own.
 ghost use Rattle.std.specs.Prelude.{◌≤◌, length};
 
-use crate::equal::expect_eq;
+use crate::equal::{Have, expect_eq};
 use crate::numbers::{res_no, type_no};
+use crate::worlds::lend;
 use msg_system::{
     Items, MAX_OPS, Numbered, Op, Program, Relay, Reply, Scripted, Start, System, Tally,
     open_loans_cover,
 };
-use msg_world::laws::{lent_parts_are_a_loan, lent_parts_may_come_home};
+use msg_world::laws::lent_parts_may_come_home;
 use msg_world::{Lent, TypeNo, World};
 use std::alloc::Global;
-use std::panic::Expect;
 use std::process::Abort;
 
 /// A script of these ops.
@@ -33,12 +33,10 @@ fn run_once<S: System>(
     out: &mut Vec<Reply>,
 ) {
     let access = system.access();
-    assert!(rt; world.is_home(&access));
-    lent_parts_are_a_loan::<i64>();
-    let taken = world.lend_out(&access).expect(rt, "a loan");
+    let taken = lend(rt, world, &access);
     let lent = Lent::open(world, &access, taken);
     open_loans_cover::<i64>();
-    let taken = system.run(alloc, lent, out).expect(rt, "a run");
+    let taken = system.run(alloc, lent, out).have(rt);
     lent_parts_may_come_home::<i64>();
     world.take_back(taken);
 }
@@ -56,7 +54,7 @@ const REPLIES: &str = "[Wrote(Written { first: 0, n: 1 }), Wrote(Written { first
 /// A script that writes two messages.
 fn writer(rt: &(impl Abort + AllocGlobal), t: TypeNo) -> Scripted {
     let ops = vec![in rt.alloc(); Op::Write(t, 5), Op::Write(t, 6)];
-    script(ops.expect(rt, "ops"))
+    script(ops.have(rt))
 }
 
 /// The system of number 4, which drains what it wrote, and then nothing.
@@ -67,54 +65,52 @@ fn drain(rt: &(impl Abort + AllocGlobal), t: TypeNo) -> Scripted {
         Op::Drain(t),
         Op::Drain(t),
     ];
-    let mut drain = script(ops.expect(rt, "ops"));
+    let mut drain = script(ops.have(rt));
     drain.set_number(4);
     drain
 }
 
 fn boxed<S>(rt: &(impl Abort + AllocGlobal), system: S) -> Box<S> {
-    Box::new(rt.alloc(), system).expect(rt, "a box")
+    Box::new(rt.alloc(), system).have(rt)
 }
 
-/// What the systems reply, run one after the other.
-fn replies_of(
-    rt: &(impl Abort + AllocGlobal),
-    world: &mut World,
-    systems: &mut [Box<dyn System>],
-) -> Vec<Reply> {
-    let mut replies = Vec::new(rt.alloc());
-    for system in systems {
-        run_once(rt, rt.alloc(), world, system, &mut replies);
-    }
-    replies
+fn add(rt: &impl Abort, boxes: &mut Vec<Box<dyn System>>, system: Box<dyn System>) {
+    boxes.push(system).have(rt);
 }
 
 /// A writer, a relay, a tally, and one that drains what it wrote.
 #[test]
 fn a_list_of_four_boxes(rt: HostRuntime) {
+    let rt = &rt;
     let (t, u, v, r) = (type_no(0), type_no(1), type_no(2), res_no(0));
-    let boxes: Result<Vec<Box<dyn System>>, _> = vec![in rt.alloc();
-        boxed(&rt, writer(&rt, t)),
-        boxed(&rt, Relay::new(t, u, Start::Zero, 1)),
-        boxed(&rt, Tally::new(u, r, Start::Zero, 2)),
-        boxed(&rt, drain(&rt, v)),
-    ];
-    let mut boxes = boxes.expect(&rt, "a list");
-    let mut world = World::new(rt.alloc(), &[9, 9, 9], &[7]).expect(&rt, "a world");
-    let replies = replies_of(&rt, &mut world, boxes.as_mut_slice());
+    let mut boxes = Vec::new(rt.alloc());
+    add(rt, &mut boxes, boxed(rt, writer(rt, t)));
+    let relay = Relay::new(t, u, Start::Zero, 1);
+    add(rt, &mut boxes, boxed(rt, relay));
+    let tally = Tally::new(u, r, Start::Zero, 2);
+    add(rt, &mut boxes, boxed(rt, tally));
+    add(rt, &mut boxes, boxed(rt, drain(rt, v)));
+    let mut world = World::new(rt.alloc(), &[9, 9, 9], &[7]).have(rt);
+    let mut replies = Vec::new(rt.alloc());
+    for system in boxes.as_mut_slice() {
+        run_once(rt, rt.alloc(), &mut world, system, &mut replies);
+    }
     drop(boxes);
-    let text = format!(in rt.alloc(); "{replies:?}").expect(&rt, "a text");
-    expect_eq(&rt, &text.as_str(), &REPLIES);
-    expect_eq(&rt, &world.resource(r), &Some(18));
+    let text = format!(in rt.alloc(); "{replies:?}").have(rt);
+    drop(replies);
+    expect_eq(rt, text.as_str(), REPLIES);
+    drop(text);
+    expect_eq(rt, world.resource(r), Some(18));
     drop(world);
 }
 
 /// Each op, copied.
 #[test]
 fn copies_of_every_op(rt: HostRuntime) {
+    let rt = &rt;
     let alloc = rt.alloc();
     let (t, u, r) = (type_no(0), type_no(1), res_no(0));
-    let values = Items::from_vec(vec![in alloc; 2, 3].expect(&rt, "values"));
+    let values = Items::from_vec(vec![in alloc; 2, 3].have(rt));
     let ops = [
         Op::Write(t, -5),
         Op::Batch(t, values),
@@ -132,6 +128,9 @@ fn copies_of_every_op(rt: HostRuntime) {
         Op::Signal,
     ];
     for op in &ops {
-        expect_eq(&rt, &op.copy(alloc).expect(&rt, "a copy"), op);
+        let copied = op.copy(alloc).have(rt);
+        expect_eq(rt, &copied, op);
+        drop(copied);
     }
+    drop(ops);
 }

@@ -1,11 +1,10 @@
 // The line and the status of each fault, and the text that it shows itself as.
-use crate::equal::{expect_eq, expect_text};
+use crate::equal::{Have, expect_eq, expect_text};
 use crate::narrow::Narrow;
 use msg_command::{InputFault, MainFault, WordFault, print_fault};
 use msg_json::Refusal;
 use msg_text::{MemorySink, PutFault, ReportFault};
 use msg_world::RunFault;
-use std::panic::Expect;
 use std::process::Abort;
 
 /// The fault prints this line behind the program's name, gives this status, also if nothing can
@@ -19,17 +18,21 @@ fn expect_line(
 ) {
     let mut failing = Narrow::new(0, 0, false);
     let unprinted = print_fault(&fault, &mut failing);
-    expect_eq(rt, &(line, unprinted), &(line, status));
-    let printed = format!(in rt.alloc(); "msgrun: {line}\n").expect(rt, "memory");
+    drop(failing);
+    expect_eq(rt, (line, unprinted), (line, status));
+    let printed = format!(in rt.alloc(); "msgrun: {line}\n").have(rt);
     expect_printed(rt, &fault, printed.as_str(), status);
+    drop(printed);
     expect_text(rt, &fault, text);
+    drop(fault);
 }
 
 /// The fault prints this, and gives this status.
 fn expect_printed(rt: &impl Abort, fault: &MainFault, printed: &str, status: u8) {
     let mut sink = MemorySink::new();
     let came = print_fault(fault, &mut sink);
-    expect_eq(rt, &(came, sink.bytes()), &(status, printed.as_bytes()));
+    expect_eq(rt, (came, sink.bytes()), (status, printed.as_bytes()));
+    drop(sink);
 }
 
 /// A refusal, the line of it, and what its text has behind that.
@@ -48,12 +51,14 @@ const REFUSALS: [(Refusal, &str, &str); 10] = [
 
 #[test]
 fn refused_files(rt: HostRuntime) {
+    let rt = &rt;
     for (refusal, line, behind) in &REFUSALS {
-        let text = format!(in rt.alloc(); "{line}{behind}").expect(&rt, "memory");
-        expect_line(&rt, MainFault::Refused(*refusal), line, 2, text.as_str());
+        let text = format!(in rt.alloc(); "{line}{behind}").have(rt);
+        expect_line(rt, MainFault::Refused(*refusal), line, 2, text.as_str());
+        drop(text);
     }
     let refused = MainFault::Refused(Refusal::NoMemory);
-    expect_line(&rt, refused, "want of memory", 1, "refused 11 NoMemory");
+    expect_line(rt, refused, "want of memory", 1, "refused 11 NoMemory");
 }
 
 fn expect_run_fault(rt: &(impl Abort + AllocGlobal), fault: RunFault, line: &str, text: &str) {
@@ -61,41 +66,68 @@ fn expect_run_fault(rt: &(impl Abort + AllocGlobal), fault: RunFault, line: &str
     expect_line(rt, fault, line, 1, text);
 }
 
+/// The fault's line is its text too.
+fn expect_told(rt: &(impl Abort + AllocGlobal), fault: MainFault, line: &str, status: u8) {
+    expect_line(rt, fault, line, status, line);
+}
+
 #[test]
 fn reports_that_stop(rt: HostRuntime) {
+    let rt = &rt;
     let spoiled = "run fault: the engine is spoiled";
-    expect_run_fault(&rt, RunFault::Spoiled, "run fault 1 Spoiled", spoiled);
+    expect_run_fault(rt, RunFault::Spoiled, "run fault 1 Spoiled", spoiled);
     let unlawful = "run fault: the order isn't lawful";
-    expect_run_fault(&rt, RunFault::BadOrder, "run fault 2 BadOrder", unlawful);
+    expect_run_fault(rt, RunFault::BadOrder, "run fault 2 BadOrder", unlawful);
     let refused = "run fault: want of memory";
-    expect_run_fault(&rt, RunFault::NoMemory, "run fault 3 NoMemory", refused);
-    let write = MainFault::Report(ReportFault::Write);
-    expect_line(&rt, write, "write fault", 1, "write fault");
-    let refused = MainFault::Report(ReportFault::NoMemory);
-    expect_line(&rt, refused, "want of memory", 1, "want of memory");
-    expect_line(&rt, MainFault::Built, "want of memory", 1, "want of memory");
+    expect_run_fault(rt, RunFault::NoMemory, "run fault 3 NoMemory", refused);
+    expect_told(rt, MainFault::Report(ReportFault::Write), "write fault", 1);
+    expect_told(
+        rt,
+        MainFault::Report(ReportFault::NoMemory),
+        "want of memory",
+        1,
+    );
+    expect_told(rt, MainFault::Built, "want of memory", 1);
 }
 
 #[test]
 fn inputs_and_words(rt: HostRuntime) {
-    let failed = MainFault::Input(InputFault::Failed);
-    expect_line(&rt, failed, "cannot read input", 1, "cannot read input");
-    let large = MainFault::Input(InputFault::TooLarge);
-    expect_line(&rt, large, "input too large", 2, "input too large");
-    let refused = MainFault::Input(InputFault::NoMemory);
-    expect_line(&rt, refused, "want of memory", 1, "want of memory");
-    let bad = MainFault::Words(WordFault::Bad);
-    expect_line(&rt, bad, "bad command line", 2, "bad command line");
-    let refused = MainFault::Words(WordFault::NoMemory);
-    expect_line(&rt, refused, "want of memory", 1, "want of memory");
+    let rt = &rt;
+    expect_told(
+        rt,
+        MainFault::Input(InputFault::Failed),
+        "cannot read input",
+        1,
+    );
+    expect_told(
+        rt,
+        MainFault::Input(InputFault::TooLarge),
+        "input too large",
+        2,
+    );
+    expect_told(
+        rt,
+        MainFault::Input(InputFault::NoMemory),
+        "want of memory",
+        1,
+    );
+    expect_told(rt, MainFault::Words(WordFault::Bad), "bad command line", 2);
+    expect_told(
+        rt,
+        MainFault::Words(WordFault::NoMemory),
+        "want of memory",
+        1,
+    );
 }
 
 /// Help is no fault: it has no line, status 0, and its own text.
 #[test]
 fn help(rt: HostRuntime) {
-    let text = "its text".to_string(rt.alloc()).expect(&rt, "memory");
+    let rt = &rt;
+    let text = "its text".to_string(rt.alloc()).have(rt);
     let help = MainFault::Words(WordFault::Help(text));
-    expect_printed(&rt, &help, "", 0);
-    expect_text(&rt, &help, "its text");
-    expect_text(&rt, &PutFault, "the sink failed");
+    expect_printed(rt, &help, "", 0);
+    expect_text(rt, &help, "its text");
+    drop(help);
+    expect_text(rt, &PutFault, "the sink failed");
 }

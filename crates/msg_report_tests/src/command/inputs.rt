@@ -1,9 +1,8 @@
 // Readers that give a few bytes at each read, that fail, and one that never ends.
-use crate::equal::expect_eq;
+use crate::equal::{Have, expect_eq};
 use msg_command::{InputFault, MAX_BYTES, read_all};
 use std::io;
 use std::io::{Error, ErrorKind, Read};
-use std::panic::Expect;
 use std::process::Abort;
 
 /// Gives `left` bytes, each of them 7, at most `at_once` at each read; then an error or the end,
@@ -43,20 +42,25 @@ fn input_of(left: usize, at_once: usize, fails: bool) -> Drips {
 /// How many bytes there are, and how many come at each read. Nothing is read after the end.
 #[test]
 fn whole_inputs(rt: HostRuntime) {
-    expect_whole(&rt, 0, 1);
-    expect_whole(&rt, 5, 2);
-    expect_whole(&rt, MAX_BYTES, 1);
-    expect_whole(&rt, MAX_BYTES, 4096);
+    let rt = &rt;
+    expect_whole(rt, 0, 1);
+    expect_whole(rt, 5, 2);
+    expect_whole(rt, MAX_BYTES, 1);
+    expect_whole(rt, MAX_BYTES, 4096);
     let text = b"{\"limit\":1}".as_slice();
-    let all = read_all(rt.alloc(), &mut b"{\"limit\":1}".as_slice()).expect(&rt, "all bytes");
-    expect_eq(&rt, &all.as_slice(), &text);
+    let all = read_all(rt.alloc(), &mut b"{\"limit\":1}".as_slice()).have(rt);
+    expect_eq(rt, all.as_slice(), text);
+    drop(all);
 }
 
 fn expect_whole(rt: &(impl Abort + AllocGlobal), left: usize, at_once: usize) {
     let mut input = input_of(left, at_once, false);
-    let all = read_all(rt.alloc(), &mut input).expect(rt, "all bytes");
-    expect_eq(rt, &(all.len(), input.ends), &(left, 1));
-    assert!(rt; all.iter().all(|byte| *byte == 7));
+    let all = read_all(rt.alloc(), &mut input).have(rt);
+    expect_eq(rt, (all.len(), input.ends), (left, 1));
+    for byte in &all {
+        expect_eq(rt, *byte, 7);
+    }
+    drop(all);
 }
 
 /// How many bytes there are, how many come at each read, whether the reader fails after them, and
@@ -72,6 +76,6 @@ fn faults(rt: HostRuntime) {
         (usize::MAX, 1, false, InputFault::TooLarge),
     ] {
         let mut input = input_of(left, at_once, fails);
-        expect_eq(&rt, &read_all(rt.alloc(), &mut input).err(), &Some(want));
+        expect_eq(&rt, read_all(rt.alloc(), &mut input).err(), Some(want));
     }
 }

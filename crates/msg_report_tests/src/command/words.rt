@@ -1,7 +1,6 @@
 // What command lines ask for.
-use crate::equal::expect_eq;
+use crate::equal::{Have, expect_eq};
 use msg_command::{WordFault, parse_words};
-use std::panic::Expect;
 use std::process::Abort;
 
 /// The words of a line, which blanks part. Two quotes are the empty word.
@@ -9,8 +8,7 @@ fn words_of(rt: &(impl Abort + AllocGlobal), line: &str) -> Vec<String> {
     let mut words = Vec::new(rt.alloc());
     for word in line.split_whitespace() {
         let word = if word == "''" { "" } else { word };
-        let word = word.to_string(rt.alloc()).expect(rt, "memory");
-        words.push(word).expect(rt, "memory");
+        words.push(word.to_string(rt.alloc()).have(rt)).have(rt);
     }
     words
 }
@@ -81,53 +79,61 @@ const ACTIONS: [(&str, &str); 45] = [
 
 #[test]
 fn actions(rt: HostRuntime) {
+    let rt = &rt;
     for (line, want) in &ACTIONS {
-        let words = words_of(&rt, line);
+        let words = words_of(rt, line);
         let parsed = parse_words(rt.alloc(), words.as_slice());
-        let text = format!(in rt.alloc(); "{parsed:?}").expect(&rt, "memory");
-        expect_eq(&rt, &(*line, text.as_str()), &(*line, *want));
+        drop(words);
+        let text = format!(in rt.alloc(); "{parsed:?}").have(rt);
+        drop(parsed);
+        expect_eq(rt, (*line, text.as_str()), (*line, *want));
+        drop(text);
     }
 }
 
-/// Command lines that ask for help, and pieces of the help that they get. The examples have the
-/// whole text if it is asked for by `--help`.
-const HELPS: [(&str, [&str; 3]); 6] = [
-    ("-h", ["msgrun [COMMAND]", "buffer", "docs/FORMATS.md"]),
-    ("help", ["msgrun [COMMAND]", "buffer", "docs/FORMATS.md"]),
-    (
-        "help buffer",
-        [
-            "msgrun buffer <FILE>",
-            "read 0 missed 0: 0=7 1=8\n",
-            "docs/FORMATS.md",
-        ],
-    ),
-    (
-        "help run",
-        [
-            "[default: 1]",
-            "r read hit missed 0: 0=5@w 1=6@host\n",
-            "[\"resource_equals\",r,v]",
-        ],
-    ),
-    (
-        "help plan",
-        ["--dot", "--frame <K>", "longest chain: r w (2)\n"],
-    ),
-    ("--version", ["msgrun", "1.0.0", "\n"]),
+/// Command lines that ask for help, each with a piece of the help that it gets. The examples have
+/// the whole text if it is asked for by `--help`.
+const HELPS: [(&str, &str); 18] = [
+    ("-h", "msgrun [COMMAND]"),
+    ("-h", "buffer"),
+    ("-h", "docs/FORMATS.md"),
+    ("help", "msgrun [COMMAND]"),
+    ("help", "buffer"),
+    ("help", "docs/FORMATS.md"),
+    ("help buffer", "msgrun buffer <FILE>"),
+    ("help buffer", "read 0 missed 0: 0=7 1=8\n"),
+    ("help buffer", "docs/FORMATS.md"),
+    ("help run", "[default: 1]"),
+    ("help run", "r read hit missed 0: 0=5@w 1=6@host\n"),
+    ("help run", "[\"resource_equals\",r,v]"),
+    ("help plan", "--dot"),
+    ("help plan", "--frame <K>"),
+    ("help plan", "longest chain: r w (2)\n"),
+    ("--version", "msgrun"),
+    ("--version", "1.0.0"),
+    ("--version", "\n"),
 ];
 
 #[test]
 fn help(rt: HostRuntime) {
-    for (line, pieces) in &HELPS {
-        let words = words_of(&rt, line);
-        match parse_words(rt.alloc(), words.as_slice()) {
-            Err(WordFault::Help(text)) => {
-                for piece in pieces {
-                    assert!(rt; text.contains(*piece), "{line}: {text}");
-                }
-            }
-            other => panic!(rt; "{line}: {other:?}"),
-        }
+    for (line, piece) in &HELPS {
+        expect_help(&rt, line, piece);
+    }
+}
+
+/// A command line gets help that has this piece.
+fn expect_help(rt: &(impl Abort + AllocGlobal), line: &str, piece: &str) {
+    let words = words_of(rt, line);
+    let fault = parse_words(rt.alloc(), words.as_slice()).err().have(rt);
+    drop(words);
+    let text = help_in(fault).have(rt);
+    expect_eq(rt, (line, piece, text.contains(piece)), (line, piece, true));
+    drop(text);
+}
+
+fn help_in(fault: WordFault) -> Option<String> {
+    match fault {
+        WordFault::Help(text) => Some(text),
+        _ => None,
     }
 }
