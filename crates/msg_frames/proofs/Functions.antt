@@ -1,13 +1,12 @@
 -- What the functions of the order, of frames and of runs come to.
-use Rattle.std.proofs.Common.{◌≡◌, ℕ, ◌<◌, Bool, ◌&&◌, ◌||◌, List, [], ◌∷◌, ◌++◌, append_assoc, refl, sym, ap, ◌∙◌, arith, ◌↔◌, ◌⊎◌, ◌≢◌, inl, inr, IsTrue, Contains, map}
-use Rattle.std.specs.List.{list_any, range_with_len}
-use Rattle.std.proofs.Math.Bool.{or_comm}
-use Rattle.std.proofs.lemmas.{Bool.cases_Bool, Bool.cases_order, List.Elements.Contains-append_left, List.Elements.Contains-append_right, List.FromFn.length-map-range_with_len}
+use Rattle.std.proofs.Common.{◌≡◌, ℕ, ◌<◌, Bool, ◌&&◌, ◌||◌, List, [], ◌∷◌, ◌++◌, append_assoc, refl, sym, ap, ◌∙◌, arith, ◌↔◌, ◌⊎◌, IsTrue, Contains, map}
+use Rattle.std.specs.List.{range_with_len}
+use Rattle.std.proofs.lemmas.{Bool.cases_Bool, List.Elements.Contains-append_left, List.Elements.Contains-append_right, List.FromFn.length-map-range_with_len}
 use Rattle.msg_world.specs.{Prelude.Conflict, Prelude.HasPart, declared.part.Part.TheVariants.OfResource, declared.part.Part.TheVariants.OfType, declared.part.Part.Part, declared.part.Part.TheVariants.Registry, Prelude.uses, Prelude.writes, declared.access.Access.Access, declared.limits.TheConstants.MAX_RESOURCES, declared.limits.TheConstants.MAX_TYPES, Prelude.Values}
-use Rattle.msg_order.specs.Prelude.{Graph, IsAcyclic, IsAmong, IsSettledOrder, IsTurnOrder, Path, TellsConflicts, has_joined, turns}
-use Rattle.msg_order.proofs.{Elements.Contains-head, Elements.Contains-list_any, Elements.Contains-map, Elements.Contains-range, Elements.list_any-Contains, Functions.batches_are, Functions.settled_among, Functions.settled_no_cycle, Functions.settled_only, Functions.settled_orders, Functions.turns_are, TurnOrders.in_lawful_order}
+use Rattle.msg_order.specs.Prelude.{Graph, IsAcyclic, IsAmong, IsSettledOrder, IsTurnOrder, TellsConflicts, turns}
+use Rattle.msg_order.proofs.{Elements.Contains-head, Elements.Contains-list_any, Elements.Contains-map, Elements.Contains-range, Elements.list_any-Contains, Functions.settled_among, Functions.settled_no_cycle, Functions.settled_only, Functions.turns_are}
 use Rattle.msg_system.specs.Prelude.{IsAccessOf, Needs, needs_any}
-use Rattle.msg_frames.specs.Prelude.{AfterRun, AreAccessesOf, Frame, Log, NoCycle, SameSystems, State, TurnsAreInOrder, UsesParts, are_in_conflict, before_turns, frame, has_begun, join_flags, member_needs, needs_conflict, run}
+use Rattle.msg_frames.specs.Prelude.{AfterRun, AreAccessesOf, Frame, Log, NoCycle, SameSystems, State, UsesParts, are_in_conflict, before_turns, frame, has_begun, join_flags, needs_conflict, run}
 use Rattle.msg_frames.specs.Frames.{parts, settled_order, turn_order}
 use Rattle.msg_frames.proofs.{SystemsStay.frame_keeps, SystemsStay.joined_below}
 
@@ -76,7 +75,7 @@ module _ {V : Type 0} {values : Values V} where
   unfolding settled_order
   order_among s = settled_among s.rules (join_flags s) (are_in_conflict s)
 
-  order_free : (s : State values) → NoCycle s → IsAcyclic (settled_order s)
+  pub order_free : (s : State values) → NoCycle s → IsAcyclic (settled_order s)
   unfolding settled_order
   order_free s free =
       settled_no_cycle s.rules (join_flags s) (are_in_conflict s)
@@ -86,37 +85,6 @@ module _ {V : Type 0} {values : Values V} where
   pub order_is : (s : State values) → NoCycle s → IsTurnOrder (settled_order s) (join_flags s) (turn_order s)
   unfolding turn_order
   order_is s free = turns_are (settled_order s) (join_flags s) (order_among s) (order_free s free)
-
--- needs are in conflict with others if those are with them
-conflict_either : (m n : Needs) → needs_conflict m n ≡ needs_conflict n m
-conflict_either m n =
-    ap (λ (test : Part → Bool). list_any test parts)
-    (λ k p. or_comm (m.writes p && needs_any n p) (n.writes p && needs_any m p) k)
-
-module _ {V : Type 0} {values : Values V} where
-  in_conflict : (s : State values) (i j : ℕ) → i ≢ j → IsTrue (has_joined (join_flags s) i)
-      → IsTrue (has_joined (join_flags s) j) → IsTrue (are_in_conflict s i j)
-      → Path (settled_order s) i j ⊎ Path (settled_order s) j i
-  unfolding settled_order
-  in_conflict s i j ne at_i at_j conflict =
-      let orders = settled_orders s.rules (join_flags s) (are_in_conflict s) in
-      elim (cases_order i j) [
-        | inl same ↦ absurd (ne same)
-        | inr (inl lt) ↦ orders i j lt at_i at_j conflict
-        | inr (inr lt) ↦
-            let either = conflict_either (member_needs (s.members j)) (member_needs (s.members i)) in
-            elim (orders j i lt at_j at_i (rw either conflict)) [ inl back ↦ inr back | inr on ↦ inl on ]
-      ]
-
-  -- how those that have joined are ordered
-  pub are_ordered : TurnsAreInOrder values
-  are_ordered s free = record {
-    no_cycle = order_free s free;
-    conflicts = in_conflict s;
-    by_number = batches_are (settled_order s) (join_flags s) (order_among s) (order_free s free);
-    turns = order_is s free;
-    once = in_lawful_order (settled_order s) (join_flags s) (turn_order s) (order_among s) (order_is s free);
-  }
 
   -- what a plan has is the settled order, and its turns
   pub plan_order : (s : State values) (accesses : List Access) (g : Graph) → UsesParts s → AreAccessesOf s accesses

@@ -6,8 +6,7 @@ use Rattle.msg_buffer.proofs.{Growth.only_grows, Tiles.clears_fit, Tiles.reads_f
 use Rattle.msg_world.specs.{Prelude.WorldState, Prelude.after_update, Prelude.by, Prelude.with_history, declared.record.Record.Record, Prelude.Values}
 use Rattle.msg_system.specs.{declared.limits.TheConstants.MAX_OPS, declared.op.Op.Op, declared.op.Op.TheVariants.Write, declared.op.Op.TheVariants.Batch, declared.op.Op.TheVariants.Forward, declared.op.Op.TheVariants.Drain}
 use Rattle.msg_system.specs.Prelude.{AfterProgram, Job, Meaning, after_at_most, after_job, after_op, again_by, next_op, one_more, took, turn}
-use Rattle.msg_frames.specs.Prelude.{Frame, ListsOnlyGrow, State, after_posts, after_turn_of, after_turns_of, before_turns, frame, frame_in}
-use Rattle.msg_frames.specs.Frames.{turn_order}
+use Rattle.msg_frames.specs.Prelude.{Frame, State, after_posts, after_turn_of, after_turns_of, before_turns, frame, frame_in}
 use Rattle.msg_frames.proofs.SystemsStay.{joining_world}
 
 -- What the laws of buffers say of the world's types.
@@ -108,8 +107,3 @@ module _ {V : Type 0} {values : Values V} (grow : OnlyGrows (Record V)) where
   frame_goes_on order frame s t =
       let turns = turns_change Grows (grown grow) order (before_turns frame.posts s) in
       (grown grow).further _ _ _ (before_goes_on frame.posts s t) (turns t)
-
-  pub runs_go_on : ListsOnlyGrow values
-  runs_go_on [] s t = stays _
-  runs_go_on (f ∷ fs) s t =
-      (grown grow).further _ _ _ (frame_goes_on (turn_order (before_turns f.posts s)) f s t) (runs_go_on fs (frame f s).state t)

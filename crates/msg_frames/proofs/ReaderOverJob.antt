@@ -3,9 +3,9 @@ use Rattle.std.proofs.Common.{◌≡◌, ◌+◌, ℕ, zero, suc, ◌≤◌, Lis
 use Rattle.std.proofs.lemmas.{Bool.cases_Bool, List.append-nil, List.length-map, List.map-append, List.map-id, List.Elements.All-append, List.Elements.All-cons, List.Elements.All-nil, List.Elements.All-weaker, Bool.Decides.eqb_tells, Simd.map-map, Grind.flat_map-append}
 use Rattle.msg_buffer.specs.Prelude.{Fits, GoesOn, History, IsSound, Stretch, Tile, count, given, message_of, next_place, pass_over, read}
 use Rattle.msg_world.specs.{Prelude.WorldState, declared.record.Record.Record, Prelude.Values}
-use Rattle.msg_system.specs.{declared.limits.TheConstants.MAX_OPS, declared.op.Op.Op, declared.op.Op.TheVariants.Read, declared.op.Op.TheVariants.Clear, declared.op.Op.TheVariants.Forward, declared.op.Op.TheVariants.Sum, declared.reply.Reply.Reply}
+use Rattle.msg_system.specs.{declared.limits.TheConstants.MAX_OPS, declared.op.Op.Op, declared.op.Op.TheVariants.Read, declared.op.Op.TheVariants.Clear, declared.op.Op.TheVariants.Forward, declared.op.Op.TheVariants.Sum}
 use Rattle.msg_system.specs.Prelude.{AfterOp, AfterProgram, Step, Job, Meaning, after_at_most, after_job, after_op, next_op, one_more, took, turn, with_place}
-use Rattle.msg_frames.specs.Prelude.{ReadEntry, GivesItsStretch, Moment, replies_of, entry_for, entry_of_read, entries_at, moments_at, outcome_of}
+use Rattle.msg_frames.specs.Prelude.{ReadEntry, GivesItsStretch, Moment, entry_for, entry_of_read, entries_at, moments_at}
 use Rattle.msg_frames.proofs.HistoriesGrow.{BufferLaws, counts_more, Grows, goes_further, grown, op_changes, stays}
 
 module _ {V : Type 0} {values : Values V} where
@@ -173,9 +173,3 @@ module _ {V : Type 0} {values : Values V} where
   pub entries_are : (t : ℕ) (xs : List (Step values)) → map (λ m. m.entry) (moments_of t xs) ≡ entries_at t xs
   entries_are t [] = refl
   entries_are t (x ∷ xs) = grind (arith, map-append, map-map, map-id (entry_for t x.op x.reply), entries_are t xs)
-
-  -- after a job, the rule of its system also takes in the replies of that job
-  pub job_rule : (j : Job V) (w : WorldState values) → (after_job j w).job.system.rule
-      ≡ (λ (later : List (List (Reply V))) (now : List (Reply V)). j.system.rule
-      (replies_of (outcome_of (after_job j w).replies) ++ later) now)
-  job_rule j w = grind (arith, cases_Bool)

@@ -4,9 +4,9 @@ use Rattle.std.proofs.lemmas.{Bool.cases_Bool, Grind.flat_map-append}
 use Rattle.msg_buffer.specs.Prelude.{GoesOn, History}
 use Rattle.msg_system.specs.Prelude.{Step}
 use Rattle.msg_world.specs.{Prelude.WorldState, Prelude.after_update, declared.record.Record.Record, Prelude.Values}
-use Rattle.msg_frames.specs.Prelude.{AccountsBeginAtTheStart, LogsTellEntries, ReadersTile, Frame, first_state, IsSoundState, frame, run, Moment, RunsAreComplete, State, after_posts, answers_in, before_turns, found_at, has_begun, moments, reader_place, Totals, totals_from, turns_steps, post_steps, moments_at}
+use Rattle.msg_frames.specs.Prelude.{Frame, IsSoundState, frame, run, Moment, RunsAreComplete, State, after_posts, before_turns, found_at, has_begun, moments, reader_place, Totals, totals_from, turns_steps, post_steps, moments_at}
 use Rattle.msg_frames.specs.Frames.{turn_order}
-use Rattle.msg_frames.proofs.{ReaderOverJob.steps_of, TellsEachOnce.tiles_rise, TellsEachOnce.are_true, TellsEachOnce.tells_once, HistoriesGrow.BufferLaws, HistoriesGrow.goes_further, HistoriesGrow.stays, SystemsStay.before_keeps, SystemsStay.turns_keep, ReaderOverJob.passes_nothing, EntriesAddUp.with_entries-none, ReaderOverTurns.ReadsFrom, ReaderOverTurns.Tells, ReaderOverTurns.reads_further, ReaderOverTurns.steps_of-append, ReaderOverTurns.tells_further, ReaderOverTurns.tells_these, ReaderOverTurns.reads_these, ReaderOverJob.moments_of, ReaderOverTurns.turns_moments, ReaderOverTurns.turns_read, ReaderOverTurns.turns_skip, ReaderOverTurns.turns_tell, BeforeTurns.Prepares, BeforeTurns.comes, BeforeTurns.prepares, BeforeTurns.stood, BeforeTurns.waits, StatesStaySound.begun_alike, StatesStaySound.frame_sound, StatesStaySound.has_no_turn, StatesStaySound.prepared_sound, FirstStatesAreSound.first_accounts, WrittenOnce.run_writes}
+use Rattle.msg_frames.proofs.{ReaderOverJob.steps_of, TellsEachOnce.tiles_rise, TellsEachOnce.are_true, TellsEachOnce.tells_once, HistoriesGrow.BufferLaws, HistoriesGrow.goes_further, HistoriesGrow.stays, SystemsStay.turns_keep, ReaderOverJob.passes_nothing, EntriesAddUp.with_entries-none, ReaderOverTurns.ReadsFrom, ReaderOverTurns.reads_further, ReaderOverTurns.steps_of-append, ReaderOverTurns.reads_these, ReaderOverJob.moments_of, ReaderOverTurns.turns_moments, ReaderOverTurns.turns_read, ReaderOverTurns.turns_skip, BeforeTurns.Prepares, BeforeTurns.comes, BeforeTurns.prepares, BeforeTurns.stood, BeforeTurns.waits, StatesStaySound.begun_alike, StatesStaySound.frame_sound, StatesStaySound.has_no_turn, StatesStaySound.prepared_sound, WrittenOnce.run_writes}
 
 module _ {V : Type 0} {values : Values V} where
   -- what the host posts goes past nothing
@@ -29,17 +29,6 @@ module _ {V : Type 0} {values : Values V} where
         flat_map-append (moments_at t) (steps_of i posts) (steps_of i turns),
         posts_pass i t f.posts (after_update s.world),
       ) refl
-
-  pub run_tells : (i t : ℕ) (frames : List (Frame V)) (s : State values)
-      → Tells i t s (answers_in i (run frames s).logs) (moments i t frames s) (run frames s).state
-  run_tells i t [] s = grind arith
-  run_tells i t (f ∷ fs) s =
-      let b : State values = before_turns f.posts s in
-      let told = turns_tell i t (turn_order b) b in
-      let needs = ((before_keeps f.posts s).members i).needs in
-      tells_these (run_further i t f fs s)
-      (tells_further i t s _ _ _ _ _ (run (f ∷ fs) s).state (grind (arith, cases_Bool, needs, told))
-      (run_tells i t fs (frame f s).state))
 
 -- ---- a reader that joins in the run, or had joined
 
@@ -103,19 +92,3 @@ module _ {V : Type 0} {values : Values V} where
           totals = reads.totals;
         };
   }
-
-  pub readers_tile : BufferLaws V → ReadersTile values
-  readers_tile laws frames s sound i t below has =
-      let passes = (run_follows laws i t frames s sound below has).passes in
-      record { tile = passes.tile; gives = passes.gives }
-
-  pub logs_tell : LogsTellEntries values
-  logs_tell i t frames s = (run_tells i t frames s).entries
-
-  -- from a first state a reader was found with new accounts
-  pub accounts_begin : BufferLaws V → AccountsBeginAtTheStart values
-  accounts_begin laws systems places rules types world frames i t sound below has =
-      let s : State values = first_state systems places rules types world in
-      let served = (runs_are_complete laws frames s sound).served i t below has in
-      let new = first_accounts systems places rules types world i t (sound.joins i) in
-      grind (arith, cases_Bool, served.totals, new)

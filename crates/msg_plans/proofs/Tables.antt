@@ -10,7 +10,7 @@ use Rattle.msg_order.specs.Prelude.{IsAcyclic, IsPlanOf, NameSystemsBelow, acces
 use Rattle.msg_order.specs.declared.rule.Rule.{Rule}
 use Rattle.msg_order.proofs.{PathTest.from_Path, PathTest.to_Path, SetPaths.all_rules, SettledOrders.fewer_make_none}
 use Rattle.msg_frames.specs.Prelude.{AreAccessesOf, SameSystems, State, UsesParts, before_joining, has_begun, join_flags, member_needs, default_system, default_place, waiting_member}
-use Rattle.msg_frames.specs.TurnLaws.{SameMember}
+use Rattle.msg_frames.specs.Prelude.{SameMember}
 use Rattle.msg_frames.specs.Frames.{Member}
 use Rattle.msg_frames.specs.declared.place.Place.{Place}
 use Rattle.msg_frames.specs.Frames.{settled_order}
