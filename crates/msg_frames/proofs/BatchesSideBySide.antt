@@ -1,11 +1,11 @@
 -- The jobs of a batch, side by side.
-use Rattle.std.proofs.Common.{◌≡◌, ◌≢◌, ℕ, suc, ◌<◌, List, [], ◌∷◌, ◌++◌, map, slice_index_or, refl, arith, All, AllPairs}
-use Rattle.std.proofs.lemmas.{Bool.cases_Bool, List.Elements.All-tail, Bool.Decides.eqb_tells}
-use Rattle.msg_world.specs.{Prelude.Conflict, declared.part.Part.Part, Prelude.merge, declared.access.Access.Access, Prelude.Values}
+use Rattle.std.proofs.Common.{All, AllPairs, List, [], arith, map, refl, slice_index_or, suc, ℕ, ◌++◌, ◌<◌, ◌∷◌, ◌≡◌, ◌≢◌}
+use Rattle.std.proofs.lemmas.{Bool.cases_Bool, Bool.Decides.eqb_tells, List.Elements.All-tail}
+use Rattle.msg_world.specs.{Prelude.Conflict, Prelude.Values, Prelude.merge, declared.access.Access.Access, declared.part.Part.Part}
 use Rattle.msg_world.proofs.Loans.{content_merged}
 use Rattle.msg_order.specs.Prelude.{NoneConflict, access_of}
 use Rattle.msg_system.specs.Prelude.{Agree, JobFootprint, needs_any}
-use Rattle.msg_frames.specs.Prelude.{AreAccessesOf, BatchesRunSideBySide, State, after_turn_of, after_turns_of, all_home, home, logged_turn, member_needs, turn_of, AfterTurns}
+use Rattle.msg_frames.specs.Prelude.{AfterTurns, AreAccessesOf, BatchesRunSideBySide, State, after_turn_of, after_turns_of, all_home, home, logged_turn, member_needs, turn_of}
 use Rattle.msg_frames.proofs.{ElementsAndPairs.pairs_tail, TurnsCommute.apart, TurnsCommute.given_by_turn, TurnsCommute.same_world, TurnsCommute.turn_footprint}
 
 -- nothing that system i needs or keeps is otherwise in s than in `start`

@@ -1,5 +1,5 @@
 -- What holds of each element of a list, and of each pair, and what stands where.
-use Rattle.std.proofs.Common.{◌≡◌, ◌+◌, inl, inr, List, [], ◌∷◌, ◌++◌, length, ap, arith, length-append, get_or-append-add, All, AllPairs, Contains}
+use Rattle.std.proofs.Common.{All, AllPairs, Contains, List, [], ap, arith, get_or-append-add, inl, inr, length, length-append, ◌++◌, ◌+◌, ◌∷◌, ◌≡◌}
 use Rattle.std.proofs.lemmas.{List.get_or_append_left, List.Elements.All-cons, List.Elements.All-tail, List.Kept.AllPairs-cons}
 use Rattle.msg_order.proofs.Elements.{Contains-cases, not_in_none}
 pub use Rattle.msg_order.proofs.Elements.{pairs_head, pairs_tail}

@@ -1,6 +1,6 @@
 -- How entries add up in an account.
-use Rattle.std.proofs.Common.{◌≡◌, ℕ, ◌+◌, List, [], ◌∷◌, ◌++◌, length, flat_map, None, arith}
-use Rattle.std.proofs.lemmas.{List.length-append, List.FromFn.length-range_with_len, Bool.cases_Bool, Grind.flat_map-append}
+use Rattle.std.proofs.Common.{List, None, [], arith, flat_map, length, ℕ, ◌++◌, ◌+◌, ◌∷◌, ◌≡◌}
+use Rattle.std.proofs.lemmas.{Bool.cases_Bool, Grind.flat_map-append, List.length-append, List.FromFn.length-range_with_len}
 use Rattle.msg_buffer.specs.Prelude.{Stretch}
 use Rattle.msg_system.specs.declared.reply.Took.{Took}
 use Rattle.msg_frames.specs.Prelude.{ReadEntry, Totals, entry_of_read, numbers_cleared, numbers_given, numbers_missed, numbers_told, with_entries}

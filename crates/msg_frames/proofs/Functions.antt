@@ -1,14 +1,13 @@
 -- What the functions of the order, of frames and of runs come to.
-use Rattle.std.proofs.Common.{◌≡◌, ℕ, ◌<◌, Bool, ◌&&◌, ◌||◌, List, [], ◌∷◌, ◌++◌, append_assoc, refl, sym, ap, ◌∙◌, arith, ◌↔◌, ◌⊎◌, IsTrue, Contains, map}
+use Rattle.std.proofs.Common.{All, Bool, Contains, IsTrue, List, [], ap, append_assoc, arith, map, refl, sym, ◌&&◌, ◌++◌, ◌<◌, ◌||◌, ◌↔◌, ◌∙◌, ◌∷◌, ◌≡◌, ◌⊎◌}
 use Rattle.std.specs.List.{range_with_len}
 use Rattle.std.proofs.lemmas.{Bool.cases_Bool, List.Elements.Contains-append_left, List.Elements.Contains-append_right, List.FromFn.length-map-range_with_len}
-use Rattle.msg_world.specs.{Prelude.Conflict, Prelude.HasPart, declared.part.Part.TheVariants.OfResource, declared.part.Part.TheVariants.OfType, declared.part.Part.Part, declared.part.Part.TheVariants.Registry, Prelude.uses, Prelude.writes, declared.access.Access.Access, declared.limits.TheConstants.MAX_RESOURCES, declared.limits.TheConstants.MAX_TYPES, Prelude.Values}
-use Rattle.msg_order.specs.Prelude.{Graph, IsAcyclic, IsAmong, IsSettledOrder, IsTurnOrder, TellsConflicts, turns}
-use Rattle.msg_order.proofs.{Elements.Contains-head, Elements.Contains-list_any, Elements.Contains-map, Elements.Contains-range, Elements.list_any-Contains, Functions.settled_among, Functions.settled_no_cycle, Functions.settled_only, Functions.turns_are}
+use Rattle.msg_world.specs.{Prelude.Conflict, Prelude.HasPart, Prelude.Values, Prelude.uses, Prelude.writes, declared.access.Access.Access, declared.limits.TheConstants.MAX_RESOURCES, declared.limits.TheConstants.MAX_TYPES, declared.part.Part.Part, declared.part.Part.TheVariants.OfResource, declared.part.Part.TheVariants.OfType, declared.part.Part.TheVariants.Registry}
+use Rattle.msg_order.specs.Prelude.{IsAcyclic, IsAmong, IsPlanOf, IsSettledOrder, IsTurnOrder, NoneConflict, PlanView, TellsConflicts, batches, plan_of}
+use Rattle.msg_order.proofs.{Elements.Contains-head, Elements.Contains-list_any, Elements.Contains-map, Elements.Contains-range, Elements.list_any-Contains, Functions.batches_are, Functions.settled_among, Functions.settled_no_cycle, Functions.turns_are, TurnOrders.none_conflict}
 use Rattle.msg_system.specs.Prelude.{IsAccessOf, Needs, needs_any}
-use Rattle.msg_frames.specs.Prelude.{AfterRun, AreAccessesOf, Frame, Log, NoCycle, SameSystems, State, UsesParts, are_in_conflict, before_turns, frame, has_begun, join_flags, needs_conflict, run}
-use Rattle.msg_frames.specs.Frames.{parts, settled_order, turn_order}
-use Rattle.msg_frames.proofs.{SystemsStay.frame_keeps, SystemsStay.joined_below}
+use Rattle.msg_frames.specs.{Frames.parts, Frames.settled_order, Frames.turn_order, Prelude.AfterRun, Prelude.AreAccessesOf, Prelude.Frame, Prelude.Log, Prelude.NoCycle, Prelude.SameSystems, Prelude.State, Prelude.UsesParts, Prelude.are_in_conflict, Prelude.before_turns, Prelude.frame, Prelude.has_begun, Prelude.join_flags, Prelude.needs_conflict, Prelude.run}
+use Rattle.msg_frames.proofs.SystemsStay.{frame_keeps, joined_below}
 
 -- ---- conflicts
 
@@ -86,19 +85,18 @@ module _ {V : Type 0} {values : Values V} where
   unfolding turn_order
   order_is s free = turns_are (settled_order s) (join_flags s) (order_among s) (order_free s free)
 
-  -- what a plan has is the settled order, and its turns
-  pub plan_order : (s : State values) (accesses : List Access) (g : Graph) → UsesParts s → AreAccessesOf s accesses
-      → IsSettledOrder accesses s.rules (join_flags s) g → g ≡ settled_order s
+  -- what a plan of the systems is
+  pub plan_is : (s : State values) (accesses : List Access) (plan : PlanView) → UsesParts s → AreAccessesOf s accesses
+      → IsPlanOf accesses s.rules (join_flags s) plan → plan ≡ plan_of (settled_order s) (join_flags s)
   unfolding settled_order
-  plan_order s accesses g uses are is =
-      settled_only accesses s.rules (join_flags s) (are_in_conflict s) g
-      (conflicts_tell s accesses are uses) is
+  plan_is s accesses plan uses are is = is.is (are_in_conflict s) (conflicts_tell s accesses are uses)
 
-  pub plan_turns : (s : State values) (accesses : List Access) (g : Graph) (order : List ℕ) → UsesParts s
-      → AreAccessesOf s accesses → IsSettledOrder accesses s.rules (join_flags s) g → order ≡ turns g (join_flags s)
-      → order ≡ turn_order s
-  unfolding turn_order
-  plan_turns s accesses g order uses are is made = rw (plan_order s accesses g uses are is) at made
+  -- its batches
+  pub batches_apart : (s : State values) (accesses : List Access) → UsesParts s → AreAccessesOf s accesses → NoCycle s
+      → All (NoneConflict accesses) (batches (settled_order s) (join_flags s))
+  batches_apart s accesses uses are free =
+      none_conflict accesses s.rules (join_flags s) (settled_order s) _ (order_is_settled s accesses uses are)
+      (batches_are (settled_order s) (join_flags s) (order_among s) (order_free s free))
 
 -- ---- frames and then others
 

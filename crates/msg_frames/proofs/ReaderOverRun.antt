@@ -1,12 +1,11 @@
 -- What a reader goes past over a run of frames.
-use Rattle.std.proofs.Common.{arith, ◌≡◌, ℕ, ◌<◌, List, [], ◌∷◌, ◌++◌, refl, ◌∙◌, IsTrue, if◌then◌else◌}
+use Rattle.std.proofs.Common.{IsTrue, List, [], arith, if◌then◌else◌, refl, ℕ, ◌++◌, ◌<◌, ◌∙◌, ◌∷◌, ◌≡◌}
 use Rattle.std.proofs.lemmas.{Bool.cases_Bool, Grind.flat_map-append}
 use Rattle.msg_buffer.specs.Prelude.{GoesOn, History}
 use Rattle.msg_system.specs.Prelude.{Step}
-use Rattle.msg_world.specs.{Prelude.WorldState, Prelude.after_update, declared.record.Record.Record, Prelude.Values}
-use Rattle.msg_frames.specs.Prelude.{Frame, IsSoundState, frame, run, Moment, RunsAreComplete, State, after_posts, before_turns, found_at, has_begun, moments, reader_place, Totals, totals_from, turns_steps, post_steps, moments_at}
-use Rattle.msg_frames.specs.Frames.{turn_order}
-use Rattle.msg_frames.proofs.{ReaderOverJob.steps_of, TellsEachOnce.tiles_rise, TellsEachOnce.are_true, TellsEachOnce.tells_once, HistoriesGrow.BufferLaws, HistoriesGrow.goes_further, HistoriesGrow.stays, SystemsStay.turns_keep, ReaderOverJob.passes_nothing, EntriesAddUp.with_entries-none, ReaderOverTurns.ReadsFrom, ReaderOverTurns.reads_further, ReaderOverTurns.steps_of-append, ReaderOverTurns.reads_these, ReaderOverJob.moments_of, ReaderOverTurns.turns_moments, ReaderOverTurns.turns_read, ReaderOverTurns.turns_skip, BeforeTurns.Prepares, BeforeTurns.comes, BeforeTurns.prepares, BeforeTurns.stood, BeforeTurns.waits, StatesStaySound.begun_alike, StatesStaySound.frame_sound, StatesStaySound.has_no_turn, StatesStaySound.prepared_sound, WrittenOnce.run_writes}
+use Rattle.msg_world.specs.{Prelude.Values, Prelude.WorldState, Prelude.after_update, declared.record.Record.Record}
+use Rattle.msg_frames.specs.{Frames.turn_order, Prelude.Frame, Prelude.IsSoundState, Prelude.Moment, Prelude.RunsAreComplete, Prelude.State, Prelude.Totals, Prelude.after_posts, Prelude.before_turns, Prelude.found_at, Prelude.frame, Prelude.has_begun, Prelude.moments, Prelude.moments_at, Prelude.post_steps, Prelude.reader_place, Prelude.run, Prelude.totals_from, Prelude.turns_steps}
+use Rattle.msg_frames.proofs.{BeforeTurns.Prepares, BeforeTurns.comes, BeforeTurns.prepares, BeforeTurns.stood, BeforeTurns.waits, EntriesAddUp.with_entries-none, HistoriesGrow.goes_further, HistoriesGrow.stays, ReaderOverJob.moments_of, ReaderOverJob.passes_nothing, ReaderOverJob.steps_of, ReaderOverTurns.ReadsFrom, ReaderOverTurns.reads_further, ReaderOverTurns.reads_these, ReaderOverTurns.steps_of-append, ReaderOverTurns.turns_moments, ReaderOverTurns.turns_read, ReaderOverTurns.turns_skip, StatesStaySound.begun_alike, StatesStaySound.frame_sound, StatesStaySound.has_no_turn, StatesStaySound.prepared_sound, SystemsStay.turns_keep, TellsEachOnce.are_true, TellsEachOnce.tells_once, TellsEachOnce.tiles_rise, WrittenOnce.run_writes}
 
 module _ {V : Type 0} {values : Values V} where
   -- what the host posts goes past nothing
@@ -46,7 +45,7 @@ module _ {V : Type 0} {values : Values V} where
   abbrev pub Follows : ℕ → ℕ → State values → List (Moment V) → State values → Type 0
   Follows i t s ms u = ReadsFrom i t (found_at s u i t) (found_totals s u i t) (s.world.histories t) ms u
 
-module _ {V : Type 0} {values : Values V} (laws : BufferLaws V) (i t : ℕ) where
+module _ {V : Type 0} {values : Values V} (i t : ℕ) where
   pub run_follows : (frames : List (Frame V)) (s : State values) → IsSoundState s → t < s.types
       → IsTrue (has_begun (run frames s).state i) → Follows i t s (moments i t frames s) (run frames s).state
   run_follows [] s sound below has = grind (arith, passes_nothing, stays, with_entries-none V)
@@ -57,13 +56,13 @@ module _ {V : Type 0} {values : Values V} (laws : BufferLaws V) (i t : ℕ) wher
       let u : State values = (run fs m).state in
       let ms : List (Moment V) = turns_moments i t order b in
       let rest : List (Moment V) = moments i t fs m in
-      let prep : Prepares s b = prepares laws.grow f.posts s in
+      let prep : Prepares s b = prepares f.posts s in
       let keep = turns_keep order b in
       let ready : IsSoundState b = prepared_sound s b sound prep in
       let under : t < b.types = rw (prep.same.types) below in
-      let here = turns_read laws i t order b (ready.histories t under) (ready.places i t under) in
+      let here = turns_read i t order b (ready.histories t under) (ready.places i t under) in
       let goes : GoesOn (s.world.histories t) (b.world.histories t) = prep.world t (sound.histories t below) in
-      let later : Follows i t m rest u = run_follows fs m (frame_sound laws f s sound) (rw (keep.0.types) under) has in
+      let later : Follows i t m rest u = run_follows fs m (frame_sound f s sound) (rw (keep.0.types) under) has in
       let all : IsTrue (has_begun b i) → ReadsFrom i t (reader_place b i t) ((b.members i).totals t)
       (s.world.histories t) (ms ++ rest) u =
       λ now. reads_since i t _ _ _ _ (ms ++ rest) u goes
@@ -78,12 +77,12 @@ module _ {V : Type 0} {values : Values V} (laws : BufferLaws V) (i t : ℕ) wher
       ])
 
 module _ {V : Type 0} {values : Values V} where
-  pub runs_are_complete : BufferLaws V → RunsAreComplete values
-  runs_are_complete laws frames s sound = record {
-    written = λ t. run_writes t laws frames s sound;
+  pub runs_are_complete : RunsAreComplete values
+  runs_are_complete frames s sound = record {
+    written = λ t. run_writes t frames s sound;
     served = λ i t below has.
         let ms : List (Moment V) = moments i t frames s in
-        let reads = run_follows laws i t frames s sound below has in
+        let reads = run_follows i t frames s sound below has in
         let passes = reads.passes in
         record {
           forward = tiles_rise _ ms _ passes.tile;

@@ -1,12 +1,12 @@
 -- What a reader goes past in the turns of systems, its own and those of others.
-use Rattle.std.proofs.Common.{◌≡◌, filter, ℕ, ◌≤◌, List, [], ◌∷◌, ◌++◌, map, Contains, flat_map, cond, refl, arith, ◌==◌}
-use Rattle.std.proofs.lemmas.{Bool.cases_Bool, List.map-append, List.Elements.filter-append, Grind.flat_map-append, Bool.Decides.eqb_tells}
-use Rattle.msg_buffer.specs.Prelude.{IsSound, count, History}
+use Rattle.std.proofs.Common.{Contains, List, [], arith, cond, filter, flat_map, map, refl, ℕ, ◌++◌, ◌==◌, ◌∷◌, ◌≡◌, ◌≤◌}
+use Rattle.std.proofs.lemmas.{Bool.cases_Bool, Bool.Decides.eqb_tells, Grind.flat_map-append, List.map-append, List.Elements.filter-append}
+use Rattle.msg_buffer.specs.Prelude.{History, IsSound, count}
 use Rattle.msg_system.specs.{Prelude.Step, Prelude.after_job, declared.reply.Reply.Reply}
-use Rattle.msg_frames.specs.Prelude.{Member, member_after, Moment, State, Turn, after_turn_of, after_turns_of, replies_of, moments_at, reader_place, turn_of, turns_steps, with_entries, Totals}
-use Rattle.msg_order.proofs.Elements.{Contains-tail, Contains-head}
-use Rattle.msg_frames.proofs.{ReaderOverJob.by_system, ReaderOverJob.steps_of, HistoriesGrow.BufferLaws, HistoriesGrow.Grows, HistoriesGrow.grown, HistoriesGrow.job_changes, HistoriesGrow.stays, ReaderOverJob.Passes, ReaderOverJob.entries_are, ReaderOverJob.job_passes, ReaderOverJob.moments_of, ReaderOverJob.passes_further, ReaderOverJob.passes_nothing, EntriesAddUp.with_entries-append, EntriesAddUp.with_entries-none}
-use Rattle.msg_world.specs.{declared.record.Record.Record, Prelude.Values}
+use Rattle.msg_frames.specs.Prelude.{Member, Moment, State, Totals, Turn, after_turn_of, after_turns_of, member_after, moments_at, reader_place, replies_of, turn_of, turns_steps, with_entries}
+use Rattle.msg_order.proofs.Elements.{Contains-head, Contains-tail}
+use Rattle.msg_frames.proofs.{EntriesAddUp.with_entries-append, EntriesAddUp.with_entries-none, HistoriesGrow.Grows, HistoriesGrow.grown, HistoriesGrow.job_changes, HistoriesGrow.stays, ReaderOverJob.Passes, ReaderOverJob.by_system, ReaderOverJob.entries_are, ReaderOverJob.job_passes, ReaderOverJob.moments_of, ReaderOverJob.passes_further, ReaderOverJob.passes_nothing, ReaderOverJob.steps_of}
+use Rattle.msg_world.specs.{Prelude.Values, declared.record.Record.Record}
 
 -- Reader (i, t), which was given so much, goes past these moments from a place in a history on, up to a state.
 pub record ReadsFrom {V : Type 0} {values : Values V} (i t place : ℕ) (had : Totals) (old : History (Record V)) (ms : List (Moment V)) (u : State values) : Type 0 where
@@ -66,12 +66,11 @@ module _ {V : Type 0} {values : Values V} where
         flat_map-append (moments_at t) (steps_of i (by_system j xs)) (steps_of i ys),
       )
 
-module _ {V : Type 0} {values : Values V} (laws : BufferLaws V) where
   pub turn_reads : (i t j : ℕ) (s : State values) → IsSound (s.world.histories t)
       → reader_place s i t ≤ count (s.world.histories t) → Reads i t s (own_moments i t j s) (after_turn_of j s)
   turn_reads i t j s sound within =
-      let own = job_passes laws t (s.members i).job s.world sound within in
-      let none = passes_nothing _ _ _ within (job_changes Grows (grown laws.grow) (s.members j).job s.world t sound) in
+      let own = job_passes t (s.members i).job s.world sound within in
+      let none = passes_nothing _ _ _ within (job_changes Grows grown (s.members j).job s.world t sound) in
       grind (arith, eqb_tells, entries_are t (after_job (s.members i).job s.world).steps, none, own, with_entries-none V)
 
   pub turns_read : (i t : ℕ) (js : List ℕ) (s : State values) → IsSound (s.world.histories t)

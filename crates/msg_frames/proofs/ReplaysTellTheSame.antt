@@ -1,10 +1,9 @@
 -- Logs that tell the same tell each system the same.
-use Rattle.std.proofs.Common.{arith, eqb, ◌≡◌, ◌≢◌, ℕ, ◌==◌, inl, inr, List, [], ◌∷◌, map, refl, Bool, false, suc, AllPairs, Contains, IsPermutation, flat_map, if◌then◌else◌, All}
-use Rattle.std.proofs.lemmas.{Bool.Decides.Decides-eqb, Map.Made.AllPairs-from_IsDistinct, Map.Made.IsDistinct-from_AllPairs, Map.Keys.IsDistinct-IsPermutation, List.Sorted.IsPermutation-map, List.Sorted.IsPermutation-sym, Bool.cases_Bool, Bool.eqb-true, Bool.Decides.eqb_tells, List.append-nil, List.get_or-map, List.length-map, List.Sorted.Contains-permutation, List.Sorted.list_any-IsPermutation, List.Folds.list_any_none}
-use Rattle.msg_frames.specs.Prelude.{Frame, Log, ReplaysTellTheSame, State, TellsTheSame, Turn, before_turns, frame, replies_of}
-use Rattle.msg_frames.specs.Frames.{turn_order}
-use Rattle.msg_frames.proofs.{ElementsAndPairs.pairs_tail, FramesInOrder.in_that_order, StatesStaySound.has_one_turn, ReaderOverTurns.answers_among}
-use Rattle.msg_order.proofs.Elements.{Contains-cases, not_in_none, Contains-list_any}
+use Rattle.std.proofs.Common.{All, AllPairs, Bool, Contains, IsPermutation, List, [], arith, eqb, false, flat_map, if◌then◌else◌, inl, inr, map, refl, suc, ℕ, ◌==◌, ◌∷◌, ◌≡◌, ◌≢◌}
+use Rattle.std.proofs.lemmas.{Bool.cases_Bool, Bool.eqb-true, Bool.Decides.Decides-eqb, Bool.Decides.eqb_tells, List.append-nil, List.get_or-map, List.length-map, List.Folds.list_any_none, List.Sorted.Contains-permutation, List.Sorted.IsPermutation-map, List.Sorted.IsPermutation-sym, List.Sorted.list_any-IsPermutation, Map.Keys.IsDistinct-IsPermutation, Map.Made.AllPairs-from_IsDistinct, Map.Made.IsDistinct-from_AllPairs}
+use Rattle.msg_frames.specs.{Frames.turn_order, Prelude.Frame, Prelude.Log, Prelude.ReplaysTellTheSame, Prelude.State, Prelude.TellsTheSame, Prelude.Turn, Prelude.before_turns, Prelude.frame, Prelude.replies_of}
+use Rattle.msg_frames.proofs.{ElementsAndPairs.pairs_tail, FramesInOrder.in_that_order, ReaderOverTurns.answers_among, StatesStaySound.has_one_turn}
+use Rattle.msg_order.proofs.Elements.{Contains-cases, Contains-list_any, not_in_none}
 use Rattle.std.specs.List.{list_any}
 use Rattle.msg_world.specs.Prelude.{Values}
 

@@ -1,11 +1,10 @@
 -- What turns and frames keep of the systems.
-use Rattle.std.proofs.Common.{◌≡◌, ℕ, ◌<◌, IsTrue, arith, List, [], ◌∷◌, map, refl, ◌∙◌, max, nat_le}
+use Rattle.std.proofs.Common.{IsTrue, List, [], arith, map, max, nat_le, refl, ℕ, ◌<◌, ◌∙◌, ◌∷◌, ◌≡◌}
 use Rattle.std.specs.List.{range_with_len}
-use Rattle.std.proofs.lemmas.{Bool.cases_Bool, Bool.cases_lt, Bool.false≢true, List.get_or_past, List.FromFn.length-map-range_with_len, Bool.Decides.eqb_tells, Simd.map-map}
-use Rattle.msg_world.specs.declared.access.Access.{Access}
+use Rattle.std.proofs.lemmas.{Bool.cases_Bool, Bool.cases_lt, Bool.false≢true, Bool.Decides.eqb_tells, List.get_or_past, List.FromFn.length-map-range_with_len, Simd.map-map}
+use Rattle.msg_world.specs.{Prelude.Values, declared.access.Access.Access}
 use Rattle.msg_order.specs.Prelude.{has_joined}
-use Rattle.msg_frames.specs.Prelude.{AreAccessesOf, Frame, FramesKeepSystems, NoCycle, SameSystems, State, UsesParts, after_turn_of, after_turns_of, before_turns, frame_in, join_flags, after_joining, with_joining}
-use Rattle.msg_world.specs.Prelude.{Values}
+use Rattle.msg_frames.specs.Prelude.{AreAccessesOf, Frame, FramesKeepSystems, NoCycle, SameSystems, State, UsesParts, after_joining, after_turn_of, after_turns_of, before_turns, frame_in, join_flags, with_joining}
 
 module _ {V : Type 0} {values : Values V} where
   same_systems : (s : State values) → SameSystems s s

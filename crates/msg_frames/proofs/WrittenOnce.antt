@@ -1,15 +1,13 @@
 -- Each type's list grows by exactly what the steps tell.
-use Rattle.std.proofs.Common.{◌≡◌, ℕ, zero, suc, ◌+◌, List, [], ◌∷◌, ◌++◌, map, length, Option, None, Some, refl, sym, ap, append-nil, append_assoc, arith, Contains, ◌∙◌, IsTrue}
+use Rattle.std.proofs.Common.{Contains, IsTrue, List, None, Option, Some, [], ap, append-nil, append_assoc, arith, length, map, refl, suc, sym, zero, ℕ, ◌++◌, ◌+◌, ◌∙◌, ◌∷◌, ◌≡◌}
 use Rattle.std.specs.List.{enumerate_from}
-use Rattle.std.proofs.lemmas.{Bool.cases_Bool, Bool.Decides.eqb_tells, List.length-map, List.map-append, Grind.flat_map-append}
+use Rattle.std.proofs.lemmas.{Bool.cases_Bool, Bool.Decides.eqb_tells, Grind.flat_map-append, List.length-map, List.map-append}
 use Rattle.msg_buffer.specs.Prelude.{Entry, History, count, has_room, stamped, write}
-use Rattle.msg_world.specs.{Prelude.WorldState, Prelude.after_update, Prelude.by, declared.record.Record.Record, declared.record.TheConstants.HOST, Prelude.Values}
-use Rattle.msg_system.specs.{declared.limits.TheConstants.MAX_OPS, declared.op.Op.Op, declared.op.Op.TheVariants.Write, declared.op.Op.TheVariants.Batch, declared.op.Op.TheVariants.Forward, declared.op.Op.TheVariants.Drain}
-use Rattle.msg_system.specs.Prelude.{AfterOp, AfterProgram, Step, Job, Meaning, after_at_most, after_job, after_op, again_by, next_op, one_more, took, turn}
-use Rattle.msg_frames.specs.Prelude.{Frame, IsSoundState, IsWrittenOnce, State, after_posts, after_turn_of, after_turns_of, all_written, before_turns, frame, post_steps, run, turns_steps, wrote}
-use Rattle.msg_frames.specs.Frames.{turn_order}
+use Rattle.msg_world.specs.{Prelude.Values, Prelude.WorldState, Prelude.after_update, Prelude.by, declared.record.Record.Record, declared.record.TheConstants.HOST}
+use Rattle.msg_system.specs.{Prelude.AfterOp, Prelude.AfterProgram, Prelude.Job, Prelude.Meaning, Prelude.Step, Prelude.after_at_most, Prelude.after_job, Prelude.after_op, Prelude.again_by, Prelude.next_op, Prelude.one_more, Prelude.took, Prelude.turn, declared.limits.TheConstants.MAX_OPS, declared.op.Op.Op, declared.op.Op.TheVariants.Batch, declared.op.Op.TheVariants.Drain, declared.op.Op.TheVariants.Forward, declared.op.Op.TheVariants.Write}
+use Rattle.msg_frames.specs.{Frames.turn_order, Prelude.Frame, Prelude.IsSoundState, Prelude.IsWrittenOnce, Prelude.State, Prelude.after_posts, Prelude.after_turn_of, Prelude.after_turns_of, Prelude.all_written, Prelude.before_turns, Prelude.frame, Prelude.post_steps, Prelude.run, Prelude.turns_steps, Prelude.wrote}
 use Rattle.msg_order.proofs.Elements.{Contains-head, Contains-tail}
-use Rattle.msg_frames.proofs.{ReaderOverJob.by_system, SystemsStay.joining_world, SystemsStay.one_turn_keeps, HistoriesGrow.BufferLaws, BeforeTurns.prepares, StatesStaySound.frame_sound, StatesStaySound.prepared_sound, StatesStaySound.turn_below}
+use Rattle.msg_frames.proofs.{BeforeTurns.prepares, ReaderOverJob.by_system, StatesStaySound.frame_sound, StatesStaySound.prepared_sound, StatesStaySound.turn_below, SystemsStay.joining_world, SystemsStay.one_turn_keeps}
 
 enumerate_from-append : {X : Type 0} (n : ℕ) (xs ys : List X)
     → enumerate_from n (xs ++ ys) ≡ enumerate_from n xs ++ enumerate_from (n + length xs) ys
@@ -121,14 +119,14 @@ module _ {V : Type 0} {values : Values V} (t : ℕ) where
     grew = rw (joining_world s) (rw (update_keeps s.world) at (posts_write posts (after_update s.world)).grew);
   }
 
-  module _ (laws : BufferLaws V) where
+  module _ where
     pub run_writes : (frames : List (Frame V)) (s : State values) → IsSoundState s
         → IsWrittenOnce t s.world (run frames s).steps (run frames s).state.world
     run_writes [] s sound = no_steps s.world
     run_writes (f ∷ fs) s sound =
         let b : State values = before_turns f.posts s in
-        let ready : IsSoundState b = prepared_sound s b sound (prepares laws.grow f.posts s) in
+        let ready : IsSoundState b = prepared_sound s b sound (prepares f.posts s) in
         let own = λ (i : ℕ) (at : Contains (turn_order b) i). ready.writers i (turn_below b i at) in
-        let rest = run_writes fs (frame f s).state (frame_sound laws f s sound) in
+        let rest = run_writes fs (frame f s).state (frame_sound f s sound) in
         written_further t _ _ _ ((run fs (frame f s).state).steps) _
         (written_further t _ _ _ _ _ (before_writes f.posts s) (turns_write (turn_order b) b own)) rest

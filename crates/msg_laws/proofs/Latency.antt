@@ -7,7 +7,7 @@ use Rattle.msg_world.specs.{Prelude.Values, Prelude.WorldState, Prelude.after_up
 use Rattle.msg_system.specs.Prelude.{Step}
 use Rattle.msg_order.specs.Prelude.{Path}
 use Rattle.msg_order.proofs.Elements.{Contains-cases, Contains-flat_map, Contains-head, Contains-range, Contains-tail, filter-Contains, flat_map-Contains, map-Contains, not_in_none}
-use Rattle.msg_frames.proofs.{BeforeTurns.Prepares, BeforeTurns.begun_within, BeforeTurns.comes, BeforeTurns.prepares, BeforeTurns.stood, BeforeTurns.waits, ElementsAndPairs.Cut, ElementsAndPairs.cut, ElementsAndPairs.pairs_head, ElementsAndPairs.pairs_right, HistoriesGrow.BufferLaws, LawfulOrdersAgree.lawful_forward, ReaderOverRun.run_follows, ReaderOverRun.runs_are_complete, ReaderOverTurns.turns_read, StatesStaySound.begun_alike, StatesStaySound.frame_sound, StatesStaySound.prepared_sound, StatesStaySound.turn_below, SystemsStay.frame_keeps, SystemsStay.turns_keep, WrittenOnce.before_writes, WrittenOnce.run_writes, WrittenOnce.turns_write, WrittenOnce.written_further}
+use Rattle.msg_frames.proofs.{BeforeTurns.Prepares, BeforeTurns.begun_within, BeforeTurns.comes, BeforeTurns.prepares, BeforeTurns.stood, BeforeTurns.waits, ElementsAndPairs.Cut, ElementsAndPairs.cut, ElementsAndPairs.pairs_head, ElementsAndPairs.pairs_right, LawfulOrdersAgree.lawful_forward, ReaderOverRun.run_follows, ReaderOverRun.runs_are_complete, ReaderOverTurns.turns_read, StatesStaySound.begun_alike, StatesStaySound.frame_sound, StatesStaySound.prepared_sound, StatesStaySound.turn_below, SystemsStay.frame_keeps, SystemsStay.turns_keep, WrittenOnce.before_writes, WrittenOnce.run_writes, WrittenOnce.turns_write, WrittenOnce.written_further}
 use Rattle.msg_frames.specs.{Frames.settled_order, Frames.turn_order, Prelude.IsSoundState, Prelude.IsTrueEntry, Prelude.IsWrittenOnce, Prelude.Moment, Prelude.State, Prelude.after_turn_of, Prelude.after_turns_of, Prelude.before_turns, Prelude.entries_in_run, Prelude.found_at, Prelude.frame, Prelude.has_begun, Prelude.moments, Prelude.numbers_missed, Prelude.post_steps, Prelude.reader_place, Prelude.run, Prelude.told, Prelude.turn_of, Prelude.turns_steps, Prelude.wrote, declared.frame.Frame.Frame}
 use Rattle.msg_laws.proofs.{OrderOfTurns.are_ordered, ReadersStayUpToDate.caught_up, ReadersStayUpToDate.frame_recent, ReadersStayUpToDate.has_frame_before, ReadersStayUpToDate.is_there, ReadersStayUpToDate.joined_by_turn, ReadersStayUpToDate.new_recent, StampsStayRecent.AreRecent, StampsStayRecent.earlier_recent, WritersInOrder.below_count}
 use Rattle.msg_laws.specs.Prelude.{AllReadersHaveItNext, HasTaken, LaterReadersHaveItAtOnce, NothingDrained, told_to}
@@ -51,7 +51,7 @@ module _ {V : Type 0} {values : Values V} (t n : ℕ) (m : Record V) where
 
 -- ---- what a run does with a message that is new in its first frame
 
-module _ {V : Type 0} {values : Values V} (laws : BufferLaws V) where
+module _ {V : Type 0} {values : Values V} where
   -- who has joined by the end of the first frame was found no further on than that frame's messages
   found_within : (f : Frame V) (fs : List (Frame V)) (s : State values) (j t : ℕ) → IsSoundState s → t < s.types
       → IsTrue (has_begun (frame f s).state j) → IsTrue (has_begun (run (f ∷ fs) s).state j)
@@ -59,12 +59,12 @@ module _ {V : Type 0} {values : Values V} (laws : BufferLaws V) where
   found_within f fs s j t sound below has still =
       let b : State values = before_turns f.posts s in
       let m : State values = (frame f s).state in
-      let prep : Prepares s b = prepares laws.grow f.posts s in
+      let prep : Prepares s b = prepares f.posts s in
       let ready : IsSoundState b = prepared_sound s b sound prep in
       let under : t < b.types = rw (prep.same.types) below in
       let keep = turns_keep (turn_order b) b in
-      let here = turns_read laws j t (turn_order b) b (ready.histories t under) (ready.places j t under) in
-      let later = run_follows laws j t fs m (frame_sound laws f s sound) (rw (keep.0.types) under) still in
+      let here = turns_read j t (turn_order b) b (ready.histories t under) (ready.places j t under) in
+      let later = run_follows j t fs m (frame_sound f s sound) (rw (keep.0.types) under) still in
       elim (prep.arrival j) [
         | stood was now same ↦ rw was (sound.places j t below)
         | comes was now new ↦ rw (was, later.totals, has, here.totals, new) (begun_within s j t below (sound.places j t below))
@@ -84,9 +84,9 @@ module _ {V : Type 0} {values : Values V} (laws : BufferLaws V) where
         let e = flat_map-Contains numbers_missed (map (λ x. x.entry) ms) n c in
         let x = map-Contains (λ x. x.entry) ms e.0 e.1.0 in
         let goes = All-contains (λ x. GoesOn x.history (u.world.histories t)) ms x.0
-        (run_follows laws j t (f ∷ fs) s sound below still).passes.earlier x.1.0 in
+        (run_follows j t (f ∷ fs) s sound below still).passes.earlier x.1.0 in
         let true = All-contains (IsTrueEntry (u.world.histories t)) ms x.0
-        ((runs_are_complete laws (f ∷ fs) s sound).served j t below still).true x.1.0 in
+        ((runs_are_complete (f ∷ fs) s sound).served j t below still).true x.1.0 in
         let gone = true.missed n (rw (x.1.1) e.1.1) in
         gone.1 (is_there p x.0.history n (earlier_recent 1 p _ _ goes recent) above
         (omega (arith, goes.floor, drained, (sound.histories t below).floor, above)) gone.0)
@@ -97,7 +97,7 @@ module _ {V : Type 0} {values : Values V} (laws : BufferLaws V) where
         let found : ℕ = found_at s u j t in
         let within = found_within f fs s j t sound below has still in
         record {
-          told = rw (((runs_are_complete laws (f ∷ fs) s sound).served j t below still).once)
+          told = rw (((runs_are_complete (f ∷ fs) s sound).served j t below still).once)
               (Contains-range found (reader_place u j t - found) n (omega (arith, within, above)) (omega (arith, passed, within, above)));
           not_missed = not_missed above recent;
         }
@@ -108,15 +108,15 @@ module _ {V : Type 0} {values : Values V} (laws : BufferLaws V) where
   all_next f next s i j t sound below has reads n m c =
       let p : ℕ = count (s.world.histories t) in
       let mid : State values = (frame f s).state in
-      let sound_mid : IsSoundState mid = frame_sound laws f s sound in
+      let sound_mid : IsSoundState mid = frame_sound f s sound in
       let below_mid : t < mid.types = rw ((frame_keeps (turn_order (before_turns f.posts s)) f s).types) below in
-      let wrote_once = rw (append-nil (frame f s).steps) at (run_writes t laws (f ∷ []) s sound) in
+      let wrote_once = rw (append-nil (frame f s).steps) at (run_writes t (f ∷ []) s sound) in
       let at = told_between t n m s.world (frame f s).steps mid.world wrote_once (told_by_one t n m i (frame f s).steps c) in
-      let passed = has_frame_before laws next mid j t sound_mid below_mid reads in
+      let passed = has_frame_before next mid j t sound_mid below_mid reads in
       let updated : AreRecent 1 p ((after_update mid.world).histories t) = λ k e from is.
-      grind (arith, cases_Bool, new_recent laws f s j t sound below k e from, is) in
-      has_taken f (next ∷ []) s j t n sound below has (joined_by_turn laws next mid j t sound_mid below_mid reads.has_turn)
-      at.0 (omega (arith, at.1, passed)) (frame_recent laws next mid j t sound_mid below_mid 1 p updated)
+      grind (arith, cases_Bool, new_recent f s j t sound below k e from, is) in
+      has_taken f (next ∷ []) s j t n sound below has (joined_by_turn next mid j t sound_mid below_mid reads.has_turn)
+      at.0 (omega (arith, at.1, passed)) (frame_recent next mid j t sound_mid below_mid 1 p updated)
 
 -- ---- at once
 
@@ -138,13 +138,12 @@ module _ {V : Type 0} {values : Values V} where
       rw (filter-append (λ x. x.0 == i) (map (λ x. (j, x)) (turn_of s j).steps) (turns_steps js (after_turn_of j s)), others)
       (no_steps_of i js (after_turn_of j s) (λ at. out (Contains-tail j js i at)))
 
-module _ {V : Type 0} {values : Values V} (laws : BufferLaws V) where
   pub later_at_once : LaterReadersHaveItAtOnce values
   later_at_once f s i j t sound below path reads n m c =
       let b : State values = before_turns f.posts s in
       let g = settled_order b in
       let order : List ℕ = turn_order b in
-      let ready : IsSoundState b = prepared_sound s b sound (prepares laws.grow f.posts s) in
+      let ready : IsSoundState b = prepared_sound s b sound (prepares f.posts s) in
       let ordered = are_ordered b ready.no_cycle in
       let cuts : Cut order j = cut order j reads.has_turn in
       let forward = rw (cuts.is) at (lawful_forward g _ order ordered.once) in
@@ -168,7 +167,7 @@ module _ {V : Type 0} {values : Values V} (laws : BufferLaws V) where
       ready.writers k (turn_below b k (rw (cuts.is) (Contains-append_left cuts.before (j ∷ cuts.rest) k at))) in
       let once = written_further t _ _ _ _ _ (before_writes t f.posts s) (turns_write t cuts.before b own) in
       let at = told_between t n m s.world early found.world once (told_by_one t n m i early (rw all_early at c)) in
-      let passed = caught_up laws f s j t sound below reads cuts.before cuts.rest cuts.is in
-      let has = joined_by_turn laws f s j t sound below reads.has_turn in
-      has_taken laws f [] s j t n sound below has has at.0 (omega (arith, at.1, passed))
-      (λ k e from is. omega (arith, new_recent laws f s j t sound below k e from is))
+      let passed = caught_up f s j t sound below reads cuts.before cuts.rest cuts.is in
+      let has = joined_by_turn f s j t sound below reads.has_turn in
+      has_taken f [] s j t n sound below has has at.0 (omega (arith, at.1, passed))
+      (λ k e from is. omega (arith, new_recent f s j t sound below k e from is))

@@ -33,7 +33,7 @@ module _ {V : Type 0} {values : Values V} where
       let m = (a.members i).job.system in
       grind (arith, append_assoc, entries_told-append t m.needs m.rule xs ys, map-append)
 
-  pub tells_these : {i t : ℕ} {s : State values} {xs : List (List (Reply V))} {ms ns : List (Moment V)} {u : State values} → ms ≡ ns
+  tells_these : {i t : ℕ} {s : State values} {xs : List (List (Reply V))} {ms ns : List (Moment V)} {u : State values} → ms ≡ ns
       → Tells i t s xs ns u → Tells i t s xs ms u
   tells_these same x = rw same x
 
@@ -57,8 +57,7 @@ module _ {V : Type 0} {values : Values V} where
   pub turns_tell : (i t : ℕ) (js : List ℕ) (s : State values)
       → Tells i t s (answers_among i (after_turns_of js s).turns) (turns_moments i t js s) (after_turns_of js s).state
   turns_tell i t [] s = record { entries = refl; rule = refl; needs = refl }
-  turns_tell i t (j ∷ js) s =
-      tells_these (turns_further i t j js s)
+  turns_tell i t (j ∷ js) s = tells_these (turns_further i t j js s)
       (tells_further i t s (cond (j == i) (replies_of (logged_turn s j).outcome) []) (own_moments i t j s) _ _ _ _
       (turn_tells i t j s) (turns_tell i t js (after_turn_of j s)))
 

@@ -4,7 +4,7 @@ use Rattle.std.proofs.lemmas.{Bool.Decides.eqb_tells, List.Elements.All-contains
 use Rattle.msg_buffer.specs.Prelude.{GoesOn, count}
 use Rattle.msg_system.specs.Prelude.{after_job}
 use Rattle.msg_world.specs.Prelude.{Values}
-use Rattle.msg_frames.proofs.{BatchesSideBySide.turns_then_more, BeforeTurns.Prepares, BeforeTurns.prepares, ElementsAndPairs.all_middle, ElementsAndPairs.pairs_head, ElementsAndPairs.pairs_middle, ElementsAndPairs.pairs_right, HistoriesGrow.BufferLaws, HistoriesGrow.Grows, HistoriesGrow.goes_further, HistoriesGrow.grown, HistoriesGrow.turns_change, ReaderOverTurns.Reads, ReaderOverTurns.turns_moments, ReaderOverTurns.turns_read, ReaderOverTurns.turns_skip, StatesStaySound.has_one_turn, StatesStaySound.prepared_sound}
+use Rattle.msg_frames.proofs.{BatchesSideBySide.turns_then_more, BeforeTurns.Prepares, BeforeTurns.prepares, ElementsAndPairs.all_middle, ElementsAndPairs.pairs_head, ElementsAndPairs.pairs_middle, ElementsAndPairs.pairs_right, HistoriesGrow.Grows, HistoriesGrow.goes_further, HistoriesGrow.grown, HistoriesGrow.turns_change, ReaderOverTurns.Reads, ReaderOverTurns.turns_moments, ReaderOverTurns.turns_read, ReaderOverTurns.turns_skip, StatesStaySound.has_one_turn, StatesStaySound.prepared_sound}
 use Rattle.msg_frames.specs.{Frames.turn_order, Prelude.AfterTurns, Prelude.IsSoundState, Prelude.State, Prelude.after_turn_of, Prelude.after_turns_of, Prelude.before_turns, Prelude.frame, Prelude.logged_turn, Prelude.reader_place, declared.frame.Frame.Frame, declared.log.Turn.Turn}
 
 module _ {V : Type 0} {values : Values V} (f : Frame V) (s : State values) (i : ℕ) (earlier later : List ℕ)
@@ -23,8 +23,7 @@ module _ {V : Type 0} {values : Values V} (f : Frame V) (s : State values) (i : 
   not_earlier at = All-contains (λ k. k ≢ i) earlier i (pairs_middle (λ j k. j ≢ k) earlier i later once).0 at refl
 
   pub not_later : ¬ Contains later i
-  not_later at =
-      All-contains (λ k. i ≢ k) later i
+  not_later at = All-contains (λ k. i ≢ k) later i
       (pairs_head (λ j k. j ≢ k) i later (pairs_right (λ j k. j ≢ k) earlier (i ∷ later) once)) at refl
 
   split : after_turns_of (turn_order begun) begun ≡
@@ -47,15 +46,15 @@ module _ {V : Type 0} {values : Values V} (f : Frame V) (s : State values) (i : 
   pub job_left : ((frame f s).state.members i).job ≡ (after_job (found.members i).job found.world).job
   job_left = grind (arith, left_is, turns_skip i 0 later (after_turn_of i found) not_later, eqb_tells)
 
-  module _ (laws : BufferLaws V) (t : ℕ) (sound : IsSoundState s) (below : t < s.types) where
+  module _ (t : ℕ) (sound : IsSoundState s) (below : t < s.types) where
     prep : Prepares s begun
-    prep = prepares laws.grow f.posts s
+    prep = prepares f.posts s
 
     others : Reads i t begun (turns_moments i t earlier begun) found
     others =
         let ready : IsSoundState begun = prepared_sound s begun sound prep in
         let under : t < begun.types = rw (prep.same.types) below in
-        turns_read laws i t earlier begun (ready.histories t under) (ready.places i t under)
+        turns_read i t earlier begun (ready.histories t under) (ready.places i t under)
 
     pub goes_to_turn : GoesOn (s.world.histories t) (found.world.histories t)
     goes_to_turn = goes_further _ _ _ (prep.world t (sound.histories t below)) others.passes.goes_on
@@ -64,4 +63,4 @@ module _ {V : Type 0} {values : Values V} (f : Frame V) (s : State values) (i : 
     within_turn = others.passes.within
 
     pub goes_from_turn : GoesOn (found.world.histories t) ((frame f s).state.world.histories t)
-    goes_from_turn = rw left_is (turns_change Grows (grown laws.grow) (i ∷ later) found t goes_to_turn.sound)
+    goes_from_turn = rw left_is (turns_change Grows grown (i ∷ later) found t goes_to_turn.sound)

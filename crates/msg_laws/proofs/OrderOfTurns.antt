@@ -13,8 +13,7 @@ use Rattle.std.specs.List.{concat, list_any}
 
 -- needs are in conflict with others if those are with them
 conflict_either : (m n : Needs) → needs_conflict m n ≡ needs_conflict n m
-conflict_either m n =
-    ap (λ (test : Part → Bool). list_any test parts)
+conflict_either m n = ap (λ (test : Part → Bool). list_any test parts)
     (λ k p. or_comm (m.writes p && needs_any n p) (n.writes p && needs_any m p) k)
 
 module _ {V : Type 0} {values : Values V} where

@@ -2,8 +2,7 @@
 use Rattle.std.proofs.Common.{All, Contains, IsTrue, List, [], ap, arith, false, length, ℕ, ◌<◌, ◌∷◌, ◌≡◌, ◌≢◌, ◌≤◌}
 use Rattle.std.proofs.lemmas.{Bool.cases_Bool, Bool.false≢true, List.Elements.All-cons, List.Elements.All-nil, List.FromFn.get_or-map-range_with_len}
 use Rattle.std.specs.List.{list_any}
-use Rattle.msg_buffer.specs.Prelude.{OnlyGrows}
-use Rattle.msg_world.specs.{Prelude.Values, Prelude.WorldState, declared.record.Record.Record}
+use Rattle.msg_world.specs.Prelude.{Values, WorldState}
 use Rattle.msg_system.specs.{Prelude.IsInOrder, Prelude.Job, Prelude.after_job, Prelude.after_start, Prelude.of_program, Prelude.program_needs, Prelude.started_places, declared.limits.TheConstants.MAX_OPS, declared.program.Program.Program}
 use Rattle.msg_frames.proofs.{BeforeTurns.Prepares, BeforeTurns.comes, BeforeTurns.prepares, BeforeTurns.stood, Functions.order_is, ReaderOverTurns.one_member, SystemsStay.no_cycle_stays}
 use Rattle.msg_frames.specs.{Frames.turn_order, Prelude.NoCycle, Prelude.State, Prelude.after_turn_of, Prelude.after_turns_of, Prelude.before_turns, Prelude.counts, Prelude.frame, Prelude.has_begun, declared.frame.Frame.Frame, declared.log.Outcome.TheVariants.Skipped}
@@ -27,27 +26,27 @@ module _ {V : Type 0} {values : Values V} (in_order : IsInOrder values) (program
       turns_stay i js (after_turn_of j s)
       (one_member (λ m. IsProgram m.job) j i s (λ e. job_stays (s.members i).job s.world is) (λ ne. is))
 
-  before_stays : OnlyGrows (Record V) → (posts : List (ℕ × V)) (s : State values) (i : ℕ) → IsProgram (s.members i).job
+  before_stays : (posts : List (ℕ × V)) (s : State values) (i : ℕ) → IsProgram (s.members i).job
       → IsProgram ((before_turns posts s).members i).job
-  before_stays grow posts s i is = elim ((prepares grow posts s).arrival i) [
+  before_stays posts s i is = elim ((prepares posts s).arrival i) [
     | stood was now same ↦ rw same is
     | comes was now new ↦ rw new
         (started_places (program_needs program.ops) program.start (counts s) is.0, ap (after_start (counts s)) is.1)
     | before.waits was now same ↦ rw same is
   ]
 
-  frame_stays : OnlyGrows (Record V) → (f : Frame V) (s : State values) (i : ℕ) → IsProgram (s.members i).job
+  frame_stays : (f : Frame V) (s : State values) (i : ℕ) → IsProgram (s.members i).job
       → IsProgram ((frame f s).state.members i).job
-  frame_stays grow f s i is =
+  frame_stays f s i is =
       let b : State values = before_turns f.posts s in
-      turns_stay i (turn_order b) b (before_stays grow f.posts s i is)
+      turns_stay i (turn_order b) b (before_stays f.posts s i is)
 
-  pub reads_when_woken : OnlyGrows (Record V) → (t : ℕ) → IsTrue (list_any (reads_all t) program.ops)
+  pub reads_when_woken : (t : ℕ) → IsTrue (list_any (reads_all t) program.ops)
       → (frames : List (Frame V)) (s : State values) (i : ℕ) → IsProgram (s.members i).job → ReadsAllWhenWoken i t frames s
-  reads_when_woken grow t reads [] s i is = tt
-  reads_when_woken grow t reads (f ∷ fs) s i is =
-      let stays = frame_stays grow f s i is in
-      (λ woken. rw (stays.1) reads, reads_when_woken grow t reads fs (frame f s).state i stays)
+  reads_when_woken t reads [] s i is = tt
+  reads_when_woken t reads (f ∷ fs) s i is =
+      let stays = frame_stays f s i is in
+      (λ woken. rw (stays.1) reads, reads_when_woken t reads fs (frame f s).state i stays)
 
 module _ {V : Type 0} {values : Values V} where
   -- who has no conditions isn't skipped, and has none afterwards
@@ -65,14 +64,14 @@ module _ {V : Type 0} {values : Values V} where
       let joins = get_or-map-range_with_len (has_begun b) 0 b.systems i i false there in
       ((order_is b free).of_joined i).1 (grind (arith, joins, has))
 
-  pub programs_read_all : OnlyGrows (Record V) → IsInOrder values → WhoseProgramReadsAll values
-  programs_read_all grow in_order f s i t program writer places free there has was few reads =
+  pub programs_read_all : IsInOrder values → WhoseProgramReadsAll values
+  programs_read_all in_order f s i t program writer places free there has was few reads =
       let b : State values = before_turns f.posts s in
-      let prep : Prepares s b = prepares grow f.posts s in
+      let prep : Prepares s b = prepares f.posts s in
       let begun : IsTrue (has_begun b i) = grind (arith, false≢true, prep.arrival i) in
       let ran = turns_ran i (turn_order b) b (grind (arith, was, prep.arrival i)) in
       let stays : IsProgram in_order program writer few ((frame f s).state.members i).job =
-      frame_stays in_order program writer few grow f s i (places, grind (arith, was)) in (
+      frame_stays in_order program writer few f s i (places, grind (arith, was)) in (
         record {
           has_turn = has_turn b i (no_cycle_stays s b prep.same free) (rw (prep.same.systems) there) begun;
           ran = ran.0;
@@ -81,6 +80,6 @@ module _ {V : Type 0} {values : Values V} where
         (stays.0, grind (arith, stays.1, ran.1)),
       )
 
-  pub programs_when_woken : OnlyGrows (Record V) → IsInOrder values → WhoseProgramReadsAllWhenWoken values
-  programs_when_woken grow in_order frames s i t program writer places is few reads =
-      reads_when_woken in_order program writer few grow t reads frames s i (places, is)
+  pub programs_when_woken : IsInOrder values → WhoseProgramReadsAllWhenWoken values
+  programs_when_woken in_order frames s i t program writer places is few reads =
+      reads_when_woken in_order program writer few t reads frames s i (places, is)

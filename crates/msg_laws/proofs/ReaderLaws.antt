@@ -1,5 +1,5 @@
 -- What follows of readers from the laws of frames.
-use Rattle.msg_frames.proofs.{HistoriesGrow.BufferLaws, ReaderOverRun.run_follows, ReaderOverRun.runs_are_complete}
+use Rattle.msg_frames.proofs.ReaderOverRun.{run_follows, runs_are_complete}
 use Rattle.msg_frames.specs.{Prelude.State, Prelude.first_state, Prelude.has_begun, Prelude.reader_place, Prelude.totals_from, declared.place.Place.Place}
 use Rattle.msg_laws.specs.Prelude.{AccountsBeginAtTheStart, ReadersTile}
 use Rattle.msg_order.specs.declared.rule.Rule.{Rule}
@@ -17,15 +17,15 @@ module _ {V : Type 0} {values : Values V} where
       ≡ totals_from (reader_place (first_state systems places rules types world) i t)
   first_accounts systems places rules types world i t late has = grind (arith, cases_Bool, eqb_tells, nat_tests)
 
-  pub readers_tile : BufferLaws V → ReadersTile values
-  readers_tile laws frames s sound i t below has =
-      let passes = (run_follows laws i t frames s sound below has).passes in
+  pub readers_tile : ReadersTile values
+  readers_tile frames s sound i t below has =
+      let passes = (run_follows i t frames s sound below has).passes in
       record { tile = passes.tile; gives = passes.gives }
 
   -- from a first state a reader was found with new accounts
-  pub accounts_begin : BufferLaws V → AccountsBeginAtTheStart values
-  accounts_begin laws systems places rules types world frames i t sound below has =
+  pub accounts_begin : AccountsBeginAtTheStart values
+  accounts_begin systems places rules types world frames i t sound below has =
       let s : State values = first_state systems places rules types world in
-      let served = (runs_are_complete laws frames s sound).served i t below has in
+      let served = (runs_are_complete frames s sound).served i t below has in
       let new = first_accounts systems places rules types world i t (sound.joins i) in
       grind (arith, cases_Bool, served.totals, new)

@@ -1,9 +1,9 @@
 -- A reader that reads all in each frame is up to date, and so it misses nothing.
 use Rattle.std.proofs.Common.{All, Contains, IsTrue, List, [], arith, get_or, inl, inr, map, refl, suc, ℕ, ◌++◌, ◌<◌, ◌∷◌, ◌≡◌, ◌≢◌, ◌≤◌}
 use Rattle.std.proofs.lemmas.{Bool.cases_Bool, Bool.cases_eq, Bool.false≢true, Bool.Decides.nat_tests, List.append-nil, List.Elements.All-append, List.Elements.All-cons, List.Elements.All-head, List.Elements.All-map, List.Elements.All-nil, List.Elements.All-tail, Option.same_Some, Option.slice_get_cases, Option.slice_get_within}
-use Rattle.msg_buffer.specs.Prelude.{Fits, GoesOn, History, IsPresent, OnlyGrows, Stretch, Tile, count, next_place, update}
+use Rattle.msg_buffer.specs.Prelude.{Fits, GoesOn, History, IsPresent, Stretch, Tile, count, next_place, update}
 use Rattle.msg_world.specs.{Prelude.Values, Prelude.after_update, declared.record.Record.Record}
-use Rattle.msg_frames.proofs.{BeforeTurns.Prepares, BeforeTurns.prepares, ElementsAndPairs.Cut, ElementsAndPairs.cut, HistoriesGrow.BufferLaws, HistoriesGrow.Grows, HistoriesGrow.counts_more, HistoriesGrow.frame_goes_on, HistoriesGrow.grown, HistoriesGrow.posts_change, HistoriesGrow.stays, HistoriesGrow.turns_change, ReaderOverJob.IsWritten, ReaderOverJob.tile_of, ReaderOverRun.run_further, ReaderOverTurns.turns_moments, ReaderOverTurns.turns_read, StatesStaySound.begun_alike, StatesStaySound.frame_sound, StatesStaySound.has_no_turn, StatesStaySound.prepared_sound, SystemsStay.frame_keeps, SystemsStay.joining_world, SystemsStay.turns_keep}
+use Rattle.msg_frames.proofs.{BeforeTurns.Prepares, BeforeTurns.prepares, ElementsAndPairs.Cut, ElementsAndPairs.cut, HistoriesGrow.Grows, HistoriesGrow.counts_more, HistoriesGrow.frame_goes_on, HistoriesGrow.grown, HistoriesGrow.posts_change, HistoriesGrow.stays, HistoriesGrow.turns_change, ReaderOverJob.IsWritten, ReaderOverJob.tile_of, ReaderOverRun.run_further, ReaderOverTurns.turns_moments, ReaderOverTurns.turns_read, StatesStaySound.begun_alike, StatesStaySound.frame_sound, StatesStaySound.has_no_turn, StatesStaySound.prepared_sound, SystemsStay.frame_keeps, SystemsStay.joining_world, SystemsStay.turns_keep}
 use Rattle.msg_frames.specs.{Frames.turn_order, Prelude.IsSoundState, Prelude.Moment, Prelude.State, Prelude.after_joining, Prelude.after_turns_of, Prelude.before_turns, Prelude.frame, Prelude.has_begun, Prelude.moments, Prelude.reader_place, Prelude.run, declared.frame.Frame.Frame, declared.log.Outcome.TheVariants.Skipped}
 use Rattle.msg_laws.proofs.{OneTurn.goes_to_turn, OneTurn.in_log, OneTurn.job_left, OneTurn.within_turn, ReadersTakeAll.job_takes, StampsStayRecent.AreRecent, StampsStayRecent.StaysRecent, StampsStayRecent.earlier_recent, StampsStayRecent.stays_recent}
 use Rattle.msg_laws.specs.Prelude.{IsUpToDate, ListsOnlyGrow, NothingDrained, ReadsAll, ReadsAllInEach, WhoIsUpToDateMissesNothing, WhoReadsEachFrameMissesNothing}
@@ -39,14 +39,13 @@ module _ {V : Type 0} where
       All-cons (λ m. m.entry.stretch.missed ≡ 0) m ms (here (λ n from lt. there 0 m (omega arith) n (omega (arith, above, from)) lt))
       (rest (λ k d lt. there (suc k) d (omega arith)) (omega (arith, tile.0.first)))
 
-module _ {V : Type 0} {values : Values V} (grow : OnlyGrows (Record V)) where
+module _ {V : Type 0} {values : Values V} where
   pub runs_go_on : ListsOnlyGrow values
   runs_go_on [] s t = stays _
   runs_go_on (f ∷ fs) s t =
-      (grown grow).further _ _ _ (frame_goes_on grow (turn_order (before_turns f.posts s)) f s t)
+      grown.further _ _ _ (frame_goes_on (turn_order (before_turns f.posts s)) f s t)
       (runs_go_on fs (frame f s).state t)
 
-module _ {V : Type 0} {values : Values V} (laws : BufferLaws V) where
   module _ (f : Frame V) (s : State values) (i t : ℕ) (sound : IsSoundState s) (below : t < s.types) where
     abbrev b : State values
     b = before_turns f.posts s
@@ -58,7 +57,7 @@ module _ {V : Type 0} {values : Values V} (laws : BufferLaws V) where
     u = (frame f s).state
 
     prep : Prepares s b
-    prep = prepares laws.grow f.posts s
+    prep = prepares f.posts s
 
     ready : IsSoundState b
     ready = prepared_sound s b sound prep
@@ -71,21 +70,20 @@ module _ {V : Type 0} {values : Values V} (laws : BufferLaws V) where
     caught_up reads earlier later is =
         let found : State values = (after_turns_of earlier b).state in
         let left = job_left f s i earlier later is in
-        rw (reader_place, left) (job_takes laws t (found.members i).job found.world
-        (goes_to_turn f s i earlier later is laws t sound below).sound (within_turn f s i earlier later is laws t sound below)
+        rw (reader_place, left) (job_takes t (found.members i).job found.world
+        (goes_to_turn f s i earlier later is t sound below).sound (within_turn f s i earlier later is t sound below)
         (in_log f s i earlier later is (λ turn. turn.system ≡ i → turn.outcome ≢ Skipped) reads.ran refl) (rw left at reads.read_all))
 
     pub has_frame_before : ReadsAll i t f s → count (s.world.histories t) ≤ reader_place u i t
     has_frame_before reads =
         let parts : Cut order i = cut _ _ reads.has_turn in
         let first = counts_more _ _ (prep.world t (sound.histories t below)) in
-        let more = counts_more _ _ (turns_change Grows (grown laws.grow) parts.before b t (ready.histories t under)) in
+        let more = counts_more _ _ (turns_change Grows grown parts.before b t (ready.histories t under)) in
         omega (arith, caught_up reads _ _ parts.is, first, more)
 
     -- a frame keeps recent what its update leaves recent
     pub frame_recent : (k p : ℕ) → AreRecent k p ((after_update s.world).histories t) → AreRecent k p (u.world.histories t)
-    frame_recent k p recent =
-        turns_change (StaysRecent k p) (stays_recent k p) order b t
+    frame_recent k p recent = turns_change (StaysRecent k p) (stays_recent k p) order b t
         (posts_change (StaysRecent k p) (stays_recent k p) f.posts (after_update (after_joining s).world) t
         (rw (joining_world s) recent))
 
@@ -121,7 +119,7 @@ module _ {V : Type 0} {values : Values V} (laws : BufferLaws V) where
     pub frame_misses_none : IsTrue (has_begun s i) → IsUpToDate s i t → NothingDrained t s u
         → NoneMissed (turns_moments i t order b)
     frame_misses_none has up drained =
-        let reads = turns_read laws i t order b (ready.histories t under) (ready.places i t under) in
+        let reads = turns_read i t order b (ready.histories t under) (ready.places i t under) in
         tile_misses_none (reader_place s i t) _ _ _ reads.passes.tile reads.passes.written
         (present_at _ up drained reads.passes.earlier) (grind (arith, false≢true, prep.arrival i))
 
@@ -146,10 +144,10 @@ module _ {V : Type 0} {values : Values V} (laws : BufferLaws V) where
       → Between t s (frame f s).state (run (f ∷ frames) s).state
   between f frames s t sound below drained =
       let order : List ℕ = turn_order (before_turns f.posts s) in
-      let goes = frame_goes_on laws.grow order f s t (sound.histories t below) in
+      let goes = frame_goes_on order f s t (sound.histories t below) in
       let types = (frame_keeps order f s).types in
-      let later = runs_go_on laws.grow frames (frame f s).state t in
-      grind (arith, frame_sound laws f s sound, goes, types, later, drained)
+      let later = runs_go_on frames (frame f s).state t in
+      grind (arith, frame_sound f s sound, goes, types, later, drained)
 
   -- who reads all in a frame misses nothing in the frames after it, in each of which it reads all
   missed_after : (f : Frame V) (frames : List (Frame V)) (s : State values) (i t : ℕ) → IsSoundState s → t < s.types

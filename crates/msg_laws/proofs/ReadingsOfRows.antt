@@ -4,18 +4,15 @@ use Rattle.std.proofs.Common.{List, Some, [], pos, refl, ℤ, ◌∷◌, ◌≡�
 use Rattle.msg_world.specs.{Prelude.by, Prelude.i64_values, declared.record.TheConstants.HOST}
 use Rattle.msg_system.specs.{Prelude.turn, declared.op.Op.TheVariants.Clear, declared.op.Op.TheVariants.Read}
 use Rattle.msg_frames.specs.{Frames.parts, Frames.settled_order, Frames.turn_order, Prelude.AfterRun, Prelude.ReadEntry, Prelude.State, Prelude.found_at, Prelude.reader_place}
-use Rattle.msg_laws.specs.{Prelude.cleared, Prelude.given, Prelude.log_entries, Prelude.messages_given, Prelude.missed, Prelude.numbers_of, Rows.Setup, Rows.always, Rows.from_frame, Rows.post, Rows.program, Rows.run_of, Rows.setup, Rows.setup_state}
-
-abbrev readers : Setup
-readers =
-    setup (program (Read 0 (Some 1) ∷ []) ∷ program (Clear 0 ∷ []) ∷ []) (always ∷ from_frame 3 ∷ []) [] (9 ∷ []) []
+use Rattle.msg_laws.specs.{Prelude.cleared, Prelude.given, Prelude.log_entries, Prelude.messages_given, Prelude.missed, Prelude.numbers_of, Rows.always, Rows.from_frame, Rows.post, Rows.program, Rows.run_of, Rows.setup}
 
 abbrev start : State i64_values
-start = setup_state readers
+start =
+    setup (program (Read 0 (Some 1) ∷ []) ∷ program (Clear 0 ∷ []) ∷ []) (always ∷ from_frame 3 ∷ []) [] (9 ∷ []) []
 
 -- by the third frame the messages of the first are dropped
 abbrev end : AfterRun i64_values
-end = run_of (((0, pos 5) ∷ (0, pos 6) ∷ (0, pos 7) ∷ []) ∷ [] ∷ post (pos 8) ∷ []) readers
+end = run_of (((0, pos 5) ∷ (0, pos 6) ∷ (0, pos 7) ∷ []) ∷ [] ∷ post (pos 8) ∷ []) start
 
 abbrev read : List (ReadEntry ℤ)
 read = log_entries 0 0 (start.members 0).job.system end.logs

@@ -33,10 +33,6 @@ module _ {V : Type 0} {values : Values V} where
       let far : AfterProgram values = after_at_most n (next_op m) m.writer m.places w in
       one_answered i (next_op m far.replies) m.writer far (first_answered i n m w)
 
-  turn_answered : (i : ℕ) (m : Meaning V) (w : WorldState values) → Answers i (turn m w).steps (turn m w).replies
-  unfolding turn
-  turn_answered i m w = first_answered i MAX_OPS m w
-
 module _ {V : Type 0} where
   abbrev told_in : Turn V → List (ℕ × Reply V)
   told_in turn = flat_map (answers_by turn.system) (replies_of turn.outcome)
@@ -44,7 +40,8 @@ module _ {V : Type 0} where
 module _ {V : Type 0} {values : Values V} where
   job_answered : (i : ℕ) (j : Job V) (w : WorldState values) → map answer_to (by_system i (after_job j w).steps)
       ≡ told_in (record { system = i; outcome = outcome_of (after_job j w).replies })
-  job_answered i j w = grind (arith, append-nil, cases_Bool, turn_answered i j.system w)
+  unfolding turn
+  job_answered i j w = grind (arith, append-nil, cases_Bool, first_answered i MAX_OPS j.system w)
 
   turns_answered : (is : List ℕ) (s : State values) → map answer_to (turns_steps is s)
       ≡ flat_map told_in (after_turns_of is s).turns

@@ -6,7 +6,7 @@ use Rattle.msg_buffer.specs.Prelude.{GoesOn, History, IsPresent, IsSound, count,
 use Rattle.msg_buffer.proofs.{Presence.not_present, Unread.length-unread}
 use Rattle.msg_world.specs.{Prelude.Values, Prelude.WorldState, declared.record.Record.Record}
 use Rattle.msg_system.specs.{Prelude.Asked, Prelude.Job, Prelude.after_job, Prelude.all_hold, declared.condition.Probe.TheVariants.OnMessage}
-use Rattle.msg_frames.proofs.{BeforeTurns.prepares, ElementsAndPairs.Cut, ElementsAndPairs.cut, HistoriesGrow.BufferLaws, HistoriesGrow.counts_more, ReaderOverRun.run_further, SystemsStay.frame_keeps, SystemsStay.no_cycle_stays}
+use Rattle.msg_frames.proofs.{BeforeTurns.prepares, ElementsAndPairs.Cut, ElementsAndPairs.cut, HistoriesGrow.counts_more, ReaderOverRun.run_further, SystemsStay.frame_keeps, SystemsStay.no_cycle_stays}
 use Rattle.msg_frames.specs.{Frames.turn_order, Prelude.IsSoundState, Prelude.State, Prelude.after_turns_of, Prelude.before_turns, Prelude.frame, Prelude.has_begun, Prelude.moments, Prelude.outcome_of, Prelude.reader_place, Prelude.run, declared.frame.Frame.Frame, declared.log.Outcome.TheVariants.Skipped}
 use Rattle.msg_laws.proofs.{OneTurn.goes_from_turn, OneTurn.goes_to_turn, OneTurn.in_log, OneTurn.job_left, OneTurn.member_found, OneTurn.within_turn, ProgramsReadAll.has_turn, ReadersStayUpToDate.Between, ReadersStayUpToDate.NoneMissed, ReadersStayUpToDate.all_there, ReadersStayUpToDate.between, ReadersStayUpToDate.frame_misses_none, ReadersStayUpToDate.joined_by_turn, ReadersStayUpToDate.past_frame, ReadersTakeAll.job_takes}
 use Rattle.msg_laws.specs.Prelude.{IsSkipped, IsUpToDate, IsWokenBy, NoWakeUpIsLost, NothingDrained, NothingUnread, ReadsAllIfWoken, ReadsAllWhenWoken, WhoIsWokenStaysSo, WhoSleepsHasNothingUnread, reads_all}
@@ -62,20 +62,20 @@ module _ {V : Type 0} {values : Values V} (t : ℕ) where
         ⊎ (((after_job j w).job.system.places t ≡ j.system.places t)
         × Gone (j.system.places t) (count (w.histories t)) (w.histories t))
 
-    came_or_slept : BufferLaws V → IsSound (w.histories t) → j.system.places t ≤ count (w.histories t)
+    came_or_slept : IsSound (w.histories t) → j.system.places t ≤ count (w.histories t)
         → Gone (j.system.places t) c (w.histories t)
         → (outcome_of (after_job j w).replies ≢ Skipped → IsTrue (list_any (reads_all t) (after_job j w).job.system.last))
         → CameOrSlept
-    came_or_slept laws sound within gone reads = elim (cases_Bool (all_hold j.conditions w)) [
+    came_or_slept sound within gone reads = elim (cases_Bool (all_hold j.conditions w)) [
       | inl holds ↦
           let ran : outcome_of (after_job j w).replies ≢ Skipped = grind (arith, holds) in
-          inl (job_takes laws t j w sound within ran (reads ran))
+          inl (job_takes t j w sound within ran (reads ran))
       | inr fails ↦ inr (grind (arith, fails), slept sound gone (grind (arith, fails)))
     ]
 
 -- ---- a frame
 
-module _ {V : Type 0} {values : Values V} (laws : BufferLaws V) (f : Frame V) (s : State values) (i t : ℕ) (sound : IsSoundState s)
+module _ {V : Type 0} {values : Values V} (f : Frame V) (s : State values) (i t : ℕ) (sound : IsSoundState s)
     (below : t < s.types) (has : IsTrue (has_begun s i)) (woken : IsWokenBy t i s) (earlier later : List ℕ)
     (is : turn_order (before_turns f.posts s) ≡ earlier ++ i ∷ later) where
   abbrev found : State values
@@ -85,13 +85,13 @@ module _ {V : Type 0} {values : Values V} (laws : BufferLaws V) (f : Frame V) (s
   u = (frame f s).state
 
   to_turn : GoesOn (s.world.histories t) (found.world.histories t)
-  to_turn = goes_to_turn f s i earlier later is laws t sound below
+  to_turn = goes_to_turn f s i earlier later is t sound below
 
   from_turn : GoesOn (found.world.histories t) (u.world.histories t)
-  from_turn = goes_from_turn f s i earlier later is laws t sound below
+  from_turn = goes_from_turn f s i earlier later is t sound below
 
   stood : found.members i ≡ s.members i
-  stood = member_found f s i earlier later is ∙ grind (arith, false≢true, (prepares laws.grow f.posts s).arrival i)
+  stood = member_found f s i earlier later is ∙ grind (arith, false≢true, (prepares f.posts s).arrival i)
 
   waits : (found.members i).job.conditions ≡ message_came t woken.place
   waits = rw stood woken.condition
@@ -100,8 +100,7 @@ module _ {V : Type 0} {values : Values V} (laws : BufferLaws V) (f : Frame V) (s
   gone = rw (reader_place, stood) (still_gone _ _ _ _ to_turn woken.within woken.behind)
 
   pub sleeps : IsSkipped i f s → NothingUnread i t found
-  sleeps skipped =
-      slept t (found.members i).job found.world woken.place waits to_turn.sound gone
+  sleeps skipped = slept t (found.members i).job found.world woken.place waits to_turn.sound gone
       (in_log f s i earlier later is (λ turn. turn.system ≡ i → turn.outcome ≡ Skipped) skipped refl)
 
   module _ (reads : ReadsAllIfWoken i t f s) where
@@ -114,8 +113,8 @@ module _ {V : Type 0} {values : Values V} (laws : BufferLaws V) (f : Frame V) (s
     took_or_slept : TookOrSlept
     took_or_slept =
         let j : Job V = (found.members i).job in
-        let here = came_or_slept t j found.world woken.place waits laws to_turn.sound
-        (within_turn f s i earlier later is laws t sound below) gone
+        let here = came_or_slept t j found.world woken.place waits to_turn.sound
+        (within_turn f s i earlier later is t sound below) gone
         (λ ran. rw (← job_left f s i earlier later is)
         (reads (λ skipped. ran (in_log f s i earlier later is (λ turn. turn.system ≡ i → turn.outcome ≡ Skipped) skipped refl)))) in
         rw (reader_place, job_left f s i earlier later is, ← stood) here
@@ -134,33 +133,33 @@ module _ {V : Type 0} {values : Values V} (laws : BufferLaws V) (f : Frame V) (s
     stays_up_to_date : IsUpToDate s i t → NothingDrained t s u → IsUpToDate u i t
     stays_up_to_date up drained =
         let old = counts_more _ _ to_turn in
-        past_frame laws f s i t sound below (elim took_or_slept [
+        past_frame f s i t sound below (elim took_or_slept [
           | inl took ↦ omega (arith, took, old)
           | inr asleep ↦ elim (cases_lt (reader_place s i t) (count (found.world.histories t))) [
             | inl lt ↦ absurd (asleep.1 (reader_place s i t) (omega arith) lt
-                (all_there laws f s i t sound below (found.world.histories t) up drained from_turn (reader_place s i t) (omega arith) lt))
+                (all_there f s i t sound below (found.world.histories t) up drained from_turn (reader_place s i t) (omega arith) lt))
             | inr past ↦ omega (arith, past, asleep.0, old)
           ]
         ]) drained
 
 -- ---- a run
 
-module _ {V : Type 0} {values : Values V} (laws : BufferLaws V) where
+module _ {V : Type 0} {values : Values V} where
   -- one that has joined has its turn
   turn_cut : (f : Frame V) (s : State values) (i : ℕ) → IsSoundState s → i < s.systems → IsTrue (has_begun s i)
       → Cut (turn_order (before_turns f.posts s)) i
   turn_cut f s i sound there has =
-      let prep = prepares laws.grow f.posts s in
+      let prep = prepares f.posts s in
       cut _ _ (has_turn (before_turns f.posts s) i (no_cycle_stays s _ prep.same sound.no_cycle) (rw (prep.same.systems) there)
       (grind (arith, false≢true, prep.arrival i)))
 
   pub who_sleeps : WhoSleepsHasNothingUnread values
-  who_sleeps f s i t sound below has woken skipped earlier later is = sleeps laws f s i t sound below has woken earlier later is skipped
+  who_sleeps f s i t sound below has woken skipped earlier later is = sleeps f s i t sound below has woken earlier later is skipped
 
   pub woken_stays : WhoIsWokenStaysSo values
   woken_stays f s i t sound below there has woken reads =
       let c = turn_cut f s i sound there has in
-      stays_woken laws f s i t sound below has woken c.before c.rest c.is reads
+      stays_woken f s i t sound below has woken c.before c.rest c.is reads
 
   -- what is so after the run, and that the moments of the run miss nothing
   record Kept (frames : List (Frame V)) (s : State values) (i t : ℕ) : Type 0 where
@@ -176,16 +175,16 @@ module _ {V : Type 0} {values : Values V} (laws : BufferLaws V) where
   runs_keep (f ∷ fs) s i t sound below there has woken up reads drained =
       let m : State values = (frame f s).state in
       let c = turn_cut f s i sound there has in
-      let mid : Between laws t s m (run fs m).state = between laws f fs s t sound below drained in
+      let mid : Between t s m (run fs m).state = between f fs s t sound below drained in
       let order : List ℕ = turn_order (before_turns f.posts s) in
       let keeps = frame_keeps order f s in
-      let joined = joined_by_turn laws f s i t sound below (rw (c.is) (Contains-append_right c.before (i ∷ c.rest) i (Contains-head i c.rest))) in
+      let joined = joined_by_turn f s i t sound below (rw (c.is) (Contains-append_right c.before (i ∷ c.rest) i (Contains-head i c.rest))) in
       let rest = runs_keep fs m i t mid.sound mid.below (rw (keeps.systems) there) joined
-      (stays_woken laws f s i t sound below has woken c.before c.rest c.is reads.0)
-      (stays_up_to_date laws f s i t sound below has woken c.before c.rest c.is reads.0 up mid.first) reads.1 mid.rest in
+      (stays_woken f s i t sound below has woken c.before c.rest c.is reads.0)
+      (stays_up_to_date f s i t sound below has woken c.before c.rest c.is reads.0 up mid.first) reads.1 mid.rest in
       record {
         none = rw (run_further i t f fs s) (All-append (λ x. x.entry.stretch.missed ≡ 0) _ _
-            (frame_misses_none laws f s i t sound below has up mid.first) rest.none);
+            (frame_misses_none f s i t sound below has up mid.first) rest.none);
         woken = rest.woken;
         up = rest.up;
       }

@@ -1,10 +1,8 @@
 -- When readers have what was written.
-use Rattle.std.specs.Prelude.{ℕ, ◌<◌, List, [], ◌∷◌, Contains, IsTrue, flat_map}
+use Rattle.std.specs.Prelude.{Contains, IsTrue, List, [], flat_map, ℕ, ◌<◌, ◌∷◌}
 use Rattle.msg_order.specs.Prelude.{Path}
 use Rattle.msg_world.specs.{Prelude.Values, declared.record.Record.Record}
-use Rattle.msg_frames.specs.{declared.frame.Frame.Frame}
-use Rattle.msg_frames.specs.Frames.{settled_order}
-use Rattle.msg_frames.specs.Prelude.{IsSoundState, State, before_turns, entries_in_run, frame, has_begun, numbers_missed, numbers_told, run}
+use Rattle.msg_frames.specs.{Frames.settled_order, Prelude.IsSoundState, Prelude.State, Prelude.before_turns, Prelude.entries_in_run, Prelude.frame, Prelude.has_begun, Prelude.numbers_missed, Prelude.numbers_told, Prelude.run, declared.frame.Frame.Frame}
 use Rattle.msg_laws.specs.{Fates.told_to, UpToDate.NothingDrained, UpToDate.ReadsAll}
 
 -- In the run an entry of the reader tells message n: it was given, cleared or missed. Unless the

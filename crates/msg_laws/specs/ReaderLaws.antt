@@ -8,8 +8,7 @@ use Rattle.std.specs.Prelude.{IsFalse, IsTrue, List, flat_map, map, ℕ, ◌++�
 module _ {V : Type 0} where
   -- the replies that the logs have, each beside whom it was given to
   abbrev pub answers_of : List (Log V) → List (ℕ × Reply V)
-  answers_of logs =
-      flat_map (λ log. map (λ r. (HOST, r)) log.posts
+  answers_of logs = flat_map (λ log. map (λ r. (HOST, r)) log.posts
       ++ flat_map (λ turn. flat_map (λ replies. map (λ r. (turn.system, r)) replies)
       (replies_of turn.outcome)) log.turns) logs
 
@@ -27,12 +26,10 @@ AllAreAnswered {V} values = (frames : List (Frame V)) (s : State values) → Are
 -- on, where the run found it.
 abbrev pub AccountsBeginAtTheStart : {V : Type 0} → Values V → Type 0
 AccountsBeginAtTheStart {V} values = (systems : List (Meaning V)) (places : List (Place V))
-    (rules : List Rule)
-    (types : ℕ) (world : WorldState values) (frames : List (Frame V))
+    (rules : List Rule) (types : ℕ) (world : WorldState values) (frames : List (Frame V))
     → let s : State values = first_state systems places rules types world in
     let u : State values = (run frames s).state in
-    (i t : ℕ) → IsSoundState s → t < types → IsTrue (has_begun u i)
-    → (u.members i).totals t
+    (i t : ℕ) → IsSoundState s → t < types → IsTrue (has_begun u i) → (u.members i).totals t
     ≡ with_entries (entries_in_run i t frames s) (totals_from (found_at s u i t))
 
 -- The start of a reader that has joined, with all that it got, missed and cleared since, leads to

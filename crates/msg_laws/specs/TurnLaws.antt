@@ -51,8 +51,7 @@ FramesRunByBatches values = (s : State values) (accesses : List Access) (batches
 -- system's comes out alike.
 abbrev pub LawfulOrdersAgree : {V : Type 0} → Values V → Type 0
 LawfulOrdersAgree values = (s : State values) (accesses : List Access) (settled : Graph)
-    (a b : List ℕ)
-    → AreAccessesOf s accesses
+    (a b : List ℕ) → AreAccessesOf s accesses
     → IsSettledOrder accesses s.rules (join_flags s) settled
     → IsLawfulOrder settled (join_flags s) a → IsLawfulOrder settled (join_flags s) b
     → ((after_turns_of a s).state ≡ (after_turns_of b s).state)

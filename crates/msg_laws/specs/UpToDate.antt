@@ -1,11 +1,9 @@
 -- Readers that read all of a type in each frame, and what that assures them of.
-use Rattle.std.specs.Prelude.{◌≡◌, ◌≢◌, ℕ, ◌<◌, ◌≤◌, ◌==◌, Bool, false, List, [], ◌∷◌, ◌++◌, Contains, All, None, IsTrue, length}
+use Rattle.std.specs.Prelude.{All, Bool, Contains, IsTrue, List, None, [], false, length, ℕ, ◌++◌, ◌<◌, ◌==◌, ◌∷◌, ◌≡◌, ◌≢◌, ◌≤◌}
 use Rattle.std.specs.List.{list_any}
 use Rattle.msg_buffer.specs.Prelude.{IsPresent, count, update}
-use Rattle.msg_system.specs.{Prelude.of_program, declared.limits.TheConstants.MAX_OPS, declared.op.Op.Op, declared.op.Op.TheVariants.Read, declared.op.Op.TheVariants.Forward, declared.op.Op.TheVariants.Sum, declared.program.Program.Program}
-use Rattle.msg_frames.specs.{declared.frame.Frame.Frame, declared.log.Outcome.TheVariants.Skipped}
-use Rattle.msg_frames.specs.Frames.{turn_order}
-use Rattle.msg_frames.specs.Prelude.{IsSoundState, NoCycle, State, after_turns_of, before_turns, entries_in_run, frame, has_begun, reader_place, run}
+use Rattle.msg_system.specs.{Prelude.of_program, declared.limits.TheConstants.MAX_OPS, declared.op.Op.Op, declared.op.Op.TheVariants.Forward, declared.op.Op.TheVariants.Read, declared.op.Op.TheVariants.Sum, declared.program.Program.Program}
+use Rattle.msg_frames.specs.{Frames.turn_order, Prelude.IsSoundState, Prelude.NoCycle, Prelude.State, Prelude.after_turns_of, Prelude.before_turns, Prelude.entries_in_run, Prelude.frame, Prelude.has_begun, Prelude.reader_place, Prelude.run, declared.frame.Frame.Frame, declared.log.Outcome.TheVariants.Skipped}
 use Rattle.msg_world.specs.Prelude.{Values}
 
 module _ {V : Type 0} where
@@ -78,8 +76,7 @@ WhoIsUpToDateMissesNothing {V} values = (f : Frame V) (s : State values) (i t : 
 -- unless it is drained.
 abbrev pub WhoReadsEachFrameMissesNothing : {V : Type 0} → Values V → Type 0
 WhoReadsEachFrameMissesNothing {V} values = (f : Frame V) (frames : List (Frame V))
-    (s : State values) (i t : ℕ)
-    → IsSoundState s → t < s.types → ReadsAllInEach i t (f ∷ frames) s
+    (s : State values) (i t : ℕ) → IsSoundState s → t < s.types → ReadsAllInEach i t (f ∷ frames) s
     → NothingDrained t s (run (f ∷ frames) s).state
     → MissesNothing i t frames (frame f s).state
 
@@ -91,6 +88,5 @@ WhoseProgramReadsAll {V} values = (f : Frame V) (s : State values) (i t : ℕ)
     → NoCycle s → i < s.systems → IsTrue (has_begun s i)
     → (s.members i).job ≡ record { system = of_program program writer places; conditions = [] }
     → length program.ops ≤ MAX_OPS → IsTrue (list_any (reads_all t) program.ops)
-    → ReadsAll i t f s
-    × ((later : ℕ → ℕ) × (((frame f s).state.members i).job
+    → ReadsAll i t f s × ((later : ℕ → ℕ) × (((frame f s).state.members i).job
     ≡ record { system = of_program program writer later; conditions = [] }))

@@ -1,13 +1,11 @@
 -- Systems that are woken by a message and then read all, and what that assures them of.
-use Rattle.std.specs.Prelude.{◌≡◌, ℕ, ◌<◌, ◌≤◌, List, [], ◌∷◌, ◌++◌, All, IsTrue, length}
+use Rattle.std.specs.Prelude.{All, IsTrue, List, [], length, ℕ, ◌++◌, ◌<◌, ◌∷◌, ◌≡◌, ◌≤◌}
 use Rattle.std.specs.List.{list_any}
 use Rattle.msg_buffer.specs.Prelude.{IsPresent, count}
 use Rattle.msg_world.specs.Prelude.{Values}
-use Rattle.msg_system.specs.{Prelude.of_program, declared.limits.TheConstants.MAX_OPS, declared.condition.Probe.TheVariants.OnMessage, declared.program.Program.Program}
-use Rattle.msg_frames.specs.{declared.frame.Frame.Frame, declared.log.Outcome.TheVariants.Skipped}
-use Rattle.msg_frames.specs.Frames.{turn_order}
-use Rattle.msg_frames.specs.Prelude.{IsSoundState, State, after_turns_of, before_turns, frame, has_begun, reader_place, run}
-use Rattle.msg_laws.specs.{UpToDate.IsUpToDate, UpToDate.MissesNothing, UpToDate.NothingDrained, UpToDate.reads_all}
+use Rattle.msg_system.specs.{Prelude.of_program, declared.condition.Probe.TheVariants.OnMessage, declared.limits.TheConstants.MAX_OPS, declared.program.Program.Program}
+use Rattle.msg_frames.specs.{Frames.turn_order, Prelude.IsSoundState, Prelude.State, Prelude.after_turns_of, Prelude.before_turns, Prelude.frame, Prelude.has_begun, Prelude.reader_place, Prelude.run, declared.frame.Frame.Frame, declared.log.Outcome.TheVariants.Skipped}
+use Rattle.msg_laws.specs.UpToDate.{IsUpToDate, MissesNothing, NothingDrained, reads_all}
 
 -- The one condition of system i is that a message of type t came. What stands from the reader's
 -- place to the condition's isn't present any more.
@@ -16,8 +14,7 @@ pub record IsWokenBy {V : Type 0} {values : Values V} (t i : ℕ) (s : State val
   pub condition : (s.members i).job.conditions
       ≡ record { condition = record { nots = 0; probe = OnMessage t }; place = place } ∷ []
   pub within : place ≤ count (s.world.histories t)
-  pub behind : (n : ℕ) → reader_place s i t ≤ n → n < place
-      → ¬ IsPresent (s.world.histories t) n
+  pub behind : (n : ℕ) → reader_place s i t ≤ n → n < place → ¬ IsPresent (s.world.histories t) n
 
 module _ {V : Type 0} {values : Values V} where
   -- nothing of type t that system i wasn't given yet is present

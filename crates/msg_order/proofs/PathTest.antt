@@ -1,8 +1,8 @@
 -- The test for a path, which grows edge by edge, says whether there is one.
-use Rattle.std.proofs.Common.{arith, ◌≡◌, ℕ, Bool, true, false, [], ◌∷◌, sym, ◌∙◌}
-use Rattle.std.proofs.lemmas.{Bool.Decides.eqb_tells, Bool.false≢true, Bool.false_from_ne_true}
-use Rattle.msg_order.specs.{Prelude.Graph, Prelude.IsEdge, Prelude.Path, Graph.path}
-use Rattle.msg_order.proofs.{Elements.Contains-cases, Elements.Contains-head, Elements.Contains-tail, Elements.not_in_none, Chains.edge_is_path, Chains.paths_join, Chains.path_grows}
+use Rattle.std.proofs.Common.{Bool, [], arith, false, sym, true, ℕ, ◌∙◌, ◌∷◌, ◌≡◌}
+use Rattle.std.proofs.lemmas.{Bool.false_from_ne_true, Bool.false≢true, Bool.Decides.eqb_tells}
+use Rattle.msg_order.specs.{Graph.path, Prelude.Graph, Prelude.IsEdge, Prelude.Path}
+use Rattle.msg_order.proofs.{Chains.edge_is_path, Chains.path_grows, Chains.paths_join, Elements.Contains-cases, Elements.Contains-head, Elements.Contains-tail, Elements.not_in_none}
 
 pub edge_path : (g : Graph) (i j : ℕ) → IsEdge g i j → path g i j ≡ true
 edge_path [] i j h = absurd (not_in_none (i, j) h)

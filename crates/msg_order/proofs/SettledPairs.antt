@@ -1,9 +1,9 @@
 -- Pairs taken in turn: what they add, keep and reach.
-use Rattle.std.proofs.Common.{◌≡◌, ◌≢◌, ℕ, ◌+◌, ◌-◌, ◌<◌, ◌⊎◌, inl, inr, Bool, true, false, not, cond, ◌&&◌, ◌||◌, List, [], ◌∷◌, ◌++◌, map, refl, ap, sym, ◌∙◌, arith, ◌==◌, Contains, flat_map, IsTrue}
+use Rattle.std.proofs.Common.{Bool, Contains, IsTrue, List, [], ap, arith, cond, false, flat_map, inl, inr, map, not, refl, sym, true, ℕ, ◌&&◌, ◌++◌, ◌+◌, ◌-◌, ◌<◌, ◌==◌, ◌||◌, ◌∙◌, ◌∷◌, ◌≡◌, ◌≢◌, ◌⊎◌}
 use Rattle.std.specs.List.{list_any, range_with_len}
-use Rattle.std.proofs.lemmas.{Bool.Decides.eqb_tells, Bool.cases_Bool, Bool.and_parts, Grind.flat_map-append, List.append-nil}
-use Rattle.msg_order.specs.{Prelude.Graph, Prelude.pairs, Prelude.settle, Graph.path}
-use Rattle.msg_order.proofs.{Elements.Contains-head, Elements.Contains-tail, Elements.Contains-cases, Elements.not_in_none, Elements.range_more, Elements.flat_map-Contains, Elements.Contains-flat_map, Elements.map-Contains, Elements.Contains-map, Elements.range-Contains, Elements.Contains-range}
+use Rattle.std.proofs.lemmas.{Bool.and_parts, Bool.cases_Bool, Bool.Decides.eqb_tells, Grind.flat_map-append, List.append-nil}
+use Rattle.msg_order.specs.{Graph.path, Prelude.Graph, Prelude.pairs, Prelude.settle}
+use Rattle.msg_order.proofs.Elements.{Contains-cases, Contains-flat_map, Contains-head, Contains-map, Contains-range, Contains-tail, flat_map-Contains, map-Contains, not_in_none, range-Contains, range_more}
 
 module _ (test : ℕ → ℕ → Bool) where
   -- some pairs after others

@@ -1,4 +1,4 @@
-use Rattle.msg_frames.proofs.{LawfulOrdersAgree.orders_agree}
+use Rattle.msg_frames.proofs.LawfulOrdersAgree.{orders_agree}
 use Rattle.msg_laws.proofs.turn_laws.lawful_orders_agree.Goals as goal
 
 pub returns : goal.returns

@@ -1,4 +1,4 @@
-use Rattle.msg_frames.proofs.{TurnsCommute.turns_commute}
+use Rattle.msg_frames.proofs.TurnsCommute.{turns_commute}
 use Rattle.msg_laws.proofs.turn_laws.turns_of_others_commute.Goals as goal
 
 pub returns : goal.returns
