@@ -14,8 +14,7 @@ module _ {V : Type 0} where
   with_entries-append es fs x = grind (arith, flat_map-append, length-append)
 
   -- what one op that read adds, and what one clear
-  pub with_read : (took : Took V) (x : Totals)
-      → with_entries (entry_of_read took ∷ []) x
+  pub with_read : (took : Took V) (x : Totals) → with_entries (entry_of_read took ∷ []) x
       ≡ record x { got = x.got + length took.items; missed = x.missed + took.missed }
   with_read took x = grind (arith, length-append, length-range_with_len)
 

@@ -11,23 +11,21 @@ use Rattle.msg_frames.proofs.SystemsStay.{frame_keeps, joined_below}
 
 -- ---- conflicts
 
+abbrev types : List Part
+types = map OfType (range_with_len 0 MAX_TYPES)
+
+abbrev resources : List Part
+resources = map OfResource (range_with_len 0 MAX_RESOURCES)
+
 is_part : (p : Part) → HasPart MAX_TYPES MAX_RESOURCES p → Contains parts p
 unfolding parts
 is_part (OfType t) lt =
-    let types : List Part = map OfType (range_with_len 0 MAX_TYPES) in
-    let resources : List Part = map OfResource (range_with_len 0 MAX_RESOURCES) in
-    Contains-append_left (types ++ resources) (Registry ∷ []) (OfType t)
-    (Contains-append_left types resources (OfType t)
+    Contains-append_left (types ++ resources) (Registry ∷ []) _ (Contains-append_left types resources _
     (Contains-map OfType (range_with_len 0 MAX_TYPES) t (Contains-range 0 MAX_TYPES t (omega arith) lt)))
 is_part (OfResource r) lt =
-    let types : List Part = map OfType (range_with_len 0 MAX_TYPES) in
-    let resources : List Part = map OfResource (range_with_len 0 MAX_RESOURCES) in
-    Contains-append_left (types ++ resources) (Registry ∷ []) (OfResource r)
-    (Contains-append_right types resources (OfResource r)
+    Contains-append_left (types ++ resources) (Registry ∷ []) _ (Contains-append_right types resources _
     (Contains-map OfResource (range_with_len 0 MAX_RESOURCES) r (Contains-range 0 MAX_RESOURCES r (omega arith) lt)))
-is_part Registry has =
-    Contains-append_right (map OfType (range_with_len 0 MAX_TYPES) ++ map OfResource (range_with_len 0 MAX_RESOURCES)) (Registry ∷ [])
-    Registry (Contains-head Registry [])
+is_part Registry has = Contains-append_right (types ++ resources) (Registry ∷ []) _ (Contains-head Registry [])
 
 -- each need is one of the parts
 abbrev IsWithin : Needs → Type 0
@@ -41,16 +39,13 @@ conflict_at_is : (m n : Needs) (a b : Access) (p : Part) → IsAccessOf m a → 
     → IsTrue (conflict_at m n p) ↔ (IsTrue (writes a p && uses b p) ⊎ IsTrue (writes b p && uses a p))
 conflict_at_is m n a b p ma nb = grind (arith, cases_Bool, ma.reads p, ma.writes p, nb.reads p, nb.writes p)
 
-conflict_within : (m n : Needs) (p : Part) → IsWithin m → IsTrue (conflict_at m n p) → HasPart MAX_TYPES MAX_RESOURCES p
-conflict_within m n p within t = within p (grind (arith, cases_Bool))
-
 conflict_is : (m n : Needs) (a b : Access) → IsAccessOf m a → IsAccessOf n b → IsWithin m
     → IsTrue (needs_conflict m n) ↔ Conflict a b
 conflict_is m n a b ma nb within = (
   λ t. let f = Contains-list_any (conflict_at m n) parts t in
       (f.0, (conflict_at_is m n a b f.0 ma nb).0 f.1.1),
   λ c. let at = (conflict_at_is m n a b c.0 ma nb).1 c.1 in
-      list_any-Contains (conflict_at m n) parts c.0 (is_part c.0 (conflict_within m n c.0 within at)) at,
+      list_any-Contains (conflict_at m n) parts c.0 (is_part c.0 (within c.0 (grind (arith, cases_Bool, at)))) at,
 )
 
 module _ {V : Type 0} {values : Values V} where
@@ -76,8 +71,7 @@ module _ {V : Type 0} {values : Values V} where
 
   pub order_free : (s : State values) → NoCycle s → IsAcyclic (settled_order s)
   unfolding settled_order
-  order_free s free =
-      settled_no_cycle s.rules (join_flags s) (are_in_conflict s)
+  order_free s free = settled_no_cycle s.rules (join_flags s) (are_in_conflict s)
       (free (join_flags s) (length-map-range_with_len (has_begun s) 0 s.systems))
 
   -- it is the turn order, if the rules make no cycle

@@ -101,11 +101,6 @@ module _ {V : Type 0} {values : Values V} where
       flat_map-append (moments_at t) far.steps (done ∷ [])
       ∙ ap (λ (ms : List (Moment V)). moments_of t far.steps ++ ms) (append-nil (moments_at t done))
 
-module _ {V : Type 0} where
-  passes_these : (p : ℕ) (a : History (Record V)) (ms ns : List (Moment V)) (q : ℕ) (b : History (Record V)) → ms ≡ ns
-      → Passes p a ns q b → Passes p a ms q b
-  passes_these p a ms ns q b same x = rw same x
-
 module _ {V : Type 0} {values : Values V} where
   module _ (t : ℕ) where
     -- an op that reads type u
@@ -152,7 +147,7 @@ module _ {V : Type 0} {values : Values V} where
     first_passes (suc n) m w sound within =
         let far : AfterProgram values = after_at_most n (next_op m) m.writer m.places w in
         let so_far = first_passes n m w sound within in
-        passes_these _ _ _ _ _ _ (more_are t (next_op m far.replies) m.writer far)
+        rw (more_are t (next_op m far.replies) m.writer far)
         (passes_further _ _ _ _ _ _ _ _ so_far
         (next_passes (next_op m far.replies) m.writer far so_far.goes_on.sound so_far.within))
 

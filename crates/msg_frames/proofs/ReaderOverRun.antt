@@ -5,7 +5,7 @@ use Rattle.msg_buffer.specs.Prelude.{GoesOn, History}
 use Rattle.msg_system.specs.Prelude.{Step}
 use Rattle.msg_world.specs.{Prelude.Values, Prelude.WorldState, Prelude.after_update, declared.record.Record.Record}
 use Rattle.msg_frames.specs.{Frames.turn_order, Prelude.Frame, Prelude.IsSoundState, Prelude.Moment, Prelude.RunsAreComplete, Prelude.State, Prelude.Totals, Prelude.after_posts, Prelude.before_turns, Prelude.found_at, Prelude.frame, Prelude.has_begun, Prelude.moments, Prelude.moments_at, Prelude.post_steps, Prelude.reader_place, Prelude.run, Prelude.totals_from, Prelude.turns_steps}
-use Rattle.msg_frames.proofs.{BeforeTurns.Prepares, BeforeTurns.comes, BeforeTurns.prepares, BeforeTurns.stood, BeforeTurns.waits, EntriesAddUp.with_entries-none, HistoriesGrow.goes_further, HistoriesGrow.stays, ReaderOverJob.moments_of, ReaderOverJob.passes_nothing, ReaderOverJob.steps_of, ReaderOverTurns.ReadsFrom, ReaderOverTurns.reads_further, ReaderOverTurns.reads_these, ReaderOverTurns.steps_of-append, ReaderOverTurns.turns_moments, ReaderOverTurns.turns_read, ReaderOverTurns.turns_skip, StatesStaySound.begun_alike, StatesStaySound.frame_sound, StatesStaySound.has_no_turn, StatesStaySound.prepared_sound, SystemsStay.turns_keep, TellsEachOnce.are_true, TellsEachOnce.tells_once, TellsEachOnce.tiles_rise, WrittenOnce.run_writes}
+use Rattle.msg_frames.proofs.{BeforeTurns.Prepares, BeforeTurns.comes, BeforeTurns.prepares, BeforeTurns.stood, BeforeTurns.waits, EntriesAddUp.with_entries-none, HistoriesGrow.goes_further, HistoriesGrow.stays, ReaderOverJob.moments_of, ReaderOverJob.passes_nothing, ReaderOverJob.steps_of, ReaderOverTurns.ReadsFrom, ReaderOverTurns.reads_further, ReaderOverTurns.steps_of-append, ReaderOverTurns.turns_moments, ReaderOverTurns.turns_read, ReaderOverTurns.turns_skip, StatesStaySound.begun_alike, StatesStaySound.frame_sound, StatesStaySound.has_no_turn, StatesStaySound.prepared_sound, SystemsStay.turns_keep, TellsEachOnce.are_true, TellsEachOnce.tells_once, TellsEachOnce.tiles_rise, WrittenOnce.run_writes}
 
 module _ {V : Type 0} {values : Values V} where
   -- what the host posts goes past nothing
@@ -37,13 +37,12 @@ module _ {V : Type 0} {values : Values V} where
       → ReadsFrom i t place had b ms u → ReadsFrom i t place had a ms u
   reads_since i t place had a b ms u goes x = grind (arith, goes_further)
 
-  -- the totals with which a run from s to u finds a reader: those that it has, or new ones if it joins
-  abbrev found_totals : State values → State values → ℕ → ℕ → Totals
-  found_totals s u i t = if has_begun s i then (s.members i).totals t else totals_from (found_at s u i t)
-
-  -- Reader (i, t) goes past these moments between two states, from where it was found.
+  -- Reader (i, t) goes past these moments between two states, from where it was found, with the totals that it had, or
+  -- new ones if it joins.
   abbrev pub Follows : ℕ → ℕ → State values → List (Moment V) → State values → Type 0
-  Follows i t s ms u = ReadsFrom i t (found_at s u i t) (found_totals s u i t) (s.world.histories t) ms u
+  Follows i t s ms u =
+      let had = if has_begun s i then (s.members i).totals t else totals_from (found_at s u i t) in
+      ReadsFrom i t (found_at s u i t) had (s.world.histories t) ms u
 
 module _ {V : Type 0} {values : Values V} (i t : ℕ) where
   pub run_follows : (frames : List (Frame V)) (s : State values) → IsSoundState s → t < s.types
@@ -67,7 +66,7 @@ module _ {V : Type 0} {values : Values V} (i t : ℕ) where
       (s.world.histories t) (ms ++ rest) u =
       λ now. reads_since i t _ _ _ _ (ms ++ rest) u goes
       (reads_further i t b ms m rest u here (rw (begun_alike b m i keep ∙ now) at later)) in
-      reads_these (run_further i t f fs s) (elim (prep.arrival i) [
+      rw (run_further i t f fs s) (elim (prep.arrival i) [
         | stood was now same ↦ rw was (rw (reader_place, same) at (all now))
         | comes was now new ↦ let after = rw (reader_place, new) at (all now) in rw (was, after.totals) after
         | waits was now same ↦

@@ -14,10 +14,6 @@ pub record ReadsFrom {V : Type 0} {values : Values V} (i t place : ℕ) (had : T
   pub totals : (u.members i).totals t ≡ with_entries (map (λ m. m.entry) ms) had
 
 module _ {V : Type 0} {values : Values V} where
-  pub reads_these : {i t place : ℕ} {had : Totals} {old : History (Record V)} {ms ns : List (Moment V)} {u : State values} → ms ≡ ns
-      → ReadsFrom i t place had old ns u → ReadsFrom i t place had old ms u
-  reads_these same x = rw same x
-
   -- it does so between two states
   abbrev pub Reads : ℕ → ℕ → State values → List (Moment V) → State values → Type 0
   Reads i t s ms u = ReadsFrom i t (reader_place s i t) ((s.members i).totals t) (s.world.histories t) ms u
@@ -79,7 +75,7 @@ module _ {V : Type 0} {values : Values V} where
   turns_read i t [] s sound within = grind (arith, passes_nothing, stays, with_entries-none V)
   turns_read i t (j ∷ js) s sound within =
       let first = turn_reads i t j s sound within in
-      reads_these (turns_further i t j js s) (reads_further i t s (own_moments i t j s) (after_turn_of j s) _ _ first
+      rw (turns_further i t j js s) (reads_further i t s (own_moments i t j s) (after_turn_of j s) _ _ first
       (turns_read i t js (after_turn_of j s) first.passes.goes_on.sound first.passes.within))
 
 -- ---- what the log has of system i among these turns

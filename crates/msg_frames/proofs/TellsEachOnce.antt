@@ -62,8 +62,7 @@ module _ {V : Type 0} (h last : History (Record V)) (s : Stretch) (goes : GoesOn
   gave_as_written : (o : Option (List (Record V))) → IfSome o (λ items. items ≡ messages_of h s)
       → IfSome o (λ items. map (message_numbered last) (range_with_len s.first s.number) ≡ map Some items)
   gave_as_written None gives = tt
-  gave_as_written (Some items) gives =
-      rw (gives, messages_are h last s goes written)
+  gave_as_written (Some items) gives = rw (gives, messages_are h last s goes written)
       (read_range last.entries s.first s.number
       (omega (arith, ap length goes.entries, length-append h.entries goes.more)))
 

@@ -26,12 +26,10 @@ module _ {V : Type 0} where
   wrote_more : (h : History (Record V)) (ms : List (Record V)) → IsTrue (has_room h (length ms))
       → all_written (write ms h) ≡ all_written h ++ enumerate_from (count h) ms
   wrote_more h ms room =
-      let are : map (λ (e : Entry (Record V)). e.message) (h.entries ++ stamped h.updates ms) ≡ messages h ++ ms =
-      map-append (λ (e : Entry (Record V)). e.message) h.entries (stamped h.updates ms)
-      ∙ ap (λ (ys : List (Record V)). messages h ++ ys) (stamped_are h.updates ms) in
+      let are = map-append (λ (e : Entry (Record V)). e.message) h.entries (stamped h.updates ms) in
       let more = enumerate_from-append 0 (messages h) ms in
       let len = length-map h.entries (λ (e : Entry (Record V)). e.message) in
-      grind (arith, are, more, len)
+      grind (arith, are, more, len, stamped_are h.updates ms)
 
 module _ {V : Type 0} {values : Values V} where
   -- first these steps, and then those
@@ -82,14 +80,10 @@ module _ {V : Type 0} {values : Values V} (t : ℕ) where
       let far : AfterProgram values = after_at_most n (next_op m) m.writer m.places w in
       one_step (next_op m far.replies) m.writer far w (first_write n m w)
 
-  turn_writes : (m : Meaning V) (w : WorldState values)
-      → IsWrittenOnce t w (by_system m.writer (turn m w).steps) (turn m w).state
-  unfolding turn
-  turn_writes m w = first_write MAX_OPS m w
-
   job_writes : (i : ℕ) (j : Job V) (w : WorldState values) → j.system.writer ≡ i
       → IsWrittenOnce t w (by_system i (after_job j w).steps) (after_job j w).state
-  job_writes i j w is = grind (arith, cases_Bool, is, no_steps w, turn_writes j.system w)
+  unfolding turn
+  job_writes i j w is = grind (arith, cases_Bool, is, no_steps w, first_write MAX_OPS j.system w)
 
   pub turns_write : (is : List ℕ) (s : State values) → ((i : ℕ) → Contains is i → (s.members i).job.system.writer ≡ i)
       → IsWrittenOnce t s.world (turns_steps is s) (after_turns_of is s).state.world

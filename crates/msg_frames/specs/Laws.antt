@@ -76,8 +76,7 @@ BatchesRunSideBySide values = (s : State values) (accesses : List Access) (batch
 -- In any lawful order a frame's turns come out alike, and it leaves the same state.
 abbrev pub FramesAgreeInLawfulOrders : {V : Type 0} → Values V → Type 0
 FramesAgreeInLawfulOrders {V} values = (f : Frame V) (s : State values) (accesses : List Access)
-    (order : List ℕ)
-    → UsesParts s → NoCycle s → AreAccessesOf s accesses → IsLawfulFor f s order
+    (order : List ℕ) → UsesParts s → NoCycle s → AreAccessesOf s accesses → IsLawfulFor f s order
     → ((frame_in order f s).state ≡ (frame f s).state)
     × TellsTheSame (frame_in order f s).log (frame f s).log
 
@@ -109,8 +108,7 @@ pub record AreNew {V : Type 0} {values : Values V} (systems : List (Meaning V))
 abbrev pub FirstIsSound : {V : Type 0} → Values V → Type 0
 FirstIsSound {V} values = (systems : List (Meaning V)) (places : List (Place V)) (rules : List Rule)
     (types : ℕ)
-    (world : WorldState values)
-    → AreNew systems places rules types world
+    (world : WorldState values) → AreNew systems places rules types world
     → IsSoundState (first_state systems places rules types world)
 
 -- ---- complete runs

@@ -16,6 +16,5 @@ module _ {V : Type 0} where
   -- The entries for a type of a system whose turns, one after the other, have these replies.
   abbrev pub entries_told : ℕ → Needs → Rule V → List (List (Reply V)) → List (ReadEntry V)
   entries_told t n rule [] = []
-  entries_told t n rule (replies ∷ turns) =
-      entries_for t (ops_by n rule replies) replies
+  entries_told t n rule (replies ∷ turns) = entries_for t (ops_by n rule replies) replies
       ++ entries_told t n (λ later now. rule (replies ∷ later) now) turns

@@ -33,10 +33,6 @@ module _ {V : Type 0} {values : Values V} where
       let m = (a.members i).job.system in
       grind (arith, append_assoc, entries_told-append t m.needs m.rule xs ys, map-append)
 
-  tells_these : {i t : ℕ} {s : State values} {xs : List (List (Reply V))} {ms ns : List (Moment V)} {u : State values} → ms ≡ ns
-      → Tells i t s xs ns u → Tells i t s xs ms u
-  tells_these same x = rw same x
-
   -- after a job, the rule of its system also takes in the replies of that job
   job_rule : (j : Job V) (w : WorldState values) → (after_job j w).job.system.rule
       ≡ (λ (later : List (List (Reply V))) (now : List (Reply V)). j.system.rule
@@ -57,7 +53,7 @@ module _ {V : Type 0} {values : Values V} where
   pub turns_tell : (i t : ℕ) (js : List ℕ) (s : State values)
       → Tells i t s (answers_among i (after_turns_of js s).turns) (turns_moments i t js s) (after_turns_of js s).state
   turns_tell i t [] s = record { entries = refl; rule = refl; needs = refl }
-  turns_tell i t (j ∷ js) s = tells_these (turns_further i t j js s)
+  turns_tell i t (j ∷ js) s = rw (turns_further i t j js s)
       (tells_further i t s (cond (j == i) (replies_of (logged_turn s j).outcome) []) (own_moments i t j s) _ _ _ _
       (turn_tells i t j s) (turns_tell i t js (after_turn_of j s)))
 
@@ -68,9 +64,10 @@ module _ {V : Type 0} {values : Values V} where
       let b : State values = before_turns f.posts s in
       let told = turns_tell i t (turn_order b) b in
       let needs = ((before_keeps f.posts s).members i).needs in
-      tells_these (run_further i t f fs s)
-      (tells_further i t s _ _ _ _ _ (run (f ∷ fs) s).state (grind (arith, cases_Bool, needs, told))
-      (run_tells i t fs (frame f s).state))
+      let here : Tells i t s (answers_among i (frame f s).log.turns) (turns_moments i t (turn_order b) b) (frame f s).state =
+      grind (arith, cases_Bool, needs, told) in
+      rw (run_further i t f fs s)
+      (tells_further i t s _ _ _ _ _ (run (f ∷ fs) s).state here (run_tells i t fs (frame f s).state))
 
   pub logs_tell : LogsTellEntries values
   logs_tell i t frames s = (run_tells i t frames s).entries

@@ -19,9 +19,6 @@ module _ {V : Type 0} {values : Values V} (f : Frame V) (s : State values) (i : 
   once : AllPairs (λ j k. j ≢ k) (earlier ++ i ∷ later)
   once = rw is at (has_one_turn begun)
 
-  not_earlier : ¬ Contains earlier i
-  not_earlier at = All-contains (λ k. k ≢ i) earlier i (pairs_middle (λ j k. j ≢ k) earlier i later once).0 at refl
-
   pub not_later : ¬ Contains later i
   not_later at = All-contains (λ k. i ≢ k) later i
       (pairs_head (λ j k. j ≢ k) i later (pairs_right (λ j k. j ≢ k) earlier (i ∷ later) once)) at refl
@@ -41,7 +38,8 @@ module _ {V : Type 0} {values : Values V} (f : Frame V) (s : State values) (i : 
       (rw (ap (λ (a : AfterTurns values). a.turns) split) at all)).0
 
   pub member_found : found.members i ≡ begun.members i
-  member_found = (turns_skip i 0 earlier begun not_earlier).0
+  member_found = (turns_skip i 0 earlier begun (λ at.
+      All-contains (λ k. k ≢ i) earlier i (pairs_middle (λ j k. j ≢ k) earlier i later once).0 at refl)).0
 
   pub job_left : ((frame f s).state.members i).job ≡ (after_job (found.members i).job found.world).job
   job_left = grind (arith, left_is, turns_skip i 0 later (after_turn_of i found) not_later, eqb_tells)

@@ -57,15 +57,11 @@ module _ {V : Type 0} {values : Values V} (t : ℕ) where
         ]
 
     -- it goes past all that there is, or it was skipped since nothing was unread
-    abbrev CameOrSlept : Type 0
-    CameOrSlept = (count (w.histories t) ≤ (after_job j w).job.system.places t)
-        ⊎ (((after_job j w).job.system.places t ≡ j.system.places t)
-        × Gone (j.system.places t) (count (w.histories t)) (w.histories t))
-
     came_or_slept : IsSound (w.histories t) → j.system.places t ≤ count (w.histories t)
         → Gone (j.system.places t) c (w.histories t)
         → (outcome_of (after_job j w).replies ≢ Skipped → IsTrue (list_any (reads_all t) (after_job j w).job.system.last))
-        → CameOrSlept
+        → (count (w.histories t) ≤ (after_job j w).job.system.places t) ⊎ (((after_job j w).job.system.places t
+        ≡ j.system.places t) × Gone (j.system.places t) (count (w.histories t)) (w.histories t))
     came_or_slept sound within gone reads = elim (cases_Bool (all_hold j.conditions w)) [
       | inl holds ↦
           let ran : outcome_of (after_job j w).replies ≢ Skipped = grind (arith, holds) in
@@ -105,12 +101,8 @@ module _ {V : Type 0} {values : Values V} (f : Frame V) (s : State values) (i t 
 
   module _ (reads : ReadsAllIfWoken i t f s) where
     -- what its turn did, told of the state after the frame
-    abbrev TookOrSlept : Type 0
-    TookOrSlept = (count (found.world.histories t) ≤ reader_place u i t)
-        ⊎ ((reader_place u i t ≡ reader_place s i t)
+    took_or_slept : (count (found.world.histories t) ≤ reader_place u i t) ⊎ ((reader_place u i t ≡ reader_place s i t)
         × Gone (reader_place s i t) (count (found.world.histories t)) (found.world.histories t))
-
-    took_or_slept : TookOrSlept
     took_or_slept =
         let j : Job V = (found.members i).job in
         let here = came_or_slept t j found.world woken.place waits to_turn.sound

@@ -32,6 +32,7 @@ pub fn accounts_add_up<V: Value>()
 
 /// From a first state on, the account of a reader counts all that its entries tell since its start,
 /// whether it joined before the first frame or later.
+#[tactic(auto, using(crate::proofs::ReaderLaws::accounts_begin))]
 pub fn accounts_begin_at_the_start<V: Value>()
     ensures law { AccountsBeginAtTheStart V.values }
 {}

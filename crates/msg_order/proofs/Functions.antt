@@ -76,8 +76,7 @@ batches_differ (suc n) g (x ∷ xs) once =
     let rest : List ℕ = filter stops (x ∷ xs) in
     pairs_append (λ i j. i ≢ j) first (concat (batches_of n g rest))
     (AllPairs-filter (λ i j. i ≢ j) (λ k. not (stops k)) (x ∷ xs) once)
-    (batches_differ n g rest (AllPairs-filter (λ i j. i ≢ j) stops (x ∷ xs) once))
-    (λ i j p q.
+    (batches_differ n g rest (AllPairs-filter (λ i j. i ≢ j) stops (x ∷ xs) once)) (λ i j p q.
     let out = (filter-Contains (λ k. not (stops k)) (x ∷ xs) i p).1 in
     let in_ = (filter-Contains stops (x ∷ xs) j (batches_within n g rest j q)).1 in
     grind (arith, cases_Bool, out, in_))

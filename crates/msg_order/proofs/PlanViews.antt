@@ -31,14 +31,12 @@ seen_edges v before joined batches is kept i j =
 -- those of a plan are the paths of its order
 pub plan_paths : (g : Graph) (joined : List Bool) → IsAmong joined g → (i j : ℕ)
     → IsEdge (plan_of g joined).precedes i j ↔ (path g i j ≡ true)
-plan_paths g joined among i j =
-    pairs_seen (λ e. path g e.0 e.1) (length joined) i j (λ t.
+plan_paths g joined among i j = pairs_seen (λ e. path g e.0 e.1) (length joined) i j (λ t.
     let both = path_among g joined among i j (to_Path g i j t) in (joined_in joined i both.0, joined_in joined j both.1))
 
 pub seen_joined : (v : PlanView) (before : List SystemSet) (joined : SystemSet) (batches : List (List ℕ))
     → view_of before joined batches ≡ v → AreKept before joined → (i : ℕ) → has_joined v.joined i ≡ has joined i
-seen_joined v before joined batches is kept i =
-    rw (← is)
+seen_joined v before joined batches is kept i = rw (← is)
     (grind (arith, cases_lt, false_from_ne_true, get_or-map-range_with_len, get_or_past, length-map-range_with_len))
 
 -- sets and batches make the plan of a graph
@@ -60,28 +58,22 @@ sets_kept g joined before set few len paths is among = record {
   among = λ i j t. grind (arith, path_among g joined among i j, to_Path g i j, paths i j, is i, is j);
 }
 
--- an order is lawful for the pairs of a plan if it is for the edges that it was settled by
-pub lawful_same : (g : Graph) (joined : List Bool) (order : List ℕ) → IsAmong joined g
-    → IsLawfulOrder (plan_of g joined).precedes joined order ↔ IsLawfulOrder g joined order
-lawful_same g joined order among =
-    let paths = plan_paths g joined among in (
-      λ w. record {
-        of_joined = w.of_joined;
-        once = w.once;
-        kept = λ i j e. w.kept i j ((paths i j).1 (edge_path g i j e));
-      },
-      λ w. record {
-        of_joined = w.of_joined;
-        once = w.once;
-        kept = λ i j e. kept_along g joined order w i j (to_Path g i j ((paths i j).0 e));
-      },
-    )
-
--- so it is of the plan of a settled order
+-- an order is lawful for the pairs of a plan if it is for the settled order
 pub settled_lawful : {B : Type 0} (rules : List Rule) (joined : List Bool) (conflict : ℕ → ℕ → Bool) (v : PlanView) (order : List ℕ)
     → v ≡ plan_of (settled conflict rules joined) joined → B ↔ IsLawfulOrder v.precedes v.joined order
     → B ↔ IsLawfulOrder (settled conflict rules joined) joined order
 settled_lawful rules joined conflict v order is tells =
-    let same = lawful_same (settled conflict rules joined) joined order (settled_among rules joined conflict) in
-    let told = rw is at tells in
-    (λ b. same.0 (told.0 b), λ w. told.1 (same.1 w))
+    let g : Graph = settled conflict rules joined in
+    let paths = plan_paths g joined (settled_among rules joined conflict) in
+    let told = rw is at tells in (
+      λ b. record {
+        of_joined = (told.0 b).of_joined;
+        once = (told.0 b).once;
+        kept = λ i j e. (told.0 b).kept i j ((paths i j).1 (edge_path g i j e));
+      },
+      λ w. told.1 (record {
+        of_joined = w.of_joined;
+        once = w.once;
+        kept = λ i j e. kept_along g joined order w i j (to_Path g i j ((paths i j).0 e));
+      }),
+    )

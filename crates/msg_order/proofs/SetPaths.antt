@@ -38,8 +38,7 @@ reached_in before to reached within is k e =
 -- if a set has none of the starts, no path leads on from it
 pub leads_nowhere : (before : List SystemSet) (starts to : SystemSet) → AreStarts before starts
     → meets to starts ≡ false → (k : ℕ) → meets (set_at before k) to ≡ false
-leads_nowhere before starts to are apart k =
-    false_from_ne_true (meets (set_at before k) to) (λ e.
+leads_nowhere before starts to are apart k = false_from_ne_true (meets (set_at before k) to) (λ e.
     let m = meets-true (set_at before k) to e in
     grind (arith, false≢true, are m.0 k m.1.1.0, meets-found to starts m.0 m.1.0 m.1.1.1))
 
@@ -93,15 +92,11 @@ pub gains_none : (P : ℕ → Type 0) {old : ℕ → Bool} (j : ℕ) → ((k : �
     → (k : ℕ) → IsTrue (old k) ↔ ((k < j + 1) × P k)
 gains_none P j told fails k = grind (arith, cases_eq, told k)
 
--- what `later_conflicts` says
-abbrev pub TellsLater : (ℕ → ℕ → Bool) → SystemSet → ℕ → SystemSet → Type 0
-TellsLater conflict before i later = (j : ℕ) → IsTrue (has later j)
-    ↔ ((i < j) × (IsTrue (conflict i j) × IsFalse (has before j)))
-
--- the pairs of system i with the later ones
+-- the pairs of system i with the later ones, of which the set `later` has those in conflict, as `later_conflicts` says
 pub row_settles : (conflict : ℕ → ℕ → Bool) (g : Graph) (n i : ℕ) (before new : List SystemSet) (later : SystemSet)
     → n ≤ MAX_SYSTEMS → i < n → ((j : ℕ) → IsTrue (conflict i j) → j < n)
-    → TellsLater conflict (set_at before i) i later → AddsEdges before i later new
+    → ((j : ℕ) → IsTrue (has later j) ↔ ((i < j) × (IsTrue (conflict i j) × IsFalse (has (set_at before i) j))))
+    → AddsEdges before i later new
     → ArePaths (settle conflict g (pairs_until n i)) before → ArePaths (settle conflict g (pairs_until n (i + 1))) new
 row_settles conflict g n i before new later few lt below tells adds way =
     let h : Graph = settle conflict g (pairs_until n i) in

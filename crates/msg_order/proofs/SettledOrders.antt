@@ -18,8 +18,7 @@ module _ (rules : List Rule) (joined : List Bool) (conflict : ℕ → ℕ → Bo
   pub settled_no_cycle : IsAcyclic (rules_among joined rules) → IsAcyclic (settled conflict rules joined)
   settled_no_cycle free i =
       no_Path _ i i (settle_keeps (conflict_among joined conflict) (λ k. (s : ℕ) → path k s s ≡ false)
-      (pairs (length joined)) (rules_among joined rules)
-      (λ p k m test back free s.
+      (pairs (length joined)) (rules_among joined rules) (λ p k m test back free s.
       let rises = pairs-Contains (length joined) p.0 p.1 m in
       grind (arith, cases_Bool, eqb_tells, free, back, path_trans k, rises))
       (λ k. no_path _ k k (free k)) i)

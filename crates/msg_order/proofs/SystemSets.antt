@@ -34,8 +34,7 @@ words-set words new j k f l h same is =
 -- `words[k / 64] |= 1 << (k % 64)`
 pub words-insert : (words : List ℕ) (j k : ℕ) → length words ≡ WORDS → k < MAX_SYSTEMS →
     has_bit (get_or (slice_set words (k / 64) (bit_or (get_or words (k / 64) 0) (1 * 2 ^ (k % 64) % 2 ^ 64)))
-    (j / 64) 0) (j % 64)
-    ≡ ((j == k) || has_bit (get_or words (j / 64) 0) (j % 64))
+    (j / 64) 0) (j % 64) ≡ ((j == k) || has_bit (get_or words (j / 64) 0) (j % 64))
 words-insert words j k l h = words-set words _ j k (λ a b. a || b) l h (λ b. refl)
     (has_bit-set (get_or words (k / 64) 0) (k % 64) (j % 64) (omega arith))
 
@@ -44,8 +43,7 @@ pub words-remove : (words : List ℕ) (j k : ℕ) → length words ≡ WORDS →
     has_bit (get_or (slice_set words (k / 64)
     (bit_and (get_or words (k / 64) 0) (bit_not w64 (1 * 2 ^ (k % 64) % 2 ^ 64)))) (j / 64) 0) (j % 64)
     ≡ (not (j == k) && has_bit (get_or words (j / 64) 0) (j % 64))
-words-remove words j k l h =
-    words-set words _ j k (λ a b. not a && b) l h (λ b. refl)
+words-remove words j k l h = words-set words _ j k (λ a b. not a && b) l h (λ b. refl)
     (has_bit-unset (get_or words (k / 64) 0) (k % 64) (j % 64) (omega arith) (omega arith))
 
 -- nothing is in a set of no words

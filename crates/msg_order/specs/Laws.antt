@@ -32,8 +32,7 @@ SettledIsTheOrder = (accesses : List Access) (rules : List Rule) (joined : List 
 -- If no path leads back, the batches are by batch number, and the turns go in that order.
 abbrev pub BatchesAreByNumber : Type 0
 BatchesAreByNumber = (order : Graph) (joined : List Bool) → IsAmong joined order → IsAcyclic order
-    → AreBatches order joined (batches order joined)
-    × IsTurnOrder order joined (turns order joined)
+    → AreBatches order joined (batches order joined) × IsTurnOrder order joined (turns order joined)
 
 -- A turn order keeps the order: it is a lawful one.
 abbrev pub TurnOrderIsLawful : Type 0
