@@ -177,8 +177,8 @@ contrary = run_of ([] ∷ []) (setup (program (Write 0 (pos 1) ∷ []) ∷ progr
     (record { earlier = 3; later = 1 } ∷ record { earlier = 2; later = 0 } ∷ []) (10 ∷ 10 ∷ []) [])
 
 pub contradictory_order : contrary.logs
-    ≡ log_of [] (did 2 (read_of 0 0 []) ∷ did 0 (wrote 0 1) ∷ did 3 (read_of 0 0 (by 0 (pos 1) ∷ []))
-    ∷ did 1 (wrote 0 1) ∷ []) ∷ []
+    ≡ log_of [] (did 2 (read_of 0 0 []) ∷ did 0 (wrote 0 1)
+    ∷ did 3 (read_of 0 0 (by 0 (pos 1) ∷ [])) ∷ did 1 (wrote 0 1) ∷ []) ∷ []
 unfolding turn turn_order settled_order parts
 contradictory_order = refl
 

@@ -11,8 +11,8 @@ pub fn logs_have_the_replies<V: Value>()
 {}
 
 /// Each message that a complete run tells of was given, or cleared, or missed: one of these, and
-/// once. What is given of a writer is what the writer was told that it wrote, under that number and in that
-/// order. And the entries are what the logs tell.
+/// once. What is given of a writer is what the writer was told that it wrote, under that number and
+/// in that order. And the entries are what the logs tell.
 pub fn each_message_meets_one_fate<V: Value>()
     ensures fate { EachMeetsOneFate V.values }
     ensures writers { WritersInOrder V.values }
