@@ -1,15 +1,15 @@
 //! What a client shows by the engine's clauses alone.
 ghost use Rattle.std.specs.Prelude.{◌≡◌, ◌<◌, ◌∷◌, [], ℕ, ℤ, All, Contains, IfOk, IsTrue, flat_map};
 ghost use Rattle.msg_exec.specs.Prelude.{IsEngine, PostsFit, EngineStands};
-ghost use Rattle.msg_frames.specs.Prelude.{Meets, ReadsAll, State, before_turns, has_begun, log_entries, numbers_told, told_to};
+ghost use Rattle.msg_frames.specs.Prelude.{State, before_turns, has_begun, numbers_told};
 ghost use Rattle.msg_frames.specs.Frames.{frame as frame_of, settled_order};
-ghost use Rattle.msg_frames.specs.Fates.Fate.{given};
+ghost use Rattle.msg_laws.specs.Prelude.{Meets, ReadsAll, given, log_entries, told_to};
 ghost use Rattle.msg_order.specs.Prelude.{Path};
 ghost use Rattle.msg_world.specs.{declared.record.Record.Record as RecordView, Prelude.i64_values};
 
 use msg_exec::engine_laws::engines_stand;
 use msg_exec::{EngineOf, Frame, Log, NoGate, RunFault, Workers};
-use msg_frames::reader_laws::{each_message_meets_one_fate, what_is_written_is_read_in_time};
+use msg_laws::reader_laws::{each_message_meets_one_fate, what_is_written_is_read_in_time};
 use msg_system::SystemOf;
 use std::alloc::Global;
 use std::thread::Threads;

@@ -1,6 +1,7 @@
 //! Engines that are made alike: what they are told depends on their frames alone.
 ghost use Rattle.std.specs.Prelude.{◌≡◌, ◌++◌, ◌∷◌, [], All, IfOk, IfSome, List, map, ℤ};
-ghost use Rattle.msg_frames.specs.Prelude.{IsSoundState, NothingDrained, accounts_of, log_entries, run};
+ghost use Rattle.msg_frames.specs.Prelude.{IsSoundState, accounts_of, run};
+ghost use Rattle.msg_laws.specs.Prelude.{NothingDrained, log_entries};
 ghost use Rattle.msg_frames.specs.{declared.log.Log.Log as LogView};
 ghost use Rattle.msg_system.specs.Prelude.{new_system};
 ghost use Rattle.msg_exec.specs.Prelude.{HasRunSince, IsEngine, IsSpoiled};
@@ -11,7 +12,7 @@ use msg_exec::engine_laws::engines_stand;
 use msg_exec::{
     Account, BuildError, EngineBuilder, EngineOf, Frame, Items, Log, NoGate, NoMemory, Workers,
 };
-use msg_frames::reader_laws::{each_message_meets_one_fate, no_wake_up_is_lost, programs_read_all};
+use msg_laws::reader_laws::{each_message_meets_one_fate, no_wake_up_is_lost, programs_read_all};
 use msg_system::{Condition, Op, Probe, Program, Scripted, Start, SystemOf};
 use msg_world::{TypeNo, World};
 use std::alloc::Global;

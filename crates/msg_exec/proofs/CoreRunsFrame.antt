@@ -1,17 +1,16 @@
 -- A frame begins, takes its turns, and leaves a core that stands for the state after it.
-use Rattle.std.proofs.Common.{◌≡◌, ℕ, suc, ◌<◌, Bool, false, List, map, max, ap, ◌∙◌, arith, IsTrue, ◌↔◌, nat_le, refl, sym}
+use Rattle.std.proofs.Common.{◌≡◌, ℕ, suc, ◌<◌, Bool, false, List, map, max, ap, ◌∙◌, arith, All, IsTrue, ◌↔◌, nat_le, refl}
 use Rattle.std.specs.List.{concat}
 use Rattle.std.proofs.lemmas.{Bool.lt-leb, Bool.Decides.nat_tests, List.FromFn.fill_by_all, List.FromFn.get_or-map-range_with_len, List.FromFn.length-map-range_with_len, List.get_or-map, List.length-map}
-use Rattle.msg_order.specs.Prelude.{IsLawfulOrder, PlanView}
+use Rattle.msg_order.specs.{Prelude.IsLawfulOrder, Prelude.NoneConflict, Prelude.PlanView, Prelude.plan_of, Prelude.settled, declared.rule.Rule.Rule}
 use Rattle.msg_system.specs.declared.reply.Reply.{Reply}
 use Rattle.msg_system.specs.Prelude.{Meaning}
 use Rattle.msg_exec.specs.Prelude.{AreJoins, Core, CoreStands, Lender, LenderStands, FixedParts}
 use Rattle.msg_frames.specs.{declared.frame.Frame.Frame}
 use Rattle.msg_exec.specs.{inner.FrameSteps.HasLeft, inner.FrameSteps.HasOpened, inner.FrameSteps.NobodyJoins, inner.FrameSteps.one_frame_more, inner.SystemsOut.HaveReadNothing, inner.FrameSteps.PlansNext}
-use Rattle.msg_frames.specs.Prelude.{FrameStaysSound, IsLawfulFor, IsSoundState, SameSystems, State, after_joining, before_turns, frame, has_begun, join_flags}
-use Rattle.msg_frames.specs.Frames.{turn_order}
-use Rattle.msg_frames.proofs.{Functions.plan_order, Functions.plan_turns, SystemsStay.uses_stay}
-use Rattle.msg_frames.proofs.{SystemsStay.accesses_stay, SystemsStay.before_keeps, SystemsStay.joined_stay, SystemsStay.joining_keeps, SystemsStay.joining_makes_no_frame, SystemsStay.turns_keep_systems, SystemsStay.turns_make_no_frame}
+use Rattle.msg_frames.specs.Prelude.{FrameStaysSound, IsLawfulFor, IsSoundState, SameSystems, State, after_joining, are_in_conflict, before_turns, frame, has_begun, join_flags}
+use Rattle.msg_frames.specs.Frames.{settled_order, turn_order}
+use Rattle.msg_frames.proofs.{Functions.batches_apart, Functions.plan_is, SystemsStay.accesses_stay, SystemsStay.before_keeps, SystemsStay.joined_stay, SystemsStay.joining_keeps, SystemsStay.joining_makes_no_frame, SystemsStay.no_cycle_stays, SystemsStay.turns_keep_systems, SystemsStay.turns_make_no_frame, SystemsStay.uses_stay}
 use Rattle.msg_world.specs.Prelude.{Values}
 
 -- ---- what no frame changes
@@ -60,13 +59,23 @@ module _ {V : Type 0} {values : Values V} where
 module _ {S V : Type 0} {values : Values V} (meaning : S → Meaning V) where
   module _ {b : Core S V} {s : State values} {f : Frame V} {replies : List (Reply V)}
       (has : HasOpened meaning f s b replies) where
+    planned : IsSoundState s → b.plan ≡ plan_of (settled_order (before_turns f.posts s)) (join_flags (before_turns f.posts s))
+    planned sound =
+        let bt : State values = before_turns f.posts s in
+        plan_is bt b.lender.accesses.items b.plan (uses_stay s bt (before_keeps f.posts s) sound.uses)
+        (grind (arith, has.lender)) has.plan
+
     -- batch by batch, those that have joined take their turns in the settled order
     pub in_turn : IsSoundState s → concat b.plan.batches ≡ turn_order (before_turns f.posts s)
-    in_turn sound =
+    unfolding turn_order
+    in_turn sound = ap (λ p. concat p.batches) (planned sound)
+
+    pub in_batch_apart : IsSoundState s → All (NoneConflict b.lender.accesses.items) b.plan.batches
+    in_batch_apart sound =
         let bt : State values = before_turns f.posts s in
-        plan_turns bt b.lender.accesses.items has.plan.order (concat b.plan.batches)
-        (uses_stay s bt (before_keeps f.posts s) sound.uses) (grind (arith, has.lender)) has.plan.settled
-        (ap concat has.plan.computed)
+        let keeps = before_keeps f.posts s in
+        rw (planned sound) (batches_apart bt b.lender.accesses.items (uses_stay s bt keeps sound.uses)
+        (grind (arith, has.lender)) (no_cycle_stays s bt keeps sound.no_cycle))
 
     pub frame_ran : {new : Lender S V} {Told : Type 0} → IsSoundState s → FrameStaysSound values
         → LenderStands meaning new (frame f s).state → Told → new.accesses.items ≡ b.lender.accesses.items
@@ -90,14 +99,16 @@ module _ {S V : Type 0} {values : Values V} (meaning : S → Meaning V) where
 
   -- an order is lawful for a frame just if the plan of those that will have joined accepts it
   pub accepted : {accepts : Bool} {c : Core S V} {s : State values} {plan : PlanView} (f : Frame V) (order : List ℕ)
-      → CoreStands meaning c s → (is : PlansNext c s plan)
-      → (IsTrue accepts ↔ IsLawfulOrder is.order (join_flags (one_frame_more (after_joining s))) order)
+      → CoreStands meaning c s → PlansNext c s plan
+      → ((rules : List Rule) (joined : List Bool) (conflict : ℕ → ℕ → Bool)
+      → plan ≡ plan_of (settled conflict rules joined) joined
+      → IsTrue accepts ↔ IsLawfulOrder (settled conflict rules joined) joined order)
       → IsTrue accepts ↔ IsLawfulFor f s order
-  accepted {c = c} {s} f order stands is tells =
+  unfolding settled_order
+  accepted {c = c} {s} {plan} f order stands is tells =
       let b : State values = before_turns f.posts s in
       let keeps = before_keeps f.posts s in
-      let same = plan_order b c.lender.accesses.items is.order (uses_stay s b keeps stands.sound.uses)
-      (accesses_stay s b c.lender.accesses.items keeps (grind (arith, stands.lender))) (rw keeps.rules is.settled) in (
-        λ yes. record { lawful = rw same at (tells.0 yes) },
-        λ x. tells.1 (rw (sym same) at x.lawful),
-      )
+      let told = tells b.rules (join_flags b) (are_in_conflict b) (plan_is b c.lender.accesses.items plan
+      (uses_stay s b keeps stands.sound.uses)
+      (accesses_stay s b c.lender.accesses.items keeps (grind (arith, stands.lender))) (rw keeps.rules is)) in
+      (λ yes. record { lawful = told.0 yes }, λ x. told.1 x.lawful)

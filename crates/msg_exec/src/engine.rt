@@ -6,7 +6,7 @@ use crate::replay::{accepts_next, replay_one};
 use crate::side_by_side::Crew;
 use crate::spares::Spares;
 use crate::{BuildRefusal, Frame, Gate, Log, Place, RunFault, Workers};
-use msg_frames::reader_laws::{first_states_are_sound, replays_tell_the_same, runs_are_complete};
+use msg_frames::laws::{first_states_are_sound, replays_tell_the_same, runs_are_complete};
 use msg_order::Rule;
 use msg_order::laws::fewer_systems_make_no_cycle;
 use msg_system::{System, SystemOf};

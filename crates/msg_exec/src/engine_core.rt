@@ -13,7 +13,7 @@ use crate::posts::post_all;
 use crate::side_by_side::Crew;
 use crate::spares::Spares;
 use crate::{Frame, Gate, Items, Log, NoMemory};
-use msg_frames::reader_laws::states_stay_sound;
+use msg_frames::laws::states_stay_sound;
 use msg_order::{Plan, PlanRefusal, Rule};
 use msg_system::{Reply, SystemOf};
 use msg_world::{Access, MAX_SYSTEMS, Value};

@@ -5,7 +5,7 @@ ghost use Rattle.msg_exec.specs.Prelude.{EngineOf as EngineView, EngineStands, H
 ghost use Rattle.msg_frames.specs.Prelude.{IsSoundState, State};
 ghost use Rattle.msg_frames.specs.declared.frame.Frame.{Frame as FrameView};
 
-use msg_frames::reader_laws::runs_are_complete;
+use msg_frames::laws::runs_are_complete;
 use msg_system::SystemOf;
 
 /// An engine that stands for a state isn't spoiled, has counted the state's frames, and takes posts

@@ -29,9 +29,7 @@ pub use engine::{Engine, EngineOf};
 pub use host::Host;
 pub use loop_fault::LoopFault;
 pub use msg_buffer::NoMemory;
-pub use msg_frames::{
-    Account, Frame, Items, LAST_JOIN, Log, Outcome, Place, Totals, Turn, laws, reader_laws,
-};
+pub use msg_frames::{Account, Frame, Items, LAST_JOIN, Log, Outcome, Place, Totals, Turn, laws};
 pub use msg_workers::{Gate, MAX_WORKERS, NoGate, Runs, Workers, work};
 pub use msg_world::RunFault;
 pub use side_by_side::Batch;

@@ -1,13 +1,12 @@
 -- The jobs of a batch, side by side.
-use Rattle.std.proofs.Common.{◌≡◌, ◌≢◌, ℕ, suc, ◌<◌, List, [], ◌∷◌, ◌++◌, map, slice_index_or, refl, arith, All, AllPairs}
-use Rattle.std.specs.List.{concat}
-use Rattle.std.proofs.lemmas.{Bool.cases_Bool, List.Elements.All-tail, Bool.Decides.eqb_tells}
-use Rattle.msg_world.specs.{Prelude.Conflict, declared.part.Part.Part, Prelude.merge, declared.access.Access.Access, Prelude.Values}
+use Rattle.std.proofs.Common.{All, AllPairs, List, [], arith, map, refl, slice_index_or, suc, ℕ, ◌++◌, ◌<◌, ◌∷◌, ◌≡◌, ◌≢◌}
+use Rattle.std.proofs.lemmas.{Bool.cases_Bool, Bool.Decides.eqb_tells, List.Elements.All-tail}
+use Rattle.msg_world.specs.{Prelude.Conflict, Prelude.Values, Prelude.merge, declared.access.Access.Access, declared.part.Part.Part}
 use Rattle.msg_world.proofs.Loans.{content_merged}
 use Rattle.msg_order.specs.Prelude.{NoneConflict, access_of}
 use Rattle.msg_system.specs.Prelude.{Agree, JobFootprint, needs_any}
-use Rattle.msg_frames.specs.Prelude.{AreAccessesOf, BatchesRunSideBySide, FramesRunByBatches, SameSystems, State, after_turn_of, after_turns_of, all_home, home, logged_turn, member_needs, turn_of, AfterTurns}
-use Rattle.msg_frames.proofs.{SystemsStay.accesses_stay, SystemsStay.turns_keep_systems, ElementsAndPairs.all_left, ElementsAndPairs.all_right, ElementsAndPairs.pairs_left, ElementsAndPairs.pairs_right, ElementsAndPairs.pairs_tail, TurnsCommute.apart, TurnsCommute.given_by_turn, TurnsCommute.same_world, TurnsCommute.turn_footprint}
+use Rattle.msg_frames.specs.Prelude.{AfterTurns, AreAccessesOf, BatchesRunSideBySide, State, after_turn_of, after_turns_of, all_home, home, logged_turn, member_needs, turn_of}
+use Rattle.msg_frames.proofs.{ElementsAndPairs.pairs_tail, TurnsCommute.apart, TurnsCommute.given_by_turn, TurnsCommute.same_world, TurnsCommute.turn_footprint}
 
 -- nothing that system i needs or keeps is otherwise in s than in `start`
 record Untouched {V : Type 0} {values : Values V} (start s : State values) (i : ℕ) : Type 0 where
@@ -67,15 +66,3 @@ module _ {V : Type 0} {values : Values V} where
       record { state = rest.state; turns = first.turns ++ rest.turns })
   turns_then_more [] ys s = refl
   turns_then_more (x ∷ xs) ys s = grind (arith, turns_then_more xs ys (after_turn_of x s))
-
-  pub batch_by_batch : JobFootprint values → FramesRunByBatches values
-  batch_by_batch foot s accesses [] are below once apart = refl
-  batch_by_batch foot s accesses (batch ∷ batches) are below once apart =
-      let first = side_by_side foot s accesses batch are (all_left (λ i. i < s.systems) batch (concat batches) below)
-      (pairs_left (λ i j. i ≢ j) batch (concat batches) once) (apart 0 batch (omega arith)) in
-      let left : State values = (after_turns_of batch s).state in
-      let kept : SameSystems s left = turns_keep_systems batch s in
-      let rest = batch_by_batch foot left accesses batches (accesses_stay s left accesses kept are)
-      (rw (kept.systems) (all_right (λ i. i < s.systems) batch (concat batches) below))
-      (pairs_right (λ i j. i ≢ j) batch (concat batches) once) (All-tail (NoneConflict accesses) batch batches apart) in
-      grind (arith, first, rest, turns_then_more batch (concat batches) s)

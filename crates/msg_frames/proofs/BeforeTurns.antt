@@ -1,8 +1,7 @@
 -- What comes before the turns of a frame: systems join, types are updated, posts are written.
-use Rattle.std.proofs.Common.{◌≡◌, ℕ, ◌≤◌, ◌<◌, List, arith, IsTrue, IsFalse}
-use Rattle.std.proofs.lemmas.{Bool.cases_Bool, Option.unwrap_or-slice_get, List.FromFn.get_or-map-range_with_len, Bool.Decides.nat_tests}
-use Rattle.msg_buffer.specs.Prelude.{OnlyGrows, count}
-use Rattle.msg_world.specs.declared.record.Record.{Record}
+use Rattle.std.proofs.Common.{IsFalse, IsTrue, List, arith, ℕ, ◌<◌, ◌≡◌, ◌≤◌}
+use Rattle.std.proofs.lemmas.{Bool.cases_Bool, Bool.Decides.nat_tests, List.FromFn.get_or-map-range_with_len, Option.unwrap_or-slice_get}
+use Rattle.msg_buffer.specs.Prelude.{count}
 use Rattle.msg_frames.specs.Prelude.{SameSystems, State, before_turns, counts, has_begun, joined_member, reader_place}
 use Rattle.msg_frames.proofs.{HistoriesGrow.WorldGoesOn, HistoriesGrow.before_goes_on, SystemsStay.before_keeps}
 use Rattle.msg_world.specs.Prelude.{Values}
@@ -21,8 +20,8 @@ pub record Prepares {V : Type 0} {values : Values V} (s b : State values) : Type
   pub arrival : (i : ℕ) → Arrival s b i
 
 module _ {V : Type 0} {values : Values V} where
-  pub prepares : OnlyGrows (Record V) → (posts : List (ℕ × V)) (s : State values) → Prepares s (before_turns posts s)
-  prepares grow posts s = grind (arith, before_keeps posts s, before_goes_on grow posts s, cases_Bool, nat_tests)
+  pub prepares : (posts : List (ℕ × V)) (s : State values) → Prepares s (before_turns posts s)
+  prepares posts s = grind (arith, before_keeps posts s, before_goes_on posts s, cases_Bool, nat_tests)
 
   pub begun_within : (s : State values) (i t : ℕ) → t < s.types → reader_place s i t ≤ count (s.world.histories t)
       → (joined_member (counts s) (s.members i)).job.system.places t ≤ count (s.world.histories t)

@@ -1,16 +1,10 @@
 -- What holds of each element of a list, and of each pair, and what stands where.
-use Rattle.std.proofs.Common.{◌≡◌, ◌+◌, inl, inr, List, [], ◌∷◌, ◌++◌, length, ap, arith, length-append, get_or-append-add, All, AllPairs, Contains}
+use Rattle.std.proofs.Common.{All, AllPairs, Contains, List, [], ap, arith, get_or-append-add, inl, inr, length, length-append, ◌++◌, ◌+◌, ◌∷◌, ◌≡◌}
 use Rattle.std.proofs.lemmas.{List.get_or_append_left, List.Elements.All-cons, List.Elements.All-tail, List.Kept.AllPairs-cons}
 use Rattle.msg_order.proofs.Elements.{Contains-cases, not_in_none}
 pub use Rattle.msg_order.proofs.Elements.{pairs_head, pairs_tail}
 
 module _ {X : Type 0} where
-  pub all_left : (P : X → Type 0) (xs ys : List X) → All P (xs ++ ys) → All P xs
-  all_left P xs ys h k d lt = grind (arith, get_or_append_left xs ys d, length-append xs ys, h k d)
-
-  pub all_right : (P : X → Type 0) (xs ys : List X) → All P (xs ++ ys) → All P ys
-  all_right P xs ys h k d lt = grind (arith, get_or-append-add xs ys k d, length-append xs ys, h (length xs + k) d)
-
   pub pairs_left : (R : X → X → Type 0) (xs ys : List X) → AllPairs R (xs ++ ys) → AllPairs R xs
   pairs_left R xs ys r i j d lt l =
       grind (arith, get_or_append_left xs ys d, length-append xs ys, r i j d lt)

@@ -1,9 +1,9 @@
 -- How entries add up in an account.
-use Rattle.std.proofs.Common.{◌≡◌, ℕ, ◌+◌, List, [], ◌∷◌, ◌++◌, length, flat_map, None, arith}
-use Rattle.std.proofs.lemmas.{List.length-append, List.FromFn.length-range_with_len, Bool.cases_Bool, Grind.flat_map-append}
+use Rattle.std.proofs.Common.{List, None, [], arith, flat_map, length, ℕ, ◌++◌, ◌+◌, ◌∷◌, ◌≡◌}
+use Rattle.std.proofs.lemmas.{Bool.cases_Bool, Grind.flat_map-append, List.length-append, List.FromFn.length-range_with_len}
 use Rattle.msg_buffer.specs.Prelude.{Stretch}
 use Rattle.msg_system.specs.declared.reply.Took.{Took}
-use Rattle.msg_frames.specs.Prelude.{ReadEntry, Totals, cleared, entry_of_read, given, missed, numbers_of, numbers_told, with_entries}
+use Rattle.msg_frames.specs.Prelude.{ReadEntry, Totals, entry_of_read, numbers_cleared, numbers_given, numbers_missed, numbers_told, with_entries}
 
 pub with_entries-none : (V : Type 0) (x : Totals) → with_entries {V = V} [] x ≡ x
 with_entries-none V x = grind arith
@@ -14,8 +14,7 @@ module _ {V : Type 0} where
   with_entries-append es fs x = grind (arith, flat_map-append, length-append)
 
   -- what one op that read adds, and what one clear
-  pub with_read : (took : Took V) (x : Totals)
-      → with_entries (entry_of_read took ∷ []) x
+  pub with_read : (took : Took V) (x : Totals) → with_entries (entry_of_read took ∷ []) x
       ≡ record x { got = x.got + length took.items; missed = x.missed + took.missed }
   with_read took x = grind (arith, length-append, length-range_with_len)
 
@@ -28,6 +27,6 @@ with_clear V gone first n x = grind (arith, length-append, length-range_with_len
 module _ {V : Type 0} where
   -- the numbers given, missed and cleared are all that entries tell
   pub all_told : (es : List (ReadEntry V)) → length (flat_map numbers_told es)
-      ≡ length (numbers_of given es) + length (numbers_of missed es) + length (numbers_of cleared es)
+      ≡ length (flat_map numbers_given es) + length (flat_map numbers_missed es) + length (flat_map numbers_cleared es)
   all_told [] = grind arith
   all_told (e ∷ es) = grind (arith, cases_Bool, length-append, length-range_with_len, all_told es)

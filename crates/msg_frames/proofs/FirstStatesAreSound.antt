@@ -1,11 +1,11 @@
 -- A first state is sound, and there each reader that has joined has new accounts.
-use Rattle.std.proofs.Common.{◌≡◌, ℕ, ◌≤◌, List, arith, IsTrue}
-use Rattle.std.proofs.lemmas.{Bool.cases_Bool, List.get_or_past, Bool.Decides.nat_tests, Bool.Decides.eqb_tells}
+use Rattle.std.proofs.Common.{List, arith, ℕ}
+use Rattle.std.proofs.lemmas.{Bool.Decides.eqb_tells, Bool.Decides.nat_tests, List.get_or_past}
 use Rattle.msg_order.specs.declared.rule.Rule.{Rule}
-use Rattle.msg_world.specs.Prelude.{WorldState, Values}
+use Rattle.msg_world.specs.Prelude.{Values, WorldState}
 use Rattle.msg_system.specs.Prelude.{Meaning}
-use Rattle.msg_frames.specs.Prelude.{AreNew, IsSoundState, NoCycle, Place, State, UsesParts, counts, first_state, before_joining, has_begun, reader_place, totals_from}
-use Rattle.msg_frames.proofs.{BeforeTurns.begun_within, StatesStaySound.balanced_start, SystemsStay.no_cycle_stays, SystemsStay.uses_stay, SystemsStay.joining_on_keeps}
+use Rattle.msg_frames.specs.Prelude.{AreNew, IsSoundState, NoCycle, Place, State, UsesParts, before_joining, counts, first_state}
+use Rattle.msg_frames.proofs.{BeforeTurns.begun_within, StatesStaySound.balanced_start, SystemsStay.joining_on_keeps, SystemsStay.no_cycle_stays, SystemsStay.uses_stay}
 
 module _ {V : Type 0} {values : Values V} (systems : List (Meaning V)) (places : List (Place V)) (rules : List Rule) (types : ℕ) (world : WorldState values)
     (new : AreNew systems places rules types world) where
@@ -20,12 +20,3 @@ module _ {V : Type 0} {values : Values V} (systems : List (Meaning V)) (places :
       let free : NoCycle (first_state systems places rules types world) =
       no_cycle_stays all_wait _ (joining_on_keeps 1 all_wait) new.no_cycle in
       grind (arith, uses, free, new, get_or_past, begun_within all_wait, eqb_tells, nat_tests, began)
-
-module _ {V : Type 0} {values : Values V} where
-  -- if a reader has joined, it has new accounts
-  pub first_accounts : (systems : List (Meaning V)) (places : List (Place V)) (rules : List Rule) (types : ℕ)
-      (world : WorldState values) (i t : ℕ) → 1 ≤ ((first_state systems places rules types world).members i).join
-      → IsTrue (has_begun (first_state systems places rules types world) i)
-      → ((first_state systems places rules types world).members i).totals t
-      ≡ totals_from (reader_place (first_state systems places rules types world) i t)
-  first_accounts systems places rules types world i t late has = grind (arith, cases_Bool, eqb_tells, nat_tests)

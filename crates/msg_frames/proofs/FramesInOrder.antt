@@ -1,6 +1,6 @@
 -- A frame whose turns are taken in an order: its log has them in that order.
-use Rattle.std.proofs.Common.{arith, ◌≡◌, ℕ, List, [], ◌∷◌, map, refl, ap, ◌∙◌}
-use Rattle.msg_world.specs.Prelude.{after_update, Values}
+use Rattle.std.proofs.Common.{List, [], ap, arith, map, refl, ℕ, ◌∙◌, ◌∷◌, ◌≡◌}
+use Rattle.msg_world.specs.Prelude.{Values, after_update}
 use Rattle.msg_system.specs.declared.reply.Reply.{Reply}
 use Rattle.msg_frames.specs.Prelude.{Frame, Log, State, Turn, after_turn_of, after_turns_of, before_turns, frame_in, post_replies, turn_order_in}
 

@@ -1,35 +1,31 @@
 -- What the functions of the order, of frames and of runs come to.
-use Rattle.std.proofs.Common.{◌≡◌, ℕ, ◌<◌, Bool, ◌&&◌, ◌||◌, List, [], ◌∷◌, ◌++◌, append_assoc, refl, sym, ap, ◌∙◌, arith, ◌↔◌, ◌⊎◌, ◌≢◌, inl, inr, IsTrue, Contains, map}
-use Rattle.std.specs.List.{list_any, range_with_len}
-use Rattle.std.proofs.Math.Bool.{or_comm}
-use Rattle.std.proofs.lemmas.{Bool.cases_Bool, Bool.cases_order, List.Elements.Contains-append_left, List.Elements.Contains-append_right, List.FromFn.length-map-range_with_len}
-use Rattle.msg_world.specs.{Prelude.Conflict, Prelude.HasPart, declared.part.Part.TheVariants.OfResource, declared.part.Part.TheVariants.OfType, declared.part.Part.Part, declared.part.Part.TheVariants.Registry, Prelude.uses, Prelude.writes, declared.access.Access.Access, declared.limits.TheConstants.MAX_RESOURCES, declared.limits.TheConstants.MAX_TYPES, Prelude.Values}
-use Rattle.msg_order.specs.Prelude.{Graph, IsAcyclic, IsAmong, IsSettledOrder, IsTurnOrder, Path, TellsConflicts, has_joined, turns}
-use Rattle.msg_order.proofs.{Elements.Contains-head, Elements.Contains-list_any, Elements.Contains-map, Elements.Contains-range, Elements.list_any-Contains, Functions.batches_are, Functions.settled_among, Functions.settled_no_cycle, Functions.settled_only, Functions.settled_orders, Functions.turns_are, TurnOrders.in_lawful_order}
+use Rattle.std.proofs.Common.{All, Bool, Contains, IsTrue, List, [], ap, append_assoc, arith, map, refl, sym, ◌&&◌, ◌++◌, ◌<◌, ◌||◌, ◌↔◌, ◌∙◌, ◌∷◌, ◌≡◌, ◌⊎◌}
+use Rattle.std.specs.List.{range_with_len}
+use Rattle.std.proofs.lemmas.{Bool.cases_Bool, List.Elements.Contains-append_left, List.Elements.Contains-append_right, List.FromFn.length-map-range_with_len}
+use Rattle.msg_world.specs.{Prelude.Conflict, Prelude.HasPart, Prelude.Values, Prelude.uses, Prelude.writes, declared.access.Access.Access, declared.limits.TheConstants.MAX_RESOURCES, declared.limits.TheConstants.MAX_TYPES, declared.part.Part.Part, declared.part.Part.TheVariants.OfResource, declared.part.Part.TheVariants.OfType, declared.part.Part.TheVariants.Registry}
+use Rattle.msg_order.specs.Prelude.{IsAcyclic, IsAmong, IsPlanOf, IsSettledOrder, IsTurnOrder, NoneConflict, PlanView, TellsConflicts, batches, plan_of}
+use Rattle.msg_order.proofs.{Elements.Contains-head, Elements.Contains-list_any, Elements.Contains-map, Elements.Contains-range, Elements.list_any-Contains, Functions.batches_are, Functions.settled_among, Functions.settled_no_cycle, Functions.turns_are, TurnOrders.none_conflict}
 use Rattle.msg_system.specs.Prelude.{IsAccessOf, Needs, needs_any}
-use Rattle.msg_frames.specs.Prelude.{AfterRun, AreAccessesOf, Frame, Log, NoCycle, SameSystems, State, TurnsAreInOrder, UsesParts, are_in_conflict, before_turns, frame, has_begun, join_flags, member_needs, needs_conflict, run}
-use Rattle.msg_frames.specs.Frames.{parts, settled_order, turn_order}
-use Rattle.msg_frames.proofs.{SystemsStay.frame_keeps, SystemsStay.joined_below}
+use Rattle.msg_frames.specs.{Frames.parts, Frames.settled_order, Frames.turn_order, Prelude.AfterRun, Prelude.AreAccessesOf, Prelude.Frame, Prelude.Log, Prelude.NoCycle, Prelude.SameSystems, Prelude.State, Prelude.UsesParts, Prelude.are_in_conflict, Prelude.before_turns, Prelude.frame, Prelude.has_begun, Prelude.join_flags, Prelude.needs_conflict, Prelude.run}
+use Rattle.msg_frames.proofs.SystemsStay.{frame_keeps, joined_below}
 
 -- ---- conflicts
+
+abbrev types : List Part
+types = map OfType (range_with_len 0 MAX_TYPES)
+
+abbrev resources : List Part
+resources = map OfResource (range_with_len 0 MAX_RESOURCES)
 
 is_part : (p : Part) → HasPart MAX_TYPES MAX_RESOURCES p → Contains parts p
 unfolding parts
 is_part (OfType t) lt =
-    let types : List Part = map OfType (range_with_len 0 MAX_TYPES) in
-    let resources : List Part = map OfResource (range_with_len 0 MAX_RESOURCES) in
-    Contains-append_left (types ++ resources) (Registry ∷ []) (OfType t)
-    (Contains-append_left types resources (OfType t)
+    Contains-append_left (types ++ resources) (Registry ∷ []) _ (Contains-append_left types resources _
     (Contains-map OfType (range_with_len 0 MAX_TYPES) t (Contains-range 0 MAX_TYPES t (omega arith) lt)))
 is_part (OfResource r) lt =
-    let types : List Part = map OfType (range_with_len 0 MAX_TYPES) in
-    let resources : List Part = map OfResource (range_with_len 0 MAX_RESOURCES) in
-    Contains-append_left (types ++ resources) (Registry ∷ []) (OfResource r)
-    (Contains-append_right types resources (OfResource r)
+    Contains-append_left (types ++ resources) (Registry ∷ []) _ (Contains-append_right types resources _
     (Contains-map OfResource (range_with_len 0 MAX_RESOURCES) r (Contains-range 0 MAX_RESOURCES r (omega arith) lt)))
-is_part Registry has =
-    Contains-append_right (map OfType (range_with_len 0 MAX_TYPES) ++ map OfResource (range_with_len 0 MAX_RESOURCES)) (Registry ∷ [])
-    Registry (Contains-head Registry [])
+is_part Registry has = Contains-append_right (types ++ resources) (Registry ∷ []) _ (Contains-head Registry [])
 
 -- each need is one of the parts
 abbrev IsWithin : Needs → Type 0
@@ -43,16 +39,13 @@ conflict_at_is : (m n : Needs) (a b : Access) (p : Part) → IsAccessOf m a → 
     → IsTrue (conflict_at m n p) ↔ (IsTrue (writes a p && uses b p) ⊎ IsTrue (writes b p && uses a p))
 conflict_at_is m n a b p ma nb = grind (arith, cases_Bool, ma.reads p, ma.writes p, nb.reads p, nb.writes p)
 
-conflict_within : (m n : Needs) (p : Part) → IsWithin m → IsTrue (conflict_at m n p) → HasPart MAX_TYPES MAX_RESOURCES p
-conflict_within m n p within t = within p (grind (arith, cases_Bool))
-
 conflict_is : (m n : Needs) (a b : Access) → IsAccessOf m a → IsAccessOf n b → IsWithin m
     → IsTrue (needs_conflict m n) ↔ Conflict a b
 conflict_is m n a b ma nb within = (
   λ t. let f = Contains-list_any (conflict_at m n) parts t in
       (f.0, (conflict_at_is m n a b f.0 ma nb).0 f.1.1),
   λ c. let at = (conflict_at_is m n a b c.0 ma nb).1 c.1 in
-      list_any-Contains (conflict_at m n) parts c.0 (is_part c.0 (conflict_within m n c.0 within at)) at,
+      list_any-Contains (conflict_at m n) parts c.0 (is_part c.0 (within c.0 (grind (arith, cases_Bool, at)))) at,
 )
 
 module _ {V : Type 0} {values : Values V} where
@@ -76,10 +69,9 @@ module _ {V : Type 0} {values : Values V} where
   unfolding settled_order
   order_among s = settled_among s.rules (join_flags s) (are_in_conflict s)
 
-  order_free : (s : State values) → NoCycle s → IsAcyclic (settled_order s)
+  pub order_free : (s : State values) → NoCycle s → IsAcyclic (settled_order s)
   unfolding settled_order
-  order_free s free =
-      settled_no_cycle s.rules (join_flags s) (are_in_conflict s)
+  order_free s free = settled_no_cycle s.rules (join_flags s) (are_in_conflict s)
       (free (join_flags s) (length-map-range_with_len (has_begun s) 0 s.systems))
 
   -- it is the turn order, if the rules make no cycle
@@ -87,50 +79,18 @@ module _ {V : Type 0} {values : Values V} where
   unfolding turn_order
   order_is s free = turns_are (settled_order s) (join_flags s) (order_among s) (order_free s free)
 
--- needs are in conflict with others if those are with them
-conflict_either : (m n : Needs) → needs_conflict m n ≡ needs_conflict n m
-conflict_either m n =
-    ap (λ (test : Part → Bool). list_any test parts)
-    (λ k p. or_comm (m.writes p && needs_any n p) (n.writes p && needs_any m p) k)
-
-module _ {V : Type 0} {values : Values V} where
-  in_conflict : (s : State values) (i j : ℕ) → i ≢ j → IsTrue (has_joined (join_flags s) i)
-      → IsTrue (has_joined (join_flags s) j) → IsTrue (are_in_conflict s i j)
-      → Path (settled_order s) i j ⊎ Path (settled_order s) j i
+  -- what a plan of the systems is
+  pub plan_is : (s : State values) (accesses : List Access) (plan : PlanView) → UsesParts s → AreAccessesOf s accesses
+      → IsPlanOf accesses s.rules (join_flags s) plan → plan ≡ plan_of (settled_order s) (join_flags s)
   unfolding settled_order
-  in_conflict s i j ne at_i at_j conflict =
-      let orders = settled_orders s.rules (join_flags s) (are_in_conflict s) in
-      elim (cases_order i j) [
-        | inl same ↦ absurd (ne same)
-        | inr (inl lt) ↦ orders i j lt at_i at_j conflict
-        | inr (inr lt) ↦
-            let either = conflict_either (member_needs (s.members j)) (member_needs (s.members i)) in
-            elim (orders j i lt at_j at_i (rw either conflict)) [ inl back ↦ inr back | inr on ↦ inl on ]
-      ]
+  plan_is s accesses plan uses are is = is.is (are_in_conflict s) (conflicts_tell s accesses are uses)
 
-  -- how those that have joined are ordered
-  pub are_ordered : TurnsAreInOrder values
-  are_ordered s free = record {
-    no_cycle = order_free s free;
-    conflicts = in_conflict s;
-    by_number = batches_are (settled_order s) (join_flags s) (order_among s) (order_free s free);
-    turns = order_is s free;
-    once = in_lawful_order (settled_order s) (join_flags s) (turn_order s) (order_among s) (order_is s free);
-  }
-
-  -- what a plan has is the settled order, and its turns
-  pub plan_order : (s : State values) (accesses : List Access) (g : Graph) → UsesParts s → AreAccessesOf s accesses
-      → IsSettledOrder accesses s.rules (join_flags s) g → g ≡ settled_order s
-  unfolding settled_order
-  plan_order s accesses g uses are is =
-      settled_only accesses s.rules (join_flags s) (are_in_conflict s) g
-      (conflicts_tell s accesses are uses) is
-
-  pub plan_turns : (s : State values) (accesses : List Access) (g : Graph) (order : List ℕ) → UsesParts s
-      → AreAccessesOf s accesses → IsSettledOrder accesses s.rules (join_flags s) g → order ≡ turns g (join_flags s)
-      → order ≡ turn_order s
-  unfolding turn_order
-  plan_turns s accesses g order uses are is made = rw (plan_order s accesses g uses are is) at made
+  -- its batches
+  pub batches_apart : (s : State values) (accesses : List Access) → UsesParts s → AreAccessesOf s accesses → NoCycle s
+      → All (NoneConflict accesses) (batches (settled_order s) (join_flags s))
+  batches_apart s accesses uses are free =
+      none_conflict accesses s.rules (join_flags s) (settled_order s) _ (order_is_settled s accesses uses are)
+      (batches_are (settled_order s) (join_flags s) (order_among s) (order_free s free))
 
 -- ---- frames and then others
 

@@ -1,25 +1,14 @@
 -- Whatever a run does, each type's history goes on.
-use Rattle.std.proofs.Common.{ℕ, zero, suc, ◌≤◌, List, [], ◌∷◌, map, Option, None, Some, append-nil, append_assoc, length-append, arith}
+use Rattle.std.proofs.Common.{List, None, Option, Some, [], append-nil, append_assoc, arith, length-append, map, suc, zero, ℕ, ◌∷◌, ◌≤◌}
 use Rattle.std.proofs.lemmas.{Bool.cases_Bool, Bool.Decides.eqb_tells}
-use Rattle.msg_buffer.specs.Prelude.{ClearsFit, GoesOn, History, IsSound, OnlyGrows, ReadsFit, clear, count, write}
-use Rattle.msg_buffer.proofs.{Growth.only_grows, Tiles.clears_fit, Tiles.reads_fit}
-use Rattle.msg_world.specs.{Prelude.WorldState, Prelude.after_update, Prelude.by, Prelude.with_history, declared.record.Record.Record, Prelude.Values}
-use Rattle.msg_system.specs.{declared.limits.TheConstants.MAX_OPS, declared.op.Op.Op, declared.op.Op.TheVariants.Write, declared.op.Op.TheVariants.Batch, declared.op.Op.TheVariants.Forward, declared.op.Op.TheVariants.Drain}
-use Rattle.msg_system.specs.Prelude.{AfterProgram, Job, Meaning, after_at_most, after_job, after_op, again_by, next_op, one_more, took, turn}
-use Rattle.msg_frames.specs.Prelude.{Frame, ListsOnlyGrow, State, after_posts, after_turn_of, after_turns_of, before_turns, frame, frame_in}
-use Rattle.msg_frames.specs.Frames.{turn_order}
+use Rattle.msg_buffer.specs.Prelude.{GoesOn, History, IsSound, clear, count, write}
+use Rattle.msg_buffer.proofs.Growth.{only_grows}
+use Rattle.msg_world.specs.{Prelude.Values, Prelude.WorldState, Prelude.after_update, Prelude.by, Prelude.with_history, declared.record.Record.Record}
+use Rattle.msg_system.specs.{Prelude.AfterProgram, Prelude.Job, Prelude.Meaning, Prelude.after_at_most, Prelude.after_job, Prelude.after_op, Prelude.again_by, Prelude.next_op, Prelude.one_more, Prelude.took, Prelude.turn, declared.limits.TheConstants.MAX_OPS, declared.op.Op.Op, declared.op.Op.TheVariants.Batch, declared.op.Op.TheVariants.Drain, declared.op.Op.TheVariants.Forward, declared.op.Op.TheVariants.Write}
+use Rattle.msg_frames.specs.Prelude.{Frame, State, after_posts, after_turn_of, after_turns_of, before_turns, frame, frame_in}
 use Rattle.msg_frames.proofs.SystemsStay.{joining_world}
 
--- What the laws of buffers say of the world's types.
-pub record BufferLaws (V : Type 0) : Type 0 where
-  pub grow : OnlyGrows (Record V)
-  pub reads : ReadsFit (Record V)
-  pub clears : ClearsFit (Record V)
-
 module _ {V : Type 0} where
-  pub buffer_laws : BufferLaws V
-  buffer_laws = record { grow = only_grows; reads = reads_fit; clears = clears_fit }
-
   pub stays : (h : History (Record V)) → IsSound h → GoesOn h h
   stays h sound = grind (arith, append-nil h.entries)
 
@@ -93,23 +82,23 @@ module _ {V : Type 0} {values : Values V} where
   abbrev pub WorldGoesOn : WorldState values → WorldState values → Type 0
   WorldGoesOn w v = InEach Grows w v
 
-module _ {V : Type 0} (grow : OnlyGrows (Record V)) where
+module _ {V : Type 0} where
   pub grown : IsKept (Grows {V = V})
-  grown = grind (arith, stays, goes_further, grow)
+  grown = record {
+    same = stays;
+    further = λ a b c x y sound. goes_further a b c (x sound) (y (x sound).sound);
+    written = λ h ms sound. (only_grows h sound).0 ms;
+    drained = λ h sound. (only_grows h sound).2;
+  }
 
-module _ {V : Type 0} {values : Values V} (grow : OnlyGrows (Record V)) where
+module _ {V : Type 0} {values : Values V} where
   pub before_goes_on : (posts : List (ℕ × V)) (s : State values) → WorldGoesOn s.world (before_turns posts s).world
   before_goes_on posts s t sound =
-      let posted = posts_change Grows (grown grow) posts (after_update s.world) t in
-      grind (arith, joining_world s, cases_Bool, stays, grow (s.world.histories t) sound, posted, goes_further)
+      let posted = posts_change Grows grown posts (after_update s.world) t in
+      grind (arith, joining_world s, cases_Bool, stays, only_grows (s.world.histories t) sound, posted, goes_further)
 
   pub frame_goes_on : (order : List ℕ) (frame : Frame V) (s : State values)
       → WorldGoesOn s.world (frame_in order frame s).state.world
   frame_goes_on order frame s t =
-      let turns = turns_change Grows (grown grow) order (before_turns frame.posts s) in
-      (grown grow).further _ _ _ (before_goes_on frame.posts s t) (turns t)
-
-  pub runs_go_on : ListsOnlyGrow values
-  runs_go_on [] s t = stays _
-  runs_go_on (f ∷ fs) s t =
-      (grown grow).further _ _ _ (frame_goes_on (turn_order (before_turns f.posts s)) f s t) (runs_go_on fs (frame f s).state t)
+      let turns = turns_change Grows grown order (before_turns frame.posts s) in
+      grown.further _ _ _ (before_goes_on frame.posts s t) (turns t)

@@ -1,14 +1,12 @@
 -- Two lawful orders of turns leave the same.
-use Rattle.std.proofs.Common.{◌≡◌, ◌≢◌, ℕ, ◌<◌, ◌⊎◌, Bool, List, [], ◌∷◌, ◌++◌, length, get_or, refl, sym, ◌∙◌, arith, ◌↔◌, All, AllPairs, Contains, IsPermutation, IsTrue}
-use Rattle.std.proofs.lemmas.{Bool.cases_order, Grind.get_or_default_zero, List.Elements.All-contains, List.Elements.Contains-append_left, List.Elements.Contains-get_or, List.Elements.All-append, List.Elements.All-tail, List.Sorted.IsPermutation-cons, List.Sorted.IsPermutation-middle, List.Sorted.IsPermutation-refl, List.Sorted.IsPermutation-trans, List.Sorted.Contains-permutation, List.Sorted.IsPermutation-sym, Option.get_or_from_slice_get, Option.slice_get_within}
-use Rattle.msg_world.specs.{Prelude.Conflict, declared.access.Access.Access, Prelude.Values}
-use Rattle.msg_order.proofs.{SettledOrders.conflicts_ordered, TurnOrders.in_lawful_order, TurnOrders.kept_along}
-use Rattle.msg_order.specs.Prelude.{Graph, IsLawfulOrder, Path, access_of, has_joined}
+use Rattle.std.proofs.Common.{All, AllPairs, Bool, Contains, IsPermutation, IsTrue, List, [], arith, get_or, length, refl, sym, ℕ, ◌++◌, ◌<◌, ◌↔◌, ◌∙◌, ◌∷◌, ◌≡◌, ◌≢◌, ◌⊎◌}
+use Rattle.std.proofs.lemmas.{Bool.cases_order, Grind.get_or_default_zero, List.Elements.All-append, List.Elements.All-contains, List.Elements.All-tail, List.Elements.Contains-append_left, List.Elements.Contains-get_or, List.Sorted.Contains-permutation, List.Sorted.IsPermutation-cons, List.Sorted.IsPermutation-middle, List.Sorted.IsPermutation-refl, List.Sorted.IsPermutation-sym, List.Sorted.IsPermutation-trans, Option.get_or_from_slice_get, Option.slice_get_within}
+use Rattle.msg_world.specs.{Prelude.Conflict, Prelude.Values, declared.access.Access.Access}
+use Rattle.msg_order.proofs.{Elements.Contains-cases, Elements.Contains-head, Elements.Contains-tail, Elements.not_in_none, SettledOrders.conflicts_ordered, TurnOrders.in_lawful_order, TurnOrders.kept_along}
+use Rattle.msg_order.specs.Prelude.{Graph, IsLawfulOrder, IsSettledOrder, Path, access_of, has_joined}
 use Rattle.msg_system.specs.Prelude.{JobFootprint}
-use Rattle.msg_frames.specs.Prelude.{AreAccessesOf, FramesAgreeInLawfulOrders, LawfulOrdersAgree, State, after_turn_of, after_turns_of, before_turns, join_flags, logged_turn, Turn}
-use Rattle.msg_frames.specs.Frames.{settled_order, turn_order}
-use Rattle.msg_frames.proofs.{Functions.order_among, Functions.order_is, Functions.order_is_settled, SystemsStay.uses_stay, SystemsStay.before_keeps, SystemsStay.no_cycle_stays, TurnsCommute.turns_commute, SystemsStay.accesses_stay, SystemsStay.joined_below, SystemsStay.one_turn_keeps, ElementsAndPairs.Cut, ElementsAndPairs.cut, ElementsAndPairs.pairs_head, ElementsAndPairs.pairs_middle, ElementsAndPairs.pairs_right, ElementsAndPairs.pairs_tail}
-use Rattle.msg_order.proofs.Elements.{Contains-cases, Contains-head, Contains-tail, not_in_none}
+use Rattle.msg_frames.specs.{Frames.settled_order, Frames.turn_order, Prelude.AreAccessesOf, Prelude.FramesAgreeInLawfulOrders, Prelude.State, Prelude.Turn, Prelude.after_turn_of, Prelude.after_turns_of, Prelude.before_turns, Prelude.join_flags, Prelude.logged_turn}
+use Rattle.msg_frames.proofs.{ElementsAndPairs.Cut, ElementsAndPairs.cut, ElementsAndPairs.pairs_head, ElementsAndPairs.pairs_middle, ElementsAndPairs.pairs_right, ElementsAndPairs.pairs_tail, Functions.order_among, Functions.order_is, Functions.order_is_settled, SystemsStay.accesses_stay, SystemsStay.before_keeps, SystemsStay.joined_below, SystemsStay.no_cycle_stays, SystemsStay.one_turn_keeps, SystemsStay.uses_stay, TurnsCommute.turns_commute}
 
 -- in either order of turns the same is left, and the turns are the same
 abbrev pub SameRun : {V : Type 0} → Values V → List Access → List ℕ → List ℕ → Type 0
@@ -103,7 +101,11 @@ lawful_forward g who order lawful a b d lt l p =
     grind (arith, one, places, others, s, get_or_default_zero, get_or_from_slice_get, slice_get_within)
 
 module _ {V : Type 0} {values : Values V} where
-  pub orders_agree : JobFootprint values → LawfulOrdersAgree values
+  pub orders_agree : JobFootprint values → (s : State values) (accesses : List Access) (settled : Graph) (a b : List ℕ)
+      → AreAccessesOf s accesses → IsSettledOrder accesses s.rules (join_flags s) settled
+      → IsLawfulOrder settled (join_flags s) a → IsLawfulOrder settled (join_flags s) b
+      → ((after_turns_of a s).state ≡ (after_turns_of b s).state)
+      × IsPermutation (after_turns_of a s).turns (after_turns_of b s).turns
   orders_agree foot s accesses settled a b are is_settled la lb =
       reordered foot accesses (Path settled) (λ i. IsTrue (has_joined (join_flags s) i))
       (λ i joined. rw (are.each) (joined_below s i joined))

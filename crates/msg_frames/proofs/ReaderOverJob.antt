@@ -1,12 +1,12 @@
 -- What a reader goes past by an op, by a turn and by a job.
-use Rattle.std.proofs.Common.{◌≡◌, ◌+◌, ℕ, zero, suc, ◌≤◌, List, [], ◌∷◌, ◌++◌, map, All, Option, None, Some, refl, sym, ap, ◌∙◌, arith, cond, filter, flat_map, ◌==◌}
-use Rattle.std.proofs.lemmas.{Bool.cases_Bool, List.append-nil, List.length-map, List.map-append, List.map-id, List.Elements.All-append, List.Elements.All-cons, List.Elements.All-nil, List.Elements.All-weaker, Bool.Decides.eqb_tells, Simd.map-map, Grind.flat_map-append}
+use Rattle.std.proofs.Common.{All, List, None, Option, Some, [], ap, arith, cond, filter, flat_map, map, refl, suc, sym, zero, ℕ, ◌++◌, ◌+◌, ◌==◌, ◌∙◌, ◌∷◌, ◌≡◌, ◌≤◌}
+use Rattle.std.proofs.lemmas.{Bool.cases_Bool, Bool.Decides.eqb_tells, Grind.flat_map-append, List.append-nil, List.length-map, List.map-append, List.map-id, List.Elements.All-append, List.Elements.All-cons, List.Elements.All-nil, List.Elements.All-weaker, Simd.map-map}
 use Rattle.msg_buffer.specs.Prelude.{Fits, GoesOn, History, IsSound, Stretch, Tile, count, given, message_of, next_place, pass_over, read}
-use Rattle.msg_world.specs.{Prelude.WorldState, declared.record.Record.Record, Prelude.Values}
-use Rattle.msg_system.specs.{declared.limits.TheConstants.MAX_OPS, declared.op.Op.Op, declared.op.Op.TheVariants.Read, declared.op.Op.TheVariants.Clear, declared.op.Op.TheVariants.Forward, declared.op.Op.TheVariants.Sum, declared.reply.Reply.Reply}
-use Rattle.msg_system.specs.Prelude.{AfterOp, AfterProgram, Step, Job, Meaning, after_at_most, after_job, after_op, next_op, one_more, took, turn, with_place}
-use Rattle.msg_frames.specs.Prelude.{ReadEntry, GivesItsStretch, Moment, replies_of, entry_for, entry_of_read, entries_at, moments_at, outcome_of}
-use Rattle.msg_frames.proofs.HistoriesGrow.{BufferLaws, counts_more, Grows, goes_further, grown, op_changes, stays}
+use Rattle.msg_buffer.proofs.Tiles.{clears_fit, reads_fit}
+use Rattle.msg_world.specs.{Prelude.Values, Prelude.WorldState, declared.record.Record.Record}
+use Rattle.msg_system.specs.{Prelude.AfterOp, Prelude.AfterProgram, Prelude.Job, Prelude.Meaning, Prelude.Step, Prelude.after_at_most, Prelude.after_job, Prelude.after_op, Prelude.next_op, Prelude.one_more, Prelude.took, Prelude.turn, Prelude.with_place, declared.limits.TheConstants.MAX_OPS, declared.op.Op.Op, declared.op.Op.TheVariants.Clear, declared.op.Op.TheVariants.Forward, declared.op.Op.TheVariants.Read, declared.op.Op.TheVariants.Sum}
+use Rattle.msg_frames.specs.Prelude.{GivesItsStretch, Moment, ReadEntry, entries_at, entry_for, entry_of_read, moments_at}
+use Rattle.msg_frames.proofs.HistoriesGrow.{Grows, counts_more, goes_further, grown, op_changes, stays}
 
 module _ {V : Type 0} {values : Values V} where
   -- these steps, each beside who took it
@@ -101,12 +101,7 @@ module _ {V : Type 0} {values : Values V} where
       flat_map-append (moments_at t) far.steps (done ∷ [])
       ∙ ap (λ (ms : List (Moment V)). moments_of t far.steps ++ ms) (append-nil (moments_at t done))
 
-module _ {V : Type 0} where
-  passes_these : (p : ℕ) (a : History (Record V)) (ms ns : List (Moment V)) (q : ℕ) (b : History (Record V)) → ms ≡ ns
-      → Passes p a ns q b → Passes p a ms q b
-  passes_these p a ms ns q b same x = rw same x
-
-module _ {V : Type 0} {values : Values V} (laws : BufferLaws V) where
+module _ {V : Type 0} {values : Values V} where
   module _ (t : ℕ) where
     -- an op that reads type u
     of_type : (u : ℕ) (w : WorldState values) (v : History (Record V)) (ps : ℕ → ℕ) (e : ReadEntry V) (q : ℕ)
@@ -121,7 +116,7 @@ module _ {V : Type 0} {values : Values V} (laws : BufferLaws V) where
         (with_place ps u (next_place (read (w.histories u) (ps u) limit))) v
     of_read u w v ps limit grows sound within =
         let h : History (Record V) = w.histories t in
-        let law = laws.reads h (ps t) limit sound in
+        let law = reads_fit h (ps t) limit sound in
         of_type u w _ ps _ _ within (grows sound) (λ e. rw (e, length-map (given h (ps t) limit) message_of)
         (passes_one (ps t) h (record { stretch = read h (ps t) limit; given = Some _ }) _ law.0 (law.2 within)
         (ap (map message_of) law.1) (grows sound)))
@@ -133,16 +128,16 @@ module _ {V : Type 0} {values : Values V} (laws : BufferLaws V) where
     next_passes (Some (Read u limit)) writer far = of_read u far.state far.state far.places limit (stays _)
     next_passes (Some (Clear u)) writer far = λ sound within.
         let h : History (Record V) = far.state.histories t in
-        let law = laws.clears h (far.places t) sound in
+        let law = clears_fit h (far.places t) sound in
         let entry : ReadEntry V = record { stretch = pass_over h (far.places t); given = None } in
         of_type u far.state _ far.places _ _ within (stays _ sound) (λ e. rw (e, ← law.1 within)
         (passes_one (far.places t) h entry _ law.0 (omega (arith, law.1 within)) tt (stays _ sound)))
     next_passes (Some (Forward u v)) writer far =
         of_read u far.state (after_op (Forward u v) writer far.places far.state).state far.places None
-        (op_changes Grows (grown laws.grow) (Forward u v) writer far.places far.state t)
+        (op_changes Grows grown (Forward u v) writer far.places far.state t)
     next_passes (Some (Sum u r)) writer far = of_read u far.state far.state far.places None (stays _)
     next_passes (Some op) writer far = λ sound within.
-        let goes = op_changes Grows (grown laws.grow) op writer far.places far.state t sound in
+        let goes = op_changes Grows grown op writer far.places far.state t sound in
         grind (arith, cases_Bool, passes_nothing (far.places t) (far.state.histories t) _ within goes)
 
     pub first_passes : (n : ℕ) (m : Meaning V) (w : WorldState values) →
@@ -152,7 +147,7 @@ module _ {V : Type 0} {values : Values V} (laws : BufferLaws V) where
     first_passes (suc n) m w sound within =
         let far : AfterProgram values = after_at_most n (next_op m) m.writer m.places w in
         let so_far = first_passes n m w sound within in
-        passes_these _ _ _ _ _ _ (more_are t (next_op m far.replies) m.writer far)
+        rw (more_are t (next_op m far.replies) m.writer far)
         (passes_further _ _ _ _ _ _ _ _ so_far
         (next_passes (next_op m far.replies) m.writer far so_far.goes_on.sound so_far.within))
 
@@ -168,14 +163,7 @@ module _ {V : Type 0} {values : Values V} (laws : BufferLaws V) where
         let none = passes_nothing _ _ _ within (stays _ sound) in
         grind (arith, cases_Bool, none, turn_passes j.system w sound within)
 
-module _ {V : Type 0} {values : Values V} where
   -- the entries of steps are those of their moments
   pub entries_are : (t : ℕ) (xs : List (Step values)) → map (λ m. m.entry) (moments_of t xs) ≡ entries_at t xs
   entries_are t [] = refl
   entries_are t (x ∷ xs) = grind (arith, map-append, map-map, map-id (entry_for t x.op x.reply), entries_are t xs)
-
-  -- after a job, the rule of its system also takes in the replies of that job
-  pub job_rule : (j : Job V) (w : WorldState values) → (after_job j w).job.system.rule
-      ≡ (λ (later : List (List (Reply V))) (now : List (Reply V)). j.system.rule
-      (replies_of (outcome_of (after_job j w).replies) ++ later) now)
-  job_rule j w = grind (arith, cases_Bool)

@@ -1,12 +1,11 @@
 -- What a reader goes past over a run of frames.
-use Rattle.std.proofs.Common.{arith, ◌≡◌, ℕ, ◌<◌, List, [], ◌∷◌, ◌++◌, refl, ◌∙◌, IsTrue, if◌then◌else◌}
+use Rattle.std.proofs.Common.{IsTrue, List, [], arith, if◌then◌else◌, refl, ℕ, ◌++◌, ◌<◌, ◌∙◌, ◌∷◌, ◌≡◌}
 use Rattle.std.proofs.lemmas.{Bool.cases_Bool, Grind.flat_map-append}
 use Rattle.msg_buffer.specs.Prelude.{GoesOn, History}
 use Rattle.msg_system.specs.Prelude.{Step}
-use Rattle.msg_world.specs.{Prelude.WorldState, Prelude.after_update, declared.record.Record.Record, Prelude.Values}
-use Rattle.msg_frames.specs.Prelude.{AccountsBeginAtTheStart, LogsTellEntries, ReadersTile, Frame, first_state, IsSoundState, frame, run, Moment, RunsAreComplete, State, after_posts, answers_in, before_turns, found_at, has_begun, moments, reader_place, Totals, totals_from, turns_steps, post_steps, moments_at}
-use Rattle.msg_frames.specs.Frames.{turn_order}
-use Rattle.msg_frames.proofs.{ReaderOverJob.steps_of, TellsEachOnce.tiles_rise, TellsEachOnce.are_true, TellsEachOnce.tells_once, HistoriesGrow.BufferLaws, HistoriesGrow.goes_further, HistoriesGrow.stays, SystemsStay.before_keeps, SystemsStay.turns_keep, ReaderOverJob.passes_nothing, EntriesAddUp.with_entries-none, ReaderOverTurns.ReadsFrom, ReaderOverTurns.Tells, ReaderOverTurns.reads_further, ReaderOverTurns.steps_of-append, ReaderOverTurns.tells_further, ReaderOverTurns.tells_these, ReaderOverTurns.reads_these, ReaderOverJob.moments_of, ReaderOverTurns.turns_moments, ReaderOverTurns.turns_read, ReaderOverTurns.turns_skip, ReaderOverTurns.turns_tell, BeforeTurns.Prepares, BeforeTurns.comes, BeforeTurns.prepares, BeforeTurns.stood, BeforeTurns.waits, StatesStaySound.begun_alike, StatesStaySound.frame_sound, StatesStaySound.has_no_turn, StatesStaySound.prepared_sound, FirstStatesAreSound.first_accounts, WrittenOnce.run_writes}
+use Rattle.msg_world.specs.{Prelude.Values, Prelude.WorldState, Prelude.after_update, declared.record.Record.Record}
+use Rattle.msg_frames.specs.{Frames.turn_order, Prelude.Frame, Prelude.IsSoundState, Prelude.Moment, Prelude.RunsAreComplete, Prelude.State, Prelude.Totals, Prelude.after_posts, Prelude.before_turns, Prelude.found_at, Prelude.frame, Prelude.has_begun, Prelude.moments, Prelude.moments_at, Prelude.post_steps, Prelude.reader_place, Prelude.run, Prelude.totals_from, Prelude.turns_steps}
+use Rattle.msg_frames.proofs.{BeforeTurns.Prepares, BeforeTurns.comes, BeforeTurns.prepares, BeforeTurns.stood, BeforeTurns.waits, EntriesAddUp.with_entries-none, HistoriesGrow.goes_further, HistoriesGrow.stays, ReaderOverJob.moments_of, ReaderOverJob.passes_nothing, ReaderOverJob.steps_of, ReaderOverTurns.ReadsFrom, ReaderOverTurns.reads_further, ReaderOverTurns.steps_of-append, ReaderOverTurns.turns_moments, ReaderOverTurns.turns_read, ReaderOverTurns.turns_skip, StatesStaySound.begun_alike, StatesStaySound.frame_sound, StatesStaySound.has_no_turn, StatesStaySound.prepared_sound, SystemsStay.turns_keep, TellsEachOnce.are_true, TellsEachOnce.tells_once, TellsEachOnce.tiles_rise, WrittenOnce.run_writes}
 
 module _ {V : Type 0} {values : Values V} where
   -- what the host posts goes past nothing
@@ -30,17 +29,6 @@ module _ {V : Type 0} {values : Values V} where
         posts_pass i t f.posts (after_update s.world),
       ) refl
 
-  pub run_tells : (i t : ℕ) (frames : List (Frame V)) (s : State values)
-      → Tells i t s (answers_in i (run frames s).logs) (moments i t frames s) (run frames s).state
-  run_tells i t [] s = grind arith
-  run_tells i t (f ∷ fs) s =
-      let b : State values = before_turns f.posts s in
-      let told = turns_tell i t (turn_order b) b in
-      let needs = ((before_keeps f.posts s).members i).needs in
-      tells_these (run_further i t f fs s)
-      (tells_further i t s _ _ _ _ _ (run (f ∷ fs) s).state (grind (arith, cases_Bool, needs, told))
-      (run_tells i t fs (frame f s).state))
-
 -- ---- a reader that joins in the run, or had joined
 
 module _ {V : Type 0} {values : Values V} where
@@ -49,15 +37,14 @@ module _ {V : Type 0} {values : Values V} where
       → ReadsFrom i t place had b ms u → ReadsFrom i t place had a ms u
   reads_since i t place had a b ms u goes x = grind (arith, goes_further)
 
-  -- the totals with which a run from s to u finds a reader: those that it has, or new ones if it joins
-  abbrev found_totals : State values → State values → ℕ → ℕ → Totals
-  found_totals s u i t = if has_begun s i then (s.members i).totals t else totals_from (found_at s u i t)
-
-  -- Reader (i, t) goes past these moments between two states, from where it was found.
+  -- Reader (i, t) goes past these moments between two states, from where it was found, with the totals that it had, or
+  -- new ones if it joins.
   abbrev pub Follows : ℕ → ℕ → State values → List (Moment V) → State values → Type 0
-  Follows i t s ms u = ReadsFrom i t (found_at s u i t) (found_totals s u i t) (s.world.histories t) ms u
+  Follows i t s ms u =
+      let had = if has_begun s i then (s.members i).totals t else totals_from (found_at s u i t) in
+      ReadsFrom i t (found_at s u i t) had (s.world.histories t) ms u
 
-module _ {V : Type 0} {values : Values V} (laws : BufferLaws V) (i t : ℕ) where
+module _ {V : Type 0} {values : Values V} (i t : ℕ) where
   pub run_follows : (frames : List (Frame V)) (s : State values) → IsSoundState s → t < s.types
       → IsTrue (has_begun (run frames s).state i) → Follows i t s (moments i t frames s) (run frames s).state
   run_follows [] s sound below has = grind (arith, passes_nothing, stays, with_entries-none V)
@@ -68,18 +55,18 @@ module _ {V : Type 0} {values : Values V} (laws : BufferLaws V) (i t : ℕ) wher
       let u : State values = (run fs m).state in
       let ms : List (Moment V) = turns_moments i t order b in
       let rest : List (Moment V) = moments i t fs m in
-      let prep : Prepares s b = prepares laws.grow f.posts s in
+      let prep : Prepares s b = prepares f.posts s in
       let keep = turns_keep order b in
       let ready : IsSoundState b = prepared_sound s b sound prep in
       let under : t < b.types = rw (prep.same.types) below in
-      let here = turns_read laws i t order b (ready.histories t under) (ready.places i t under) in
+      let here = turns_read i t order b (ready.histories t under) (ready.places i t under) in
       let goes : GoesOn (s.world.histories t) (b.world.histories t) = prep.world t (sound.histories t below) in
-      let later : Follows i t m rest u = run_follows fs m (frame_sound laws f s sound) (rw (keep.0.types) under) has in
+      let later : Follows i t m rest u = run_follows fs m (frame_sound f s sound) (rw (keep.0.types) under) has in
       let all : IsTrue (has_begun b i) → ReadsFrom i t (reader_place b i t) ((b.members i).totals t)
       (s.world.histories t) (ms ++ rest) u =
       λ now. reads_since i t _ _ _ _ (ms ++ rest) u goes
       (reads_further i t b ms m rest u here (rw (begun_alike b m i keep ∙ now) at later)) in
-      reads_these (run_further i t f fs s) (elim (prep.arrival i) [
+      rw (run_further i t f fs s) (elim (prep.arrival i) [
         | stood was now same ↦ rw was (rw (reader_place, same) at (all now))
         | comes was now new ↦ let after = rw (reader_place, new) at (all now) in rw (was, after.totals) after
         | waits was now same ↦
@@ -89,12 +76,12 @@ module _ {V : Type 0} {values : Values V} (laws : BufferLaws V) (i t : ℕ) wher
       ])
 
 module _ {V : Type 0} {values : Values V} where
-  pub runs_are_complete : BufferLaws V → RunsAreComplete values
-  runs_are_complete laws frames s sound = record {
-    written = λ t. run_writes t laws frames s sound;
+  pub runs_are_complete : RunsAreComplete values
+  runs_are_complete frames s sound = record {
+    written = λ t. run_writes t frames s sound;
     served = λ i t below has.
         let ms : List (Moment V) = moments i t frames s in
-        let reads = run_follows laws i t frames s sound below has in
+        let reads = run_follows i t frames s sound below has in
         let passes = reads.passes in
         record {
           forward = tiles_rise _ ms _ passes.tile;
@@ -103,19 +90,3 @@ module _ {V : Type 0} {values : Values V} where
           totals = reads.totals;
         };
   }
-
-  pub readers_tile : BufferLaws V → ReadersTile values
-  readers_tile laws frames s sound i t below has =
-      let passes = (run_follows laws i t frames s sound below has).passes in
-      record { tile = passes.tile; gives = passes.gives }
-
-  pub logs_tell : LogsTellEntries values
-  logs_tell i t frames s = (run_tells i t frames s).entries
-
-  -- from a first state a reader was found with new accounts
-  pub accounts_begin : BufferLaws V → AccountsBeginAtTheStart values
-  accounts_begin laws systems places rules types world frames i t sound below has =
-      let s : State values = first_state systems places rules types world in
-      let served = (runs_are_complete laws frames s sound).served i t below has in
-      let new = first_accounts systems places rules types world i t (sound.joins i) in
-      grind (arith, cases_Bool, served.totals, new)

@@ -1,12 +1,12 @@
 -- What a reader goes past in the turns of systems, its own and those of others.
-use Rattle.std.proofs.Common.{◌≡◌, filter, ℕ, ◌≤◌, List, [], ◌∷◌, ◌++◌, map, Contains, flat_map, cond, append_assoc, refl, sym, arith, inl, inr, ◌==◌}
-use Rattle.std.proofs.lemmas.{Bool.cases_Bool, Bool.cases_eq, Bool.eq-eqb, Bool.ne_eqb, List.map-append, List.Elements.filter-append, Grind.flat_map-append, Bool.Decides.eqb_tells}
-use Rattle.msg_buffer.specs.Prelude.{IsSound, count, History}
-use Rattle.msg_system.specs.{Prelude.Step, Prelude.after_job, Prelude.Needs, Prelude.Rule, declared.reply.Reply.Reply}
-use Rattle.msg_frames.specs.Prelude.{Member, member_after, Moment, State, Turn, after_turn_of, after_turns_of, replies_of, entries_told, logged_turn, moments_at, reader_place, turn_of, turns_steps, with_entries, Totals}
-use Rattle.msg_order.proofs.Elements.{Contains-tail, Contains-head}
-use Rattle.msg_frames.proofs.{ReaderOverJob.by_system, ReaderOverJob.steps_of, HistoriesGrow.BufferLaws, HistoriesGrow.Grows, HistoriesGrow.grown, HistoriesGrow.job_changes, HistoriesGrow.stays, SystemsStay.one_turn_keeps, ReaderOverJob.Passes, EntriesOfSteps.job_logged, ReaderOverJob.entries_are, ReaderOverJob.job_passes, ReaderOverJob.job_rule, ReaderOverJob.moments_of, ReaderOverJob.passes_further, ReaderOverJob.passes_nothing, EntriesAddUp.with_entries-append, EntriesAddUp.with_entries-none}
-use Rattle.msg_world.specs.{declared.record.Record.Record, Prelude.Values}
+use Rattle.std.proofs.Common.{Contains, List, [], arith, cond, filter, flat_map, map, refl, ℕ, ◌++◌, ◌==◌, ◌∷◌, ◌≡◌, ◌≤◌}
+use Rattle.std.proofs.lemmas.{Bool.cases_Bool, Bool.Decides.eqb_tells, Grind.flat_map-append, List.map-append, List.Elements.filter-append}
+use Rattle.msg_buffer.specs.Prelude.{History, IsSound, count}
+use Rattle.msg_system.specs.{Prelude.Step, Prelude.after_job, declared.reply.Reply.Reply}
+use Rattle.msg_frames.specs.Prelude.{Member, Moment, State, Totals, Turn, after_turn_of, after_turns_of, member_after, moments_at, reader_place, replies_of, turn_of, turns_steps, with_entries}
+use Rattle.msg_order.proofs.Elements.{Contains-head, Contains-tail}
+use Rattle.msg_frames.proofs.{EntriesAddUp.with_entries-append, EntriesAddUp.with_entries-none, HistoriesGrow.Grows, HistoriesGrow.grown, HistoriesGrow.job_changes, HistoriesGrow.stays, ReaderOverJob.Passes, ReaderOverJob.by_system, ReaderOverJob.entries_are, ReaderOverJob.job_passes, ReaderOverJob.moments_of, ReaderOverJob.passes_further, ReaderOverJob.passes_nothing, ReaderOverJob.steps_of}
+use Rattle.msg_world.specs.{Prelude.Values, declared.record.Record.Record}
 
 -- Reader (i, t), which was given so much, goes past these moments from a place in a history on, up to a state.
 pub record ReadsFrom {V : Type 0} {values : Values V} (i t place : ℕ) (had : Totals) (old : History (Record V)) (ms : List (Moment V)) (u : State values) : Type 0 where
@@ -14,10 +14,6 @@ pub record ReadsFrom {V : Type 0} {values : Values V} (i t place : ℕ) (had : T
   pub totals : (u.members i).totals t ≡ with_entries (map (λ m. m.entry) ms) had
 
 module _ {V : Type 0} {values : Values V} where
-  pub reads_these : {i t place : ℕ} {had : Totals} {old : History (Record V)} {ms ns : List (Moment V)} {u : State values} → ms ≡ ns
-      → ReadsFrom i t place had old ns u → ReadsFrom i t place had old ms u
-  reads_these same x = rw same x
-
   -- it does so between two states
   abbrev pub Reads : ℕ → ℕ → State values → List (Moment V) → State values → Type 0
   Reads i t s ms u = ReadsFrom i t (reader_place s i t) ((s.members i).totals t) (s.world.histories t) ms u
@@ -36,7 +32,7 @@ module _ {V : Type 0} {values : Values V} where
   one_member P j i s here other = grind (arith, eqb_tells)
 
   -- the moments of reader (i, t) in the turn of system j
-  abbrev own_moments : ℕ → ℕ → ℕ → State values → List (Moment V)
+  abbrev pub own_moments : ℕ → ℕ → ℕ → State values → List (Moment V)
   own_moments i t j s = cond (j == i) (moments_of t (after_job (s.members j).job s.world).steps) []
 
   -- its moments in the turns of these systems
@@ -53,7 +49,7 @@ module _ {V : Type 0} {values : Values V} where
       let own = λ (x : ℕ × Step values). x.0 == i in
       rw (filter-append own xs ys, map-append (λ (x : ℕ × Step values). x.1) (filter own xs) (filter own ys)) refl
 
-  turns_further : (i t j : ℕ) (js : List ℕ) (s : State values)
+  pub turns_further : (i t j : ℕ) (js : List ℕ) (s : State values)
       → turns_moments i t (j ∷ js) s ≡ own_moments i t j s ++ turns_moments i t js (after_turn_of j s)
   turns_further i t j js s =
       let xs : List (Step values) = (after_job (s.members j).job s.world).steps in
@@ -66,12 +62,11 @@ module _ {V : Type 0} {values : Values V} where
         flat_map-append (moments_at t) (steps_of i (by_system j xs)) (steps_of i ys),
       )
 
-module _ {V : Type 0} {values : Values V} (laws : BufferLaws V) where
   pub turn_reads : (i t j : ℕ) (s : State values) → IsSound (s.world.histories t)
       → reader_place s i t ≤ count (s.world.histories t) → Reads i t s (own_moments i t j s) (after_turn_of j s)
   turn_reads i t j s sound within =
-      let own = job_passes laws t (s.members i).job s.world sound within in
-      let none = passes_nothing _ _ _ within (job_changes Grows (grown laws.grow) (s.members j).job s.world t sound) in
+      let own = job_passes t (s.members i).job s.world sound within in
+      let none = passes_nothing _ _ _ within (job_changes Grows grown (s.members j).job s.world t sound) in
       grind (arith, eqb_tells, entries_are t (after_job (s.members i).job s.world).steps, none, own, with_entries-none V)
 
   pub turns_read : (i t : ℕ) (js : List ℕ) (s : State values) → IsSound (s.world.histories t)
@@ -80,7 +75,7 @@ module _ {V : Type 0} {values : Values V} (laws : BufferLaws V) where
   turns_read i t [] s sound within = grind (arith, passes_nothing, stays, with_entries-none V)
   turns_read i t (j ∷ js) s sound within =
       let first = turn_reads i t j s sound within in
-      reads_these (turns_further i t j js s) (reads_further i t s (own_moments i t j s) (after_turn_of j s) _ _ first
+      rw (turns_further i t j js s) (reads_further i t s (own_moments i t j s) (after_turn_of j s) _ _ first
       (turns_read i t js (after_turn_of j s) first.passes.goes_on.sound first.passes.within))
 
 -- ---- what the log has of system i among these turns
@@ -89,54 +84,7 @@ module _ {V : Type 0} where
   abbrev pub answers_among : ℕ → List (Turn V) → List (List (Reply V))
   answers_among i turns = flat_map (λ turn. cond (turn.system == i) (replies_of turn.outcome) []) turns
 
-  -- a rule, after turns that were answered so
-  abbrev pub after_told : List (List (Reply V)) → Rule V → Rule V
-  after_told turns rule = λ later now. rule (turns ++ later) now
-
-  pub entries_told-append : (t : ℕ) (n : Needs) (rule : Rule V) (xs ys : List (List (Reply V)))
-      → entries_told t n rule (xs ++ ys) ≡ entries_told t n rule xs ++ entries_told t n (after_told xs rule) ys
-  entries_told-append t n rule [] ys = refl
-  entries_told-append t n rule (x ∷ xs) ys =
-      grind (arith, append_assoc, entries_told-append t n (after_told (x ∷ []) rule) xs ys)
-
--- what the turn of system j tells of system i, and what system i does from then on
-pub record Tells {V : Type 0} {values : Values V} (i t : ℕ) (s : State values) (turns : List (List (Reply V))) (ms : List (Moment V)) (u : State values) : Type 0 where
-  pub entries : entries_told t (s.members i).job.system.needs (s.members i).job.system.rule turns
-      ≡ map (λ m. m.entry) ms
-  pub rule : (u.members i).job.system.rule ≡ after_told turns (s.members i).job.system.rule
-  pub needs : (u.members i).job.system.needs ≡ (s.members i).job.system.needs
-
 module _ {V : Type 0} {values : Values V} where
-  pub tells_further : (i t : ℕ) (a : State values) (xs : List (List (Reply V))) (ms : List (Moment V)) (b : State values)
-      (ys : List (List (Reply V))) (ns : List (Moment V)) (c : State values)
-      → Tells i t a xs ms b → Tells i t b ys ns c → Tells i t a (xs ++ ys) (ms ++ ns) c
-  tells_further i t a xs ms b ys ns c x y =
-      let m = (a.members i).job.system in
-      grind (arith, append_assoc, entries_told-append t m.needs m.rule xs ys, map-append)
-
-  pub tells_these : {i t : ℕ} {s : State values} {xs : List (List (Reply V))} {ms ns : List (Moment V)} {u : State values} → ms ≡ ns
-      → Tells i t s xs ns u → Tells i t s xs ms u
-  tells_these same x = rw same x
-
-  turn_tells : (i t j : ℕ) (s : State values) → Tells i t s (cond (j == i) (replies_of (logged_turn s j).outcome) [])
-      (own_moments i t j s) (after_turn_of j s)
-  turn_tells i t j s = record {
-    entries = grind (arith, eqb_tells, job_logged t (s.members i).job s.world, entries_are t (after_job (s.members i).job s.world).steps);
-    rule = elim (cases_eq j i) [
-      | inl e ↦ rw (eq-eqb j i e, eq-eqb i j (sym e)) (rw e (job_rule (s.members i).job s.world))
-      | inr ne ↦ rw (ne_eqb j i ne, ne_eqb i j (λ x. ne (sym x))) refl
-    ];
-    needs = ((one_turn_keeps j s).members i).needs;
-  }
-
-  pub turns_tell : (i t : ℕ) (js : List ℕ) (s : State values)
-      → Tells i t s (answers_among i (after_turns_of js s).turns) (turns_moments i t js s) (after_turns_of js s).state
-  turns_tell i t [] s = record { entries = refl; rule = refl; needs = refl }
-  turns_tell i t (j ∷ js) s =
-      tells_these (turns_further i t j js s)
-      (tells_further i t s (cond (j == i) (replies_of (logged_turn s j).outcome) []) (own_moments i t j s) _ _ _ _
-      (turn_tells i t j s) (turns_tell i t js (after_turn_of j s)))
-
   -- one whose turn doesn't come
   pub turns_skip : (i t : ℕ) (js : List ℕ) (s : State values) → ¬ Contains js i
       → ((after_turns_of js s).state.members i ≡ s.members i) × (turns_moments i t js s ≡ [])

@@ -1,10 +1,9 @@
 -- Logs that tell the same tell each system the same.
-use Rattle.std.proofs.Common.{arith, eqb, ◌≡◌, ◌≢◌, ℕ, ◌==◌, inl, inr, List, [], ◌∷◌, map, refl, Bool, false, suc, AllPairs, Contains, IsPermutation, flat_map, if◌then◌else◌, All}
-use Rattle.std.proofs.lemmas.{Bool.Decides.Decides-eqb, Map.Made.AllPairs-from_IsDistinct, Map.Made.IsDistinct-from_AllPairs, Map.Keys.IsDistinct-IsPermutation, List.Sorted.IsPermutation-map, List.Sorted.IsPermutation-sym, Bool.cases_Bool, Bool.eqb-true, Bool.Decides.eqb_tells, List.append-nil, List.get_or-map, List.length-map, List.Sorted.Contains-permutation, List.Sorted.list_any-IsPermutation, List.Folds.list_any_none}
-use Rattle.msg_frames.specs.Prelude.{Frame, Log, ReplaysTellTheSame, State, TellsTheSame, Turn, before_turns, frame, replies_of}
-use Rattle.msg_frames.specs.Frames.{turn_order}
-use Rattle.msg_frames.proofs.{ElementsAndPairs.pairs_tail, FramesInOrder.in_that_order, StatesStaySound.has_one_turn, ReaderOverTurns.answers_among}
-use Rattle.msg_order.proofs.Elements.{Contains-cases, not_in_none, Contains-list_any}
+use Rattle.std.proofs.Common.{All, AllPairs, Bool, Contains, IsPermutation, List, [], arith, eqb, false, flat_map, if◌then◌else◌, inl, inr, map, refl, suc, ℕ, ◌==◌, ◌∷◌, ◌≡◌, ◌≢◌}
+use Rattle.std.proofs.lemmas.{Bool.cases_Bool, Bool.eqb-true, Bool.Decides.Decides-eqb, Bool.Decides.eqb_tells, List.append-nil, List.get_or-map, List.length-map, List.Folds.list_any_none, List.Sorted.Contains-permutation, List.Sorted.IsPermutation-map, List.Sorted.IsPermutation-sym, List.Sorted.list_any-IsPermutation, Map.Keys.IsDistinct-IsPermutation, Map.Made.AllPairs-from_IsDistinct, Map.Made.IsDistinct-from_AllPairs}
+use Rattle.msg_frames.specs.{Frames.turn_order, Prelude.Frame, Prelude.Log, Prelude.ReplaysTellTheSame, Prelude.State, Prelude.TellsTheSame, Prelude.Turn, Prelude.before_turns, Prelude.frame, Prelude.replies_of}
+use Rattle.msg_frames.proofs.{ElementsAndPairs.pairs_tail, FramesInOrder.in_that_order, ReaderOverTurns.answers_among, StatesStaySound.has_one_turn}
+use Rattle.msg_order.proofs.Elements.{Contains-cases, Contains-list_any, not_in_none}
 use Rattle.std.specs.List.{list_any}
 use Rattle.msg_world.specs.Prelude.{Values}
 
@@ -47,12 +46,9 @@ module _ {X Y : Type 0} (key : X → ℕ) (f : X → List Y) (i : ℕ) where
       grind (arith, cases_Bool (list_any test xs), some, one, other, moves, same, none_told, eqb-true)
 
 -- numbers that differ stay so when they change places
-eqb_flips : (a b : ℕ) → eqb a b ≡ eqb b a
-eqb_flips a b = grind (arith, eqb_tells a b, eqb_tells b a)
-
 once_moved : (xs ys : List ℕ) → IsPermutation xs ys → AllPairs (λ a b. a ≢ b) ys → AllPairs (λ a b. a ≢ b) xs
 once_moved xs ys moved once =
-    AllPairs-from_IsDistinct Decides-eqb xs (IsDistinct-IsPermutation eqb eqb_flips ys xs
+    AllPairs-from_IsDistinct Decides-eqb xs (IsDistinct-IsPermutation eqb (λ a b. grind (arith, eqb_tells a b, eqb_tells b a)) ys xs
     (IsPermutation-sym xs ys moved) (IsDistinct-from_AllPairs Decides-eqb ys once))
 
 module _ {V : Type 0} {values : Values V} where

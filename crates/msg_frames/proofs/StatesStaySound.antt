@@ -1,10 +1,9 @@
 -- Frames keep states sound.
-use Rattle.std.proofs.Common.{◌≡◌, ℕ, ◌-◌, ◌<◌, max, List, [], ◌∷◌, length, map, Contains, ◌≢◌, AllPairs, ap, ap₂, arith, IsFalse, nat_le}
+use Rattle.std.proofs.Common.{AllPairs, Contains, IsFalse, List, [], ap, ap₂, arith, length, map, max, nat_le, ℕ, ◌-◌, ◌<◌, ◌∷◌, ◌≡◌, ◌≢◌}
 use Rattle.std.proofs.lemmas.{Bool.false≢true, List.FromFn.get_or-map-range_with_len, List.FromFn.length-range_with_len}
-use Rattle.msg_frames.specs.Prelude.{FrameStaysSound, IsBalanced, IsSoundState, Member, Moment, RunStaysSound, SameSystems, State, after_turns_of, before_turns, counts, frame, has_begun, join_flags, joined_member, reader_place}
-use Rattle.msg_frames.specs.Frames.{settled_order, turn_order}
+use Rattle.msg_frames.specs.{Frames.settled_order, Frames.turn_order, Prelude.FrameStaysSound, Prelude.IsBalanced, Prelude.IsSoundState, Prelude.Member, Prelude.Moment, Prelude.RunStaysSound, Prelude.SameSystems, Prelude.State, Prelude.after_turns_of, Prelude.before_turns, Prelude.counts, Prelude.frame, Prelude.has_begun, Prelude.join_flags, Prelude.joined_member, Prelude.reader_place}
 use Rattle.msg_order.proofs.Functions.{turns_differ, turns_joined}
-use Rattle.msg_frames.proofs.{HistoriesGrow.BufferLaws, HistoriesGrow.counts_more, SystemsStay.turns_keep, SystemsStay.no_cycle_stays, SystemsStay.uses_stay, SystemsStay.joined_below, EntriesAddUp.all_told, TellsEachOnce.tells_once, TellsEachOnce.tiles_rise, ReaderOverTurns.Reads, ReaderOverTurns.turns_moments, ReaderOverTurns.turns_read, ReaderOverTurns.turns_skip, BeforeTurns.Prepares, BeforeTurns.begun_within, BeforeTurns.comes, BeforeTurns.prepares, BeforeTurns.stood, BeforeTurns.waits}
+use Rattle.msg_frames.proofs.{BeforeTurns.Prepares, BeforeTurns.begun_within, BeforeTurns.comes, BeforeTurns.prepares, BeforeTurns.stood, BeforeTurns.waits, EntriesAddUp.all_told, HistoriesGrow.counts_more, ReaderOverTurns.Reads, ReaderOverTurns.turns_moments, ReaderOverTurns.turns_read, ReaderOverTurns.turns_skip, SystemsStay.joined_below, SystemsStay.no_cycle_stays, SystemsStay.turns_keep, SystemsStay.uses_stay, TellsEachOnce.tells_once, TellsEachOnce.tiles_rise}
 use Rattle.msg_world.specs.Prelude.{Values}
 
 module _ {V : Type 0} {values : Values V} where
@@ -41,16 +40,16 @@ module _ {V : Type 0} {values : Values V} (s b : State values) (sound : IsSoundS
       let more = (λ (t : ℕ). counts_more (s.world.histories t) (b.world.histories t)) in
       grind (arith, uses, free, balanced_start, begun_within s, comes, more, false≢true, stood, waits)
 
-module _ {V : Type 0} {values : Values V} (laws : BufferLaws V) where
+module _ {V : Type 0} {values : Values V} where
   pub frame_sound : FrameStaysSound values
   frame_sound f s before =
       let b : State values = before_turns f.posts s in
-      let sound : IsSoundState b = prepared_sound s b before (prepares laws.grow f.posts s) in
+      let sound : IsSoundState b = prepared_sound s b before (prepares f.posts s) in
       let order : List ℕ = turn_order b in
       let keep = turns_keep order b in
       let u : State values = (after_turns_of order b).state in
       let reads : (i t : ℕ) → t < u.types → Reads i t b (turns_moments i t order b) u =
-      λ i t below. turns_read laws i t order b (sound.histories t (rw (keep.0.types) at below))
+      λ i t below. turns_read i t order b (sound.histories t (rw (keep.0.types) at below))
       (sound.places i t (rw (keep.0.types) at below)) in
       record {
         uses = uses_stay b u keep.0 sound.uses;

@@ -1,11 +1,10 @@
 -- What turns and frames keep of the systems.
-use Rattle.std.proofs.Common.{◌≡◌, ℕ, ◌<◌, IsTrue, arith, List, [], ◌∷◌, map, refl, ◌∙◌, max, nat_le}
+use Rattle.std.proofs.Common.{IsTrue, List, [], arith, map, max, nat_le, refl, ℕ, ◌<◌, ◌∙◌, ◌∷◌, ◌≡◌}
 use Rattle.std.specs.List.{range_with_len}
-use Rattle.std.proofs.lemmas.{Bool.cases_Bool, Bool.cases_lt, Bool.false≢true, List.get_or_past, List.FromFn.length-map-range_with_len, Bool.Decides.eqb_tells, Simd.map-map}
-use Rattle.msg_world.specs.declared.access.Access.{Access}
+use Rattle.std.proofs.lemmas.{Bool.cases_Bool, Bool.cases_lt, Bool.false≢true, Bool.Decides.eqb_tells, List.get_or_past, List.FromFn.length-map-range_with_len, Simd.map-map}
+use Rattle.msg_world.specs.{Prelude.Values, declared.access.Access.Access}
 use Rattle.msg_order.specs.Prelude.{has_joined}
-use Rattle.msg_frames.specs.Prelude.{AreAccessesOf, Frame, FramesKeepSystems, NoCycle, SameSystems, SameSystemsHaveSameAccesses, State, TurnsKeepSystems, UsesParts, after_turn_of, after_turns_of, before_turns, frame_in, join_flags, after_joining, with_joining}
-use Rattle.msg_world.specs.Prelude.{Values}
+use Rattle.msg_frames.specs.Prelude.{AreAccessesOf, Frame, FramesKeepSystems, NoCycle, SameSystems, State, UsesParts, after_joining, after_turn_of, after_turns_of, before_turns, frame_in, join_flags, with_joining}
 
 module _ {V : Type 0} {values : Values V} where
   same_systems : (s : State values) → SameSystems s s
@@ -22,7 +21,8 @@ module _ {V : Type 0} {values : Values V} where
   turns_make_no_frame [] s = refl
   turns_make_no_frame (i ∷ is) s = turns_make_no_frame is (after_turn_of i s)
 
-  pub turns_keep : TurnsKeepSystems values
+  pub turns_keep : (order : List ℕ) (s : State values) → SameSystems s (after_turns_of order s).state
+      × ((after_turns_of order s).state.frames ≡ s.frames)
   turns_keep order s = (turns_keep_systems order s, turns_make_no_frame order s)
 
   pub joining_on_keeps : (k : ℕ) (s : State values) → SameSystems s (with_joining k s)
@@ -57,9 +57,6 @@ module _ {V : Type 0} {values : Values V} where
 
   pub joined_stay : (s u : State values) → SameSystems s u → u.frames ≡ s.frames → join_flags u ≡ join_flags s
   joined_stay s u h e k = map (λ i. nat_le ((h.members i).join k) (max 1 (e k))) (range_with_len 0 (h.systems k))
-
-  pub same_accesses : SameSystemsHaveSameAccesses values
-  same_accesses s u h = (λ accesses a. accesses_stay s u accesses h a, joined_stay s u h)
 
   -- one that has joined is one of the systems
   pub joined_below : (s : State values) (i : ℕ) → IsTrue (has_joined (join_flags s) i) → i < s.systems

@@ -1,13 +1,13 @@
 -- The entries of a reader tell each number once, in order, and they are true.
-use Rattle.std.proofs.Common.{◌≡◌, ℕ, zero, suc, ◌+◌, ◌-◌, ◌≤◌, List, [], ◌∷◌, ◌++◌, map, flat_map, length, take, drop, Option, Some, None, option_map, IfSome, slice_get, All, refl, ap, arith}
-use Rattle.std.specs.{List.range_with_len}
-use Rattle.std.proofs.lemmas.{List.drop-append-le, List.drop-map, List.drop_more, List.length-append, List.length-drop, List.take-append-le, List.take-map, Option.slice_get-get_or, List.Elements.All-cons, List.Elements.All-head, List.Elements.All-nil, List.Elements.All-tail}
+use Rattle.std.proofs.Common.{All, IfSome, List, None, Option, Some, [], ap, arith, drop, flat_map, length, map, option_map, refl, slice_get, suc, take, zero, ℕ, ◌++◌, ◌+◌, ◌-◌, ◌∷◌, ◌≡◌, ◌≤◌}
+use Rattle.std.specs.List.{range_with_len}
+use Rattle.std.proofs.lemmas.{List.drop-append-le, List.drop-map, List.drop_more, List.length-append, List.length-drop, List.take-append-le, List.take-map, List.Elements.All-cons, List.Elements.All-head, List.Elements.All-nil, List.Elements.All-tail, Option.slice_get-get_or}
 use Rattle.msg_buffer.specs.Prelude.{Entry as Written, GoesOn, History, Stretch, Tile, count, next_place}
 use Rattle.msg_buffer.proofs.Numbers.{instances-numbered, messages-numbered}
 use Rattle.msg_world.specs.declared.record.Record.{Record}
 use Rattle.msg_frames.specs.Prelude.{GivesItsStretch, IsTrueEntry, Moment, message_numbered, messages_of, numbers_told}
 use Rattle.msg_order.proofs.Elements.{range-Contains}
-use Rattle.msg_frames.proofs.{ReaderOverJob.Begins, ReaderOverJob.IsWritten, ReaderOverJob.tile_of}
+use Rattle.msg_frames.proofs.ReaderOverJob.{Begins, IsWritten, tile_of}
 
 -- one range behind another
 range_further : (a m b n k : ℕ) → b ≡ a + m → k ≡ m + n
@@ -62,8 +62,7 @@ module _ {V : Type 0} (h last : History (Record V)) (s : Stretch) (goes : GoesOn
   gave_as_written : (o : Option (List (Record V))) → IfSome o (λ items. items ≡ messages_of h s)
       → IfSome o (λ items. map (message_numbered last) (range_with_len s.first s.number) ≡ map Some items)
   gave_as_written None gives = tt
-  gave_as_written (Some items) gives =
-      rw (gives, messages_are h last s goes written)
+  gave_as_written (Some items) gives = rw (gives, messages_are h last s goes written)
       (read_range last.entries s.first s.number
       (omega (arith, ap length goes.entries, length-append h.entries goes.more)))
 

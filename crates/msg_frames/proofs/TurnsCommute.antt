@@ -1,12 +1,12 @@
 -- Turns of systems whose accesses don't conflict can be swapped.
-use Rattle.std.proofs.Common.{arith, ◌≡◌, ◌≢◌, ◌∙◌, ap, List, Option, ℕ, false, sym, ne_eqb, IsTrue}
+use Rattle.std.proofs.Common.{IsTrue, List, Option, ap, arith, false, ne_eqb, sym, ℕ, ◌<◌, ◌∙◌, ◌≡◌, ◌≢◌}
 use Rattle.std.proofs.lemmas.{Bool.and_from, Bool.cases_Bool, Bool.Decides.eqb_tells}
-use Rattle.msg_world.specs.{Prelude.Conflict, declared.part.Part.TheVariants.OfResource, declared.part.Part.TheVariants.OfType, declared.part.Part.Part, declared.part.Part.TheVariants.Registry, Prelude.WorldState, Prelude.content, declared.access.Access.Access, Prelude.Values}
-use Rattle.msg_system.specs.Prelude.{AfterJob, HasFootprint, IsAccessOf, Job, after_job, JobFootprint, Needs, needs_any}
-use Rattle.msg_system.specs.declared.reply.Reply.{Reply}
+use Rattle.msg_world.specs.{Prelude.Conflict, Prelude.Values, Prelude.WorldState, Prelude.content, declared.access.Access.Access, declared.part.Part.Part, declared.part.Part.TheVariants.OfResource, declared.part.Part.TheVariants.OfType, declared.part.Part.TheVariants.Registry}
+use Rattle.msg_system.specs.{Prelude.AfterJob, Prelude.HasFootprint, Prelude.IsAccessOf, Prelude.Job, Prelude.JobFootprint, Prelude.Needs, Prelude.after_job, Prelude.needs_any, declared.reply.Reply.Reply}
 use Rattle.msg_frames.proofs.EntriesOfSteps.{job_logged, outcome_entries}
 use Rattle.msg_system.proofs.AccessesUseNeeds.{uses_needs}
-use Rattle.msg_frames.specs.Prelude.{entries_at, outcome_of, with_entries, Member, Outcome, State, TurnsOfOthersCommute, after_turn_of, member_after, member_needs, turn_of}
+use Rattle.msg_frames.specs.Prelude.{AreAccessesOf, Member, Outcome, State, after_turn_of, entries_at, logged_turn, member_after, member_needs, outcome_of, turn_of, with_entries}
+use Rattle.msg_order.specs.Prelude.{access_of}
 
 module _ {V : Type 0} {values : Values V} where
   -- worlds with the same parts are the same
@@ -85,7 +85,10 @@ module _ {V : Type 0} {values : Values V} where
       let worlds = worlds_commute foot (s.members i) (s.members j) s.world free in
       grind (arith, eqb_tells, first, second, worlds)
 
-  pub turns_commute : JobFootprint values → TurnsOfOthersCommute values
+  pub turns_commute : JobFootprint values → (s : State values) (accesses : List Access) (i j : ℕ) → AreAccessesOf s accesses
+      → i < s.systems → j < s.systems → i ≢ j → ¬ Conflict (access_of accesses i) (access_of accesses j)
+      → (logged_turn (after_turn_of i s) j ≡ logged_turn s j) × (logged_turn (after_turn_of j s) i ≡ logged_turn s i)
+      × (after_turn_of j (after_turn_of i s) ≡ after_turn_of i (after_turn_of j s))
   turns_commute foot s accesses i j are li lj ne none =
       let free = apart _ _ _ _ (are.of_needs i li) (are.of_needs j lj) none in
       let first = turn_after foot s i j (λ e. ne (sym e)) free in

@@ -1,15 +1,13 @@
 -- Each type's list grows by exactly what the steps tell.
-use Rattle.std.proofs.Common.{◌≡◌, ℕ, zero, suc, ◌+◌, List, [], ◌∷◌, ◌++◌, map, length, flat_map, Option, None, Some, refl, sym, ap, append-nil, append_assoc, arith, Contains, ◌∙◌, IsTrue}
+use Rattle.std.proofs.Common.{Contains, IsTrue, List, None, Option, Some, [], ap, append-nil, append_assoc, arith, length, map, refl, suc, sym, zero, ℕ, ◌++◌, ◌+◌, ◌∙◌, ◌∷◌, ◌≡◌}
 use Rattle.std.specs.List.{enumerate_from}
-use Rattle.std.proofs.lemmas.{Bool.cases_Bool, Bool.Decides.eqb_tells, List.length-map, List.map-append, Grind.flat_map-append}
+use Rattle.std.proofs.lemmas.{Bool.cases_Bool, Bool.Decides.eqb_tells, Grind.flat_map-append, List.length-map, List.map-append}
 use Rattle.msg_buffer.specs.Prelude.{Entry, History, count, has_room, stamped, write}
-use Rattle.msg_world.specs.{Prelude.WorldState, Prelude.after_update, Prelude.by, declared.record.Record.Record, declared.record.TheConstants.HOST, Prelude.Values}
-use Rattle.msg_system.specs.{declared.limits.TheConstants.MAX_OPS, declared.op.Op.Op, declared.op.Op.TheVariants.Write, declared.op.Op.TheVariants.Batch, declared.op.Op.TheVariants.Forward, declared.op.Op.TheVariants.Drain, declared.reply.Reply.Reply}
-use Rattle.msg_system.specs.Prelude.{AfterOp, AfterProgram, Step, Job, Meaning, after_at_most, after_job, after_op, again_by, next_op, one_more, took, turn}
-use Rattle.msg_frames.specs.Prelude.{AreAnswered, Frame, IsSoundState, IsWrittenOnce, Turn, outcome_of, post_replies, replies_of, State, after_posts, after_turn_of, after_turns_of, all_written, before_turns, frame, post_steps, run, turns_steps, wrote}
-use Rattle.msg_frames.specs.Frames.{turn_order}
+use Rattle.msg_world.specs.{Prelude.Values, Prelude.WorldState, Prelude.after_update, Prelude.by, declared.record.Record.Record, declared.record.TheConstants.HOST}
+use Rattle.msg_system.specs.{Prelude.AfterOp, Prelude.AfterProgram, Prelude.Job, Prelude.Meaning, Prelude.Step, Prelude.after_at_most, Prelude.after_job, Prelude.after_op, Prelude.again_by, Prelude.next_op, Prelude.one_more, Prelude.took, Prelude.turn, declared.limits.TheConstants.MAX_OPS, declared.op.Op.Op, declared.op.Op.TheVariants.Batch, declared.op.Op.TheVariants.Drain, declared.op.Op.TheVariants.Forward, declared.op.Op.TheVariants.Write}
+use Rattle.msg_frames.specs.{Frames.turn_order, Prelude.Frame, Prelude.IsSoundState, Prelude.IsWrittenOnce, Prelude.State, Prelude.after_posts, Prelude.after_turn_of, Prelude.after_turns_of, Prelude.all_written, Prelude.before_turns, Prelude.frame, Prelude.post_steps, Prelude.run, Prelude.turns_steps, Prelude.wrote}
 use Rattle.msg_order.proofs.Elements.{Contains-head, Contains-tail}
-use Rattle.msg_frames.proofs.{ReaderOverJob.by_system, SystemsStay.joining_world, SystemsStay.one_turn_keeps, HistoriesGrow.BufferLaws, BeforeTurns.prepares, StatesStaySound.frame_sound, StatesStaySound.prepared_sound, StatesStaySound.turn_below}
+use Rattle.msg_frames.proofs.{BeforeTurns.prepares, ReaderOverJob.by_system, StatesStaySound.frame_sound, StatesStaySound.prepared_sound, StatesStaySound.turn_below, SystemsStay.joining_world, SystemsStay.one_turn_keeps}
 
 enumerate_from-append : {X : Type 0} (n : ℕ) (xs ys : List X)
     → enumerate_from n (xs ++ ys) ≡ enumerate_from n xs ++ enumerate_from (n + length xs) ys
@@ -28,12 +26,10 @@ module _ {V : Type 0} where
   wrote_more : (h : History (Record V)) (ms : List (Record V)) → IsTrue (has_room h (length ms))
       → all_written (write ms h) ≡ all_written h ++ enumerate_from (count h) ms
   wrote_more h ms room =
-      let are : map (λ (e : Entry (Record V)). e.message) (h.entries ++ stamped h.updates ms) ≡ messages h ++ ms =
-      map-append (λ (e : Entry (Record V)). e.message) h.entries (stamped h.updates ms)
-      ∙ ap (λ (ys : List (Record V)). messages h ++ ys) (stamped_are h.updates ms) in
+      let are = map-append (λ (e : Entry (Record V)). e.message) h.entries (stamped h.updates ms) in
       let more = enumerate_from-append 0 (messages h) ms in
       let len = length-map h.entries (λ (e : Entry (Record V)). e.message) in
-      grind (arith, are, more, len)
+      grind (arith, are, more, len, stamped_are h.updates ms)
 
 module _ {V : Type 0} {values : Values V} where
   -- first these steps, and then those
@@ -84,14 +80,10 @@ module _ {V : Type 0} {values : Values V} (t : ℕ) where
       let far : AfterProgram values = after_at_most n (next_op m) m.writer m.places w in
       one_step (next_op m far.replies) m.writer far w (first_write n m w)
 
-  turn_writes : (m : Meaning V) (w : WorldState values)
-      → IsWrittenOnce t w (by_system m.writer (turn m w).steps) (turn m w).state
-  unfolding turn
-  turn_writes m w = first_write MAX_OPS m w
-
   job_writes : (i : ℕ) (j : Job V) (w : WorldState values) → j.system.writer ≡ i
       → IsWrittenOnce t w (by_system i (after_job j w).steps) (after_job j w).state
-  job_writes i j w is = grind (arith, cases_Bool, is, no_steps w, turn_writes j.system w)
+  unfolding turn
+  job_writes i j w is = grind (arith, cases_Bool, is, no_steps w, first_write MAX_OPS j.system w)
 
   pub turns_write : (is : List ℕ) (s : State values) → ((i : ℕ) → Contains is i → (s.members i).job.system.writer ≡ i)
       → IsWrittenOnce t s.world (turns_steps is s) (after_turns_of is s).state.world
@@ -121,73 +113,14 @@ module _ {V : Type 0} {values : Values V} (t : ℕ) where
     grew = rw (joining_world s) (rw (update_keeps s.world) at (posts_write posts (after_update s.world)).grew);
   }
 
-  module _ (laws : BufferLaws V) where
+  module _ where
     pub run_writes : (frames : List (Frame V)) (s : State values) → IsSoundState s
         → IsWrittenOnce t s.world (run frames s).steps (run frames s).state.world
     run_writes [] s sound = no_steps s.world
     run_writes (f ∷ fs) s sound =
         let b : State values = before_turns f.posts s in
-        let ready : IsSoundState b = prepared_sound s b sound (prepares laws.grow f.posts s) in
+        let ready : IsSoundState b = prepared_sound s b sound (prepares f.posts s) in
         let own = λ (i : ℕ) (at : Contains (turn_order b) i). ready.writers i (turn_below b i at) in
-        let rest = run_writes fs (frame f s).state (frame_sound laws f s sound) in
+        let rest = run_writes fs (frame f s).state (frame_sound f s sound) in
         written_further t _ _ _ ((run fs (frame f s).state).steps) _
         (written_further t _ _ _ _ _ (before_writes f.posts s) (turns_write (turn_order b) b own)) rest
-
--- ---- what was answered
-
-module _ {V : Type 0} {values : Values V} where
-  abbrev answer_to : ℕ × Step values → ℕ × Reply V
-  answer_to x = (x.0, x.1.reply)
-
-module _ {V : Type 0} where
-  abbrev answers_by : ℕ → List (Reply V) → List (ℕ × Reply V)
-  answers_by i rs = map (λ r. (i, r)) rs
-
-module _ {V : Type 0} {values : Values V} where
-  -- each step has its reply
-  abbrev Answers : ℕ → List (Step values) → List (Reply V) → Type 0
-  Answers i xs rs = map answer_to (by_system i xs) ≡ answers_by i rs
-
-  one_answered : (i : ℕ) (o : Option (Op V)) (writer : ℕ) (far : AfterProgram values) → Answers i far.steps far.replies
-      → Answers i (one_more o writer far).steps (one_more o writer far).replies
-  one_answered i None writer far so = so
-  one_answered i (Some op) writer far so = grind (arith, map-append, so)
-
-  first_answered : (i n : ℕ) (m : Meaning V) (w : WorldState values) →
-      let far = after_at_most n (next_op m) m.writer m.places w in
-      Answers i far.steps far.replies
-  first_answered i zero m w = refl
-  first_answered i (suc n) m w =
-      let far : AfterProgram values = after_at_most n (next_op m) m.writer m.places w in
-      one_answered i (next_op m far.replies) m.writer far (first_answered i n m w)
-
-  turn_answered : (i : ℕ) (m : Meaning V) (w : WorldState values) → Answers i (turn m w).steps (turn m w).replies
-  unfolding turn
-  turn_answered i m w = first_answered i MAX_OPS m w
-
-module _ {V : Type 0} where
-  abbrev told_in : Turn V → List (ℕ × Reply V)
-  told_in turn = flat_map (answers_by turn.system) (replies_of turn.outcome)
-
-module _ {V : Type 0} {values : Values V} where
-  job_answered : (i : ℕ) (j : Job V) (w : WorldState values) → map answer_to (by_system i (after_job j w).steps)
-      ≡ told_in (record { system = i; outcome = outcome_of (after_job j w).replies })
-  job_answered i j w = grind (arith, append-nil, cases_Bool, turn_answered i j.system w)
-
-  turns_answered : (is : List ℕ) (s : State values) → map answer_to (turns_steps is s)
-      ≡ flat_map told_in (after_turns_of is s).turns
-  turns_answered [] s = refl
-  turns_answered (i ∷ is) s =
-      grind (arith, map-append, job_answered i (s.members i).job s.world, turns_answered is (after_turn_of i s))
-
-  posts_answered : (posts : List (ℕ × V)) (w : WorldState values) → map answer_to (post_steps posts w)
-      ≡ answers_by HOST (post_replies posts w)
-  posts_answered [] w = refl
-  posts_answered (p ∷ ps) w = grind (arith, posts_answered ps (after_posts (p ∷ []) w))
-
-  pub run_answered : (frames : List (Frame V)) (s : State values) → AreAnswered frames s
-  run_answered [] s = refl
-  run_answered (f ∷ fs) s =
-      let b : State values = before_turns f.posts s in
-      let posts = posts_answered f.posts (after_update s.world) in
-      grind (arith, map-append, append_assoc, posts, turns_answered (turn_order b) b, run_answered fs (frame f s).state)

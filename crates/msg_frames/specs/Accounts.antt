@@ -1,8 +1,8 @@
 -- What callers see of what each reader was given.
-use Rattle.std.specs.Prelude.{◌≡◌, ℕ, ◌+◌, Bool, List, map, flat_map, unwrap_or}
+use Rattle.std.specs.Prelude.{Bool, List, flat_map, map, unwrap_or, ℕ, ◌+◌, ◌≡◌}
 use Rattle.std.specs.List.{filter, range_with_len}
-use Rattle.msg_world.specs.{declared.part.Part.TheVariants.OfType, Prelude.Values}
-use Rattle.msg_frames.specs.{declared.account.Account.Account, declared.totals.Totals.Totals, Frames.State, Moments.reader_place}
+use Rattle.msg_world.specs.{Prelude.Values, declared.part.Part.TheVariants.OfType}
+use Rattle.msg_frames.specs.{Frames.State, Moments.reader_place, declared.account.Account.Account, declared.totals.Totals.Totals}
 
 module _ {V : Type 0} {values : Values V} where
   -- system i reads type t

@@ -1,10 +1,9 @@
 -- A run of frames with all that it comes to: for the lists of messages, and for each reader.
-use Rattle.std.specs.Prelude.{◌≡◌, ℕ, ◌<◌, ◌≤◌, ◌+◌, ◌-◌, List, if◌then◌else◌, IsTrue, IfSome, All, Contains, map, flat_map, Option, Some, option_map, slice_get}
+use Rattle.std.specs.Prelude.{All, Contains, IfSome, IsTrue, List, Option, Some, flat_map, if◌then◌else◌, map, option_map, slice_get, ℕ, ◌+◌, ◌-◌, ◌<◌, ◌≡◌, ◌≤◌}
 use Rattle.std.specs.List.{range_with_len}
 use Rattle.msg_buffer.specs.Prelude.{History, IsPresent, count}
-use Rattle.msg_world.specs.declared.record.Record.{Record}
-use Rattle.msg_frames.specs.{declared.frame.Frame.Frame, Entries.ReadEntry, Entries.numbers_missed, Entries.numbers_passed, Entries.numbers_told, Entries.totals_from, Entries.with_entries, Frames.run, Frames.State, Frames.has_begun, Steps.IsWrittenOnce, Moments.found_at, Moments.moments, Moments.reader_place, Moments.Moment}
-use Rattle.msg_world.specs.Prelude.{Values}
+use Rattle.msg_world.specs.{Prelude.Values, declared.record.Record.Record}
+use Rattle.msg_frames.specs.{Entries.ReadEntry, Entries.numbers_missed, Entries.numbers_passed, Entries.numbers_told, Entries.totals_from, Entries.with_entries, Frames.State, Frames.has_begun, Frames.run, Moments.Moment, Moments.found_at, Moments.moments, Moments.reader_place, Steps.IsWrittenOnce, declared.frame.Frame.Frame}
 
 -- ---- what an entry says
 

@@ -1,11 +1,11 @@
 -- What the replies of a system tell of its readers: what each read and each clear went past. A
 -- reader is a system and a type that it reads.
-use Rattle.std.specs.Prelude.{ℕ, ◌+◌, ◌-◌, false, Bool, List, [], ◌++◌, length, flat_map, Option, Some, None, is_some, option_to_list, if◌then◌else◌}
+use Rattle.std.specs.Prelude.{Bool, List, None, Option, Some, [], false, flat_map, if◌then◌else◌, is_some, length, option_to_list, ℕ, ◌++◌, ◌+◌, ◌-◌}
 use Rattle.std.specs.List.{range_with_len}
 use Rattle.msg_buffer.specs.Prelude.{Stretch}
-use Rattle.msg_world.specs.{declared.part.Part.TheVariants.OfType, Prelude.same_part, declared.record.Record.Record, Prelude.Values}
-use Rattle.msg_system.specs.{Prelude.Step, Prelude.op_parts, declared.op.Op.Op, declared.reply.Reply.Reply, declared.reply.Reply.TheVariants.Read, declared.reply.Reply.TheVariants.Cleared, declared.reply.Reply.TheVariants.Forwarded, declared.reply.Reply.TheVariants.Summed, declared.reply.Took.Took}
-use Rattle.msg_frames.specs.{declared.totals.Totals.Totals}
+use Rattle.msg_world.specs.{Prelude.Values, Prelude.same_part, declared.part.Part.TheVariants.OfType, declared.record.Record.Record}
+use Rattle.msg_system.specs.{Prelude.Step, Prelude.op_parts, declared.op.Op.Op, declared.reply.Reply.Reply, declared.reply.Reply.TheVariants.Cleared, declared.reply.Reply.TheVariants.Forwarded, declared.reply.Reply.TheVariants.Read, declared.reply.Reply.TheVariants.Summed, declared.reply.Took.Took}
+use Rattle.msg_frames.specs.declared.totals.Totals.{Totals}
 
 -- What a reader went past by one op, and the messages that it was given; None if it cleared them.
 pub record ReadEntry (V : Type 0) : Type 0 where

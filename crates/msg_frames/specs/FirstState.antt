@@ -1,9 +1,9 @@
 -- A state before any frame.
-use Rattle.std.specs.Prelude.{◌≡◌, ℕ, List, [], length, map, slice_index_or}
-use Rattle.msg_world.specs.Prelude.{WorldState, Values}
+use Rattle.std.specs.Prelude.{List, [], length, map, slice_index_or, ℕ, ◌≡◌}
+use Rattle.msg_world.specs.Prelude.{Values, WorldState}
 use Rattle.msg_order.specs.declared.rule.Rule.{Rule}
 use Rattle.msg_system.specs.{Prelude.Job, Prelude.Meaning, Prelude.new_asked, Prelude.new_system, declared.start.Start.TheVariants.Zero}
-use Rattle.msg_frames.specs.{declared.place.Place.Place, Entries.no_totals, Frames.with_joining, Frames.Member, Frames.State}
+use Rattle.msg_frames.specs.{Entries.no_totals, Frames.Member, Frames.State, Frames.with_joining, declared.place.Place.Place}
 
 module _ {V : Type 0} where
   -- the default for a number that is no system's: no ops, writer 0

@@ -3,16 +3,10 @@ pub mod Frames
 pub mod FirstState
 pub mod Prelude
 pub mod Replays
-pub mod TurnLaws
 pub mod Steps
 pub mod LogEntries
 pub mod Moments
 pub mod CompleteRun
-pub mod Fates
 pub mod Soundness
-pub mod ReaderLaws
-pub mod UpToDate
-pub mod WakeUps
-pub mod Latency
+pub mod Laws
 pub mod Accounts
-pub mod Rows

@@ -1,7 +1,7 @@
 -- What replies tell of a reader: the system's rule says which op each of them answers.
-use Rattle.std.specs.Prelude.{ℕ, List, [], ◌∷◌, ◌++◌}
+use Rattle.std.specs.Prelude.{List, [], ℕ, ◌++◌, ◌∷◌}
 use Rattle.msg_system.specs.{Prelude.Needs, Prelude.Rule, Prelude.if_kept, Prelude.ops_answered, declared.op.Op.Op, declared.reply.Reply.Reply}
-use Rattle.msg_frames.specs.{Entries.ReadEntry, Entries.entry_for}
+use Rattle.msg_frames.specs.Entries.{ReadEntry, entry_for}
 
 module _ {V : Type 0} where
   -- the entries for a type among the replies to these ops
@@ -16,6 +16,5 @@ module _ {V : Type 0} where
   -- The entries for a type of a system whose turns, one after the other, have these replies.
   abbrev pub entries_told : ℕ → Needs → Rule V → List (List (Reply V)) → List (ReadEntry V)
   entries_told t n rule [] = []
-  entries_told t n rule (replies ∷ turns) =
-      entries_for t (ops_by n rule replies) replies
+  entries_told t n rule (replies ∷ turns) = entries_for t (ops_by n rule replies) replies
       ++ entries_told t n (λ later now. rule (replies ∷ later) now) turns

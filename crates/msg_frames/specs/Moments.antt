@@ -1,9 +1,9 @@
 -- What a reader was given over a run, moment by moment.
-use Rattle.std.specs.Prelude.{ℕ, ◌==◌, List, map, filter, flat_map, unwrap_or, if◌then◌else◌}
-use Rattle.msg_buffer.specs.Prelude.{History}
-use Rattle.msg_world.specs.{declared.record.Record.Record, Prelude.Values}
+use Rattle.std.specs.Prelude.{IfSome, List, drop, filter, flat_map, if◌then◌else◌, map, take, unwrap_or, ℕ, ◌==◌, ◌≡◌}
+use Rattle.msg_buffer.specs.Prelude.{History, Stretch, instances, message_of}
+use Rattle.msg_world.specs.{Prelude.Values, declared.record.Record.Record}
 use Rattle.msg_system.specs.Prelude.{Step}
-use Rattle.msg_frames.specs.{declared.frame.Frame.Frame, Entries.ReadEntry, Entries.entry_for, Frames.State, Frames.has_begun, Frames.run}
+use Rattle.msg_frames.specs.{Entries.ReadEntry, Entries.entry_for, Frames.State, Frames.has_begun, Frames.run, declared.frame.Frame.Frame}
 
 -- ---- the moments of a run
 
@@ -12,6 +12,15 @@ pub record Moment (V : Type 0) : Type 0 where
   pub history : History (Record V)
   pub place : ℕ
   pub entry : ReadEntry V
+
+module _ {V : Type 0} where
+  -- the messages of a stretch
+  abbrev pub messages_of : History (Record V) → Stretch → List (Record V)
+  messages_of h stretch = map message_of (take stretch.number (drop stretch.first (instances h)))
+
+  -- an entry that gave messages gave those of its stretch
+  abbrev pub GivesItsStretch : Moment V → Type 0
+  GivesItsStretch m = IfSome m.entry.given (λ items. items ≡ messages_of m.history m.entry.stretch)
 
 module _ {V : Type 0} {values : Values V} where
   -- the moments of a step, for a reader of type t: one if its op went past some, else none

@@ -1,22 +1,16 @@
 -- Hands on the definitions cited elsewhere. The declared types serve this crate's proofs alone.
 pub use Rattle.msg_frames.specs.Accounts.{AddsUp, account_of, accounts_of, accounts_of_system, is_reader}
 pub use Rattle.msg_frames.specs.CompleteRun.{IsCompleteRun, IsServed, IsTrueEntry, entries_in_run, message_numbered}
-pub use Rattle.msg_frames.specs.Fates.{EachMeetsOneFate, Fate, GivesItsStretch, IsGivenOnce, IsInOrderOf, IsTiled, LogsTellEntries, Meets, MeetsOneFate, ReadersTile, WritersInOrder, answers_in, cleared, given, log_entries, messages_given, messages_of, missed, numbered_given, numbers_at, numbers_of, told_to}
 pub use Rattle.msg_frames.specs.Entries.{ReadEntry, entries_at, entry_for, entry_of, entry_of_read, no_totals, numbers_cleared, numbers_given, numbers_missed, numbers_passed, numbers_told, totals_from, with_entries}
 pub use Rattle.msg_frames.specs.FirstState.{IsNew, first_state, new_job, default_system, default_place, before_joining, waiting_member}
 pub use Rattle.msg_frames.specs.Frames.{post_steps, turns_steps, AfterFrame, AfterRun, UsesParts, are_in_conflict, frame, needs_conflict, run, AfterTurns, AreAccessesOf, Member, State, after_posts, after_turn_of, after_turns_of, before_turns, counts, frame_in, has_begun, job_begun, join_flags, joined_member, member_after, after_joining, logged_turn, member_needs, outcome_of, post_replies, turn_order_in, turn_of, with_joining}
-pub use Rattle.msg_frames.specs.ReaderLaws.{AccountsBalance, AccountsBeginAtTheStart, AllAreAnswered, AreNew, FirstIsSound, FrameStaysSound, NoneBeforeJoining, ReplaysTellTheSame, RunStaysSound, RunsAreComplete, RunsCompose}
+pub use Rattle.msg_frames.specs.Laws.{AreNew, BatchesRunSideBySide, FirstIsSound, FrameKeeps, FrameStaysSound, FramesAgreeInLawfulOrders, FramesKeepSystems, ReplaysTellTheSame, RunStaysSound, RunsAreComplete, SameMember, SameSystems, all_home, home, with_member}
 pub use Rattle.msg_frames.specs.Replays.{IsLawfulFor, TellsTheSame}
-pub use Rattle.msg_frames.specs.Rows.{Setup, program, setup_state}
 pub use Rattle.msg_frames.specs.Soundness.{IsBalanced, IsSoundState, NoCycle}
-pub use Rattle.msg_frames.specs.Steps.{AreAnswered, IsWrittenOnce, all_written, answers_of, replies_of, told, wrote}
-pub use Rattle.msg_frames.specs.Moments.{Moment, found_at, moments, moments_at, reader_place}
+pub use Rattle.msg_frames.specs.Steps.{IsWrittenOnce, all_written, answers_in, replies_of, told, wrote}
+pub use Rattle.msg_frames.specs.Moments.{GivesItsStretch, Moment, found_at, messages_of, moments, moments_at, reader_place}
 unfoldable pub use Rattle.msg_frames.specs.Frames.{parts, settled_order, turn_order}
 pub use Rattle.msg_frames.specs.LogEntries.{entries_for, entries_told, ops_by}
-pub use Rattle.msg_frames.specs.TurnLaws.{AreOrdered, OrderIsSettled, TurnsAreInOrder, BatchesRunSideBySide, FrameKeeps, FramesAgreeInLawfulOrders, FramesKeepSystems, FramesRunByBatches, LawfulOrdersAgree, ListsOnlyGrow, SameMember, SameSystems, SameSystemsHaveSameAccesses, TurnsKeepSystems, TurnsOfOthersCommute, all_home, by_batches, home, with_member}
-pub use Rattle.msg_frames.specs.UpToDate.{IsUpToDate, MissesNothing, NothingDrained, ReadsAll, ReadsAllInEach, WhoIsUpToDateMissesNothing, WhoReadsAllCatchesUp, WhoReadsAllHasTheFrameBefore, WhoReadsAllIsUpToDate, WhoReadsEachFrameMissesNothing, WhoseProgramReadsAll, reads_all}
-pub use Rattle.msg_frames.specs.WakeUps.{IsSkipped, IsWokenBy, NoWakeUpIsLost, NothingUnread, ReadsAllIfWoken, ReadsAllWhenWoken, WhoIsWokenStaysSo, WhoSleepsHasNothingUnread, WhoseProgramReadsAllWhenWoken}
-pub use Rattle.msg_frames.specs.Latency.{AllReadersHaveItNext, HasTaken, LaterReadersHaveItAtOnce}
 pub use Rattle.msg_frames.specs.declared.frame.Frame.{Frame}
 pub use Rattle.msg_frames.specs.declared.log.Log.{Log}
 pub use Rattle.msg_frames.specs.declared.log.Outcome.{Outcome}

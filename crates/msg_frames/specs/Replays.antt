@@ -1,7 +1,7 @@
 -- A frame in another order than the settled one.
-use Rattle.std.specs.Prelude.{◌≡◌, ℕ, List, IsPermutation}
+use Rattle.std.specs.Prelude.{IsPermutation, List, ℕ, ◌≡◌}
 use Rattle.msg_order.specs.Prelude.{IsLawfulOrder}
-use Rattle.msg_frames.specs.{declared.frame.Frame.Frame, declared.log.Log.Log, Frames.settled_order, Frames.before_turns, Frames.State, Frames.join_flags}
+use Rattle.msg_frames.specs.{Frames.State, Frames.before_turns, Frames.join_flags, Frames.settled_order, declared.frame.Frame.Frame, declared.log.Log.Log}
 use Rattle.msg_world.specs.Prelude.{Values}
 
 -- The order is lawful for a frame on the state s: it has all that will have joined, each once, and

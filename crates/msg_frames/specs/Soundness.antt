@@ -1,5 +1,5 @@
 -- What holds of every state that frames make.
-use Rattle.std.specs.Prelude.{◌≡◌, ℕ, ◌+◌, ◌≤◌, ◌<◌, Bool, List, length, Some, IsTrue, IsFalse}
+use Rattle.std.specs.Prelude.{Bool, IsFalse, IsTrue, List, Some, length, ℕ, ◌+◌, ◌<◌, ◌≡◌, ◌≤◌}
 use Rattle.msg_buffer.specs.Prelude.{IsSound, count}
 use Rattle.msg_order.specs.Prelude.{IsAcyclic, rules_among}
 use Rattle.msg_frames.specs.{Entries.no_totals, Frames.State, Frames.UsesParts, Frames.has_begun, Moments.reader_place, declared.totals.Totals.Totals}

@@ -1,10 +1,10 @@
 -- The steps of a run: each op and each post as it was done, and what they wrote.
-use Rattle.std.specs.Prelude.{◌≡◌, ℕ, ◌==◌, List, [], ◌∷◌, ◌++◌, map, flat_map, Some, if◌then◌else◌}
 use Rattle.std.specs.List.{enumerate_from}
+use Rattle.std.specs.Prelude.{List, Some, [], flat_map, if◌then◌else◌, map, ℕ, ◌++◌, ◌==◌, ◌∷◌, ◌≡◌}
 use Rattle.msg_buffer.specs.Prelude.{History}
-use Rattle.msg_world.specs.{Prelude.WorldState, Prelude.by, declared.record.Record.Record, declared.record.TheConstants.HOST, Prelude.Values}
-use Rattle.msg_system.specs.{Prelude.Step, Prelude.again_by, declared.op.Op.Op, declared.op.Op.TheVariants.Write, declared.op.Op.TheVariants.Batch, declared.op.Op.TheVariants.Forward, declared.reply.Reply.Reply, declared.reply.Reply.TheVariants.Wrote, declared.reply.Reply.TheVariants.Forwarded}
-use Rattle.msg_frames.specs.{declared.frame.Frame.Frame, declared.log.Log.Log, declared.log.Outcome.Outcome, declared.log.Outcome.TheVariants.Skipped, declared.log.Outcome.TheVariants.Ran, Frames.State, Frames.run}
+use Rattle.msg_world.specs.{Prelude.Values, Prelude.WorldState, Prelude.by, declared.record.Record.Record}
+use Rattle.msg_system.specs.{Prelude.Step, Prelude.again_by, declared.op.Op.Op, declared.op.Op.TheVariants.Batch, declared.op.Op.TheVariants.Forward, declared.op.Op.TheVariants.Write, declared.reply.Reply.Reply, declared.reply.Reply.TheVariants.Forwarded, declared.reply.Reply.TheVariants.Wrote}
+use Rattle.msg_frames.specs.{declared.log.Log.Log, declared.log.Outcome.Outcome, declared.log.Outcome.TheVariants.Ran, declared.log.Outcome.TheVariants.Skipped}
 
 -- ---- what was written
 
@@ -41,15 +41,8 @@ module _ {V : Type 0} where
   replies_of Skipped = []
   replies_of (Ran replies) = replies ∷ []
 
-  -- the replies that the logs have, each beside whom it was given to
-  abbrev pub answers_of : List (Log V) → List (ℕ × Reply V)
-  answers_of logs =
-      flat_map (λ log. map (λ r. (HOST, r)) log.posts
-      ++ flat_map (λ turn. flat_map (λ replies. map (λ r. (turn.system, r)) replies)
-      (replies_of turn.outcome)) log.turns) logs
-
-module _ {V : Type 0} {values : Values V} where
-  -- the steps of a run have the replies of its logs, in that order
-  abbrev pub AreAnswered : List (Frame V) → State values → Type 0
-  AreAnswered frames s = map (λ x. (x.0, x.1.reply)) (run frames s).steps
-      ≡ answers_of (run frames s).logs
+  -- what system i was told: the replies of each turn that it took
+  abbrev pub answers_in : ℕ → List (Log V) → List (List (Reply V))
+  answers_in i logs =
+      flat_map (λ log. flat_map (λ turn. if turn.system == i then replies_of turn.outcome
+      else []) log.turns) logs

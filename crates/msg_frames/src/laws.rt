@@ -1,36 +1,9 @@
-//! Laws: facts that hold of all systems' turns and of frames. Calling one makes its fact available
-//! to the caller's proof; it does nothing at run time.
-ghost use Rattle.msg_frames.specs.Prelude.{BatchesRunSideBySide, FramesAgreeInLawfulOrders, FramesKeepSystems, FramesRunByBatches, LawfulOrdersAgree, ListsOnlyGrow, OrderIsSettled, TurnsAreInOrder, SameSystemsHaveSameAccesses, TurnsKeepSystems, TurnsOfOthersCommute};
+//! Laws: facts that hold of all systems' turns, of frames and of runs. Calling one makes its fact
+//! available to the caller's proof; it does nothing at run time.
+ghost use Rattle.msg_frames.specs.Prelude.{BatchesRunSideBySide, FirstIsSound, FrameStaysSound, FramesAgreeInLawfulOrders, ReplaysTellTheSame, RunStaysSound, RunsAreComplete};
 
-use msg_buffer::laws::histories_only_grow;
 use msg_system::nothing_else_is_used;
-use msg_world::{Record, Value};
-
-/// Turns keep the systems: what they need, where they start, their conditions, and the rules of
-/// their order. Only what they do next, places, accounts and the world change.
-#[tactic(auto, using(crate::proofs::SystemsStay::turns_keep))]
-pub fn turns_keep_the_systems<V: Value>()
-    ensures law { TurnsKeepSystems V.values }
-{}
-
-/// Frames keep the systems too.
-pub fn frames_keep_the_systems<V: Value>()
-    ensures law { FramesKeepSystems V.values }
-{}
-
-/// The same systems have the same accesses, and after as many frames the same of them have joined.
-#[tactic(auto, using(crate::proofs::SystemsStay::same_accesses))]
-pub fn same_systems_have_same_accesses<V: Value>()
-    ensures law { SameSystemsHaveSameAccesses V.values }
-{}
-
-/// Of two systems whose accesses don't conflict, the turn of one doesn't change what comes of the
-/// other's, and it doesn't matter which is first.
-pub fn turns_of_others_commute<V: Value>()
-    ensures law { TurnsOfOthersCommute V.values }
-{
-    nothing_else_is_used::<V>();
-}
+use msg_world::Value;
 
 /// Systems of which no two conflict may take their turns side by side: each runs on what was there
 /// at the start, and what it wrote is merged afterwards. The log and the state are those of one
@@ -41,30 +14,6 @@ pub fn batches_run_side_by_side<V: Value>()
     nothing_else_is_used::<V>();
 }
 
-/// Batch after batch, each side by side, gives what one turn after the other gives.
-#[tactic(auto, using(crate::proofs::BatchesSideBySide::batch_by_batch))]
-pub fn frames_run_by_batches<V: Value>()
-    ensures law { FramesRunByBatches V.values }
-{
-    nothing_else_is_used::<V>();
-}
-
-/// Two lawful orders of the same turns leave the same state, and each system's turn comes out
-/// alike.
-pub fn lawful_orders_agree<V: Value>()
-    ensures law { LawfulOrdersAgree V.values }
-{
-    nothing_else_is_used::<V>();
-}
-
-/// The order of a state's systems is the settled one. If the rules make no cycle, it has none, it
-/// orders those in conflict, the batches are by the longest chain, and each system that has joined
-/// has its turn once.
-pub fn turns_are_in_settled_order<V: Value>()
-    ensures turns { TurnsAreInOrder V.values }
-    ensures settled { OrderIsSettled V.values }
-{}
-
 /// In any lawful order a frame leaves the same state, and each system's turn comes out alike.
 pub fn frames_agree_in_lawful_orders<V: Value>()
     ensures law { FramesAgreeInLawfulOrders V.values }
@@ -72,10 +21,28 @@ pub fn frames_agree_in_lawful_orders<V: Value>()
     nothing_else_is_used::<V>();
 }
 
-/// Over a run each type's list of messages only grows.
-#[tactic(auto, using(crate::proofs::HistoriesGrow::runs_go_on))]
-pub fn lists_only_grow<V: Value>()
-    ensures law { ListsOnlyGrow V.values }
-{
-    histories_only_grow::<Record<V>>();
-}
+/// A frame leaves a sound state sound, and so does a run of frames.
+pub fn states_stay_sound<V: Value>()
+    ensures frame { FrameStaysSound V.values }
+    ensures run { RunStaysSound V.values }
+{}
+
+/// A state before any frame is sound, if its systems are new ones over a sound world.
+pub fn first_states_are_sound<V: Value>()
+    ensures law { FirstIsSound V.values }
+{}
+
+/// Every run is complete. Each type's list grew by exactly what the steps tell was written, each
+/// message once, under the number that was told. From where the run found a reader to where it
+/// stands at the end, its entries tell each number once, in order: those that it went past, and
+/// those that it missed since they had been dropped unread. What it was given is what is there.
+pub fn runs_are_complete<V: Value>()
+    ensures law { RunsAreComplete V.values }
+{}
+
+/// Logs that tell the same as those of a run tell each system what the run tells it. So frames of
+/// which some are replayed tell each reader what the run of the same frames tells.
+#[tactic(auto, using(crate::proofs::ReplaysTellTheSame::replays_tell))]
+pub fn replays_tell_the_same<V: Value>()
+    ensures law { ReplaysTellTheSame V.values }
+{}

@@ -7,7 +7,6 @@ pub mod laws;
 mod limits;
 mod log;
 mod place;
-pub mod reader_laws;
 mod totals;
 
 pub use account::Account;

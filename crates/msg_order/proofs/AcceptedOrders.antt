@@ -1,9 +1,9 @@
 -- An order is lawful just if its systems can be taken one after the other, each with none left before it.
-use Rattle.std.proofs.Common.{◌≡◌, ℕ, ◌+◌, ◌<◌, ◌⊎◌, inl, inr, Bool, true, false, not, ◌&&◌, List, length, get_or, arith, ◌==◌}
+use Rattle.std.proofs.Common.{Bool, List, arith, false, get_or, inl, inr, length, not, true, ℕ, ◌&&◌, ◌+◌, ◌<◌, ◌==◌, ◌≡◌, ◌⊎◌}
 use Rattle.std.specs.List.{list_any, range_with_len}
-use Rattle.std.proofs.lemmas.{Bool.Decides.eqb_tells, Bool.cases_Bool, Bool.cases_eq, List.get_or_default}
+use Rattle.std.proofs.lemmas.{Bool.cases_Bool, Bool.cases_eq, Bool.Decides.eqb_tells, List.get_or_default}
 use Rattle.msg_order.specs.Prelude.{Graph, IsEdge, IsLawfulOrder, StandsBefore, has_joined}
-use Rattle.msg_order.proofs.{SystemSets.below_some, SystemSets.some_below, TurnOrders.stands, TurnOrders.places_of, TurnOrders.place_of, TurnOrders.of_place, TurnOrders.one_place}
+use Rattle.msg_order.proofs.{SystemSets.below_some, SystemSets.some_below, TurnOrders.of_place, TurnOrders.one_place, TurnOrders.place_of, TurnOrders.places_of, TurnOrders.stands}
 
 -- i stands among the first k, or not
 pub find_place : (order : List ℕ) (i k : ℕ) → ((a : ℕ) × ((a < k) × (get_or order a 0 ≡ i)))

@@ -1,5 +1,5 @@
 -- Chains, joined end to end, and counted from their end.
-use Rattle.std.proofs.Common.{◌≡◌, ℕ, Bool, zero, suc, ◌+◌, ◌<◌, ◌≤◌, List, [], ◌∷◌, ◌++◌, length, refl, arith, append_assoc, length-append, IsTrue}
+use Rattle.std.proofs.Common.{Bool, IsTrue, List, [], append_assoc, arith, length, length-append, refl, suc, zero, ℕ, ◌++◌, ◌+◌, ◌<◌, ◌∷◌, ◌≡◌, ◌≤◌}
 use Rattle.std.proofs.lemmas.Bool.{cases_eq}
 use Rattle.msg_order.specs.Prelude.{Graph, IsAmong, IsBatchNumber, IsChain, IsEdge, Path, has_joined}
 

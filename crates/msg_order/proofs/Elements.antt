@@ -1,7 +1,7 @@
 -- What stands in a list that was made from others.
-use Rattle.std.proofs.Common.{◌≡◌, ℕ, zero, suc, ◌+◌, ◌-◌, ◌<◌, ◌≤◌, ◌⊎◌, inl, inr, Bool, true, false, List, [], ◌∷◌, ◌++◌, map, get_or, refl, ap, ◌∙◌, arith, All, AllPairs, Contains, filter, flat_map}
-use Rattle.std.specs.List.{range_with_len, concat, list_any}
-use Rattle.std.proofs.lemmas.{List.append-nil, List.get_or-map, List.length-map, List.map-id, List.Elements.All-contains, List.Elements.All-contains_itself, List.Elements.All-filter, List.Elements.All-map, List.Elements.Contains-append_cases, List.Elements.Contains-append_left, List.Elements.Contains-append_right, List.Elements.Contains-get_or, List.Elements.filter-append, List.Elements.filter_passes, Bool.cases_Bool, List.Folds.Any-from_list_any, List.Folds.list_any_at, List.FromFn.get_or-range_with_len, List.FromFn.length-range_with_len, List.FromFn.map-range_with_len_more}
+use Rattle.std.proofs.Common.{All, AllPairs, Bool, Contains, List, [], ap, arith, false, filter, flat_map, get_or, inl, inr, map, refl, suc, true, zero, ℕ, ◌++◌, ◌+◌, ◌-◌, ◌<◌, ◌∙◌, ◌∷◌, ◌≡◌, ◌≤◌, ◌⊎◌}
+use Rattle.std.specs.List.{concat, list_any, range_with_len}
+use Rattle.std.proofs.lemmas.{Bool.cases_Bool, List.append-nil, List.get_or-map, List.length-map, List.map-id, List.Elements.All-contains, List.Elements.All-contains_itself, List.Elements.All-filter, List.Elements.All-map, List.Elements.Contains-append_cases, List.Elements.Contains-append_left, List.Elements.Contains-append_right, List.Elements.Contains-get_or, List.Elements.filter-append, List.Elements.filter_passes, List.Folds.Any-from_list_any, List.Folds.list_any_at, List.FromFn.get_or-range_with_len, List.FromFn.length-range_with_len, List.FromFn.map-range_with_len_more}
 use Rattle.msg_order.specs.Prelude.{batch_at}
 
 module _ {X : Type 0} where

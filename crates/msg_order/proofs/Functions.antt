@@ -1,9 +1,9 @@
 -- What the functions make: batches and turns.
-use Rattle.std.proofs.Common.{◌≡◌, ℕ, zero, suc, ◌+◌, ◌<◌, ◌≤◌, Bool, true, not, List, [], ◌∷◌, ◌++◌, length, sym, ap, ◌∙◌, arith, inl, inr, IsTrue, ◌≢◌, AllPairs, Contains, filter, append_assoc, length-append}
+use Rattle.std.proofs.Common.{AllPairs, Bool, Contains, IsTrue, List, [], ap, append_assoc, arith, filter, inl, inr, length, length-append, not, suc, sym, true, zero, ℕ, ◌++◌, ◌+◌, ◌<◌, ◌∙◌, ◌∷◌, ◌≡◌, ◌≢◌, ◌≤◌}
 use Rattle.std.specs.List.{concat, range_with_len}
-use Rattle.std.proofs.lemmas.{Bool.cases_Bool, Bool.cases_eq, Bool.and_parts, List.Elements.Contains-append_cases, List.FromFn.length-range_with_len, List.FromFn.get_or-range_with_len, List.Kept.AllPairs-filter}
+use Rattle.std.proofs.lemmas.{Bool.and_parts, Bool.cases_Bool, Bool.cases_eq, List.Elements.Contains-append_cases, List.FromFn.get_or-range_with_len, List.FromFn.length-range_with_len, List.Kept.AllPairs-filter}
 use Rattle.msg_order.specs.Prelude.{AreBatches, Graph, IsAcyclic, IsAmong, IsTurnOrder, batches, batches_of, follows, has_joined, turns}
-use Rattle.msg_order.proofs.{Elements.filter-Contains, Elements.not_in_none, BatchLevels.AreFrom, BatchLevels.AreLeft, BatchLevels.few_left, BatchLevels.fewer_left, BatchLevels.from_more, BatchLevels.from_none, BatchLevels.left_next, BatchLevels.left_of, BatchLevels.level, BatchLevels.level_none, BatchLevels.levels_done, BatchLevels.levels_more, BatchLevels.next, BatchLevels.stops, SetPaths.joined_in, TurnOrders.in_turn_order, TurnOrders.pairs_append}
+use Rattle.msg_order.proofs.{BatchLevels.AreFrom, BatchLevels.AreLeft, BatchLevels.few_left, BatchLevels.fewer_left, BatchLevels.from_more, BatchLevels.from_none, BatchLevels.left_next, BatchLevels.left_of, BatchLevels.level, BatchLevels.level_none, BatchLevels.levels_done, BatchLevels.levels_more, BatchLevels.next, BatchLevels.stops, Elements.filter-Contains, Elements.not_in_none, SetPaths.joined_in, TurnOrders.in_turn_order, TurnOrders.pairs_append}
 pub use Rattle.msg_order.proofs.SettledOrders.{settled_among, settled_no_cycle, settled_only, settled_orders}
 
 -- ---- batches
@@ -76,8 +76,7 @@ batches_differ (suc n) g (x ∷ xs) once =
     let rest : List ℕ = filter stops (x ∷ xs) in
     pairs_append (λ i j. i ≢ j) first (concat (batches_of n g rest))
     (AllPairs-filter (λ i j. i ≢ j) (λ k. not (stops k)) (x ∷ xs) once)
-    (batches_differ n g rest (AllPairs-filter (λ i j. i ≢ j) stops (x ∷ xs) once))
-    (λ i j p q.
+    (batches_differ n g rest (AllPairs-filter (λ i j. i ≢ j) stops (x ∷ xs) once)) (λ i j p q.
     let out = (filter-Contains (λ k. not (stops k)) (x ∷ xs) i p).1 in
     let in_ = (filter-Contains stops (x ∷ xs) j (batches_within n g rest j q)).1 in
     grind (arith, cases_Bool, out, in_))

@@ -11,7 +11,7 @@ pub mod SettledOrders
 mod BatchLevels
 pub mod TurnOrders
 -- What a plan says
-mod PlanViews
+pub mod PlanViews
 mod AcceptedOrders
 -- The functions are what the relations say
 pub mod Functions

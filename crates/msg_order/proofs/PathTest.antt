@@ -1,8 +1,8 @@
 -- The test for a path, which grows edge by edge, says whether there is one.
-use Rattle.std.proofs.Common.{arith, ◌≡◌, ℕ, Bool, true, false, [], ◌∷◌, sym, ◌∙◌}
-use Rattle.std.proofs.lemmas.{Bool.Decides.eqb_tells, Bool.false≢true, Bool.false_from_ne_true}
-use Rattle.msg_order.specs.{Prelude.Graph, Prelude.IsEdge, Prelude.Path, Graph.path}
-use Rattle.msg_order.proofs.{Elements.Contains-cases, Elements.Contains-head, Elements.Contains-tail, Elements.not_in_none, Chains.edge_is_path, Chains.paths_join, Chains.path_grows}
+use Rattle.std.proofs.Common.{Bool, [], arith, false, sym, true, ℕ, ◌∙◌, ◌∷◌, ◌≡◌}
+use Rattle.std.proofs.lemmas.{Bool.false_from_ne_true, Bool.false≢true, Bool.Decides.eqb_tells}
+use Rattle.msg_order.specs.{Graph.path, Prelude.Graph, Prelude.IsEdge, Prelude.Path}
+use Rattle.msg_order.proofs.{Chains.edge_is_path, Chains.path_grows, Chains.paths_join, Elements.Contains-cases, Elements.Contains-head, Elements.Contains-tail, Elements.not_in_none}
 
 pub edge_path : (g : Graph) (i j : ℕ) → IsEdge g i j → path g i j ≡ true
 edge_path [] i j h = absurd (not_in_none (i, j) h)
@@ -16,14 +16,11 @@ pub from_Path : (g : Graph) (i j : ℕ) → Path g i j → path g i j ≡ true
 from_Path g i j ([], c) = edge_path g i j c.0
 from_Path g i j (k ∷ more, c) = path_trans g i k j (edge_path g i k c.0) (from_Path g k j (more, c.1))
 
-pub path_more : (e : ℕ × ℕ) (g : Graph) (i j : ℕ) → Path g i j → Path (e ∷ g) i j
-path_more e g = path_grows g (e ∷ g) (λ a b h. Contains-tail e g (a, b) h)
-
 pub to_Path : (g : Graph) (i j : ℕ) → path g i j ≡ true → Path g i j
 to_Path [] i j h = absurd (false≢true h)
 to_Path (e ∷ g) i j h =
     let newest : Path (e ∷ g) e.0 e.1 = edge_is_path (e ∷ g) e.0 e.1 (Contains-head e g) in
-    let stays = λ (a b : ℕ) (p : path g a b ≡ true). path_more e g a b (to_Path g a b p) in
+    let stays = λ (a b : ℕ) (p : path g a b ≡ true). path_grows g (e ∷ g) (λ c d. Contains-tail e g (c, d)) a b (to_Path g a b p) in
     grind (arith, eqb_tells, newest, stays, paths_join (e ∷ g) i e.0 e.1, paths_join (e ∷ g) i e.1 j)
 
 -- if the test fails there is no path, and the other way round

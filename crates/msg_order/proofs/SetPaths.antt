@@ -1,11 +1,10 @@
 -- The code's sets as the paths of a graph.
-use Rattle.std.proofs.Common.{◌≡◌, ℕ, zero, suc, ◌+◌, ◌-◌, ◌<◌, ◌≤◌, Bool, true, false, cond, ◌&&◌, ◌||◌, List, [], ◌∷◌, ◌++◌, length, take, map, get_or, replicate, Option, None, Some, refl, sym, ◌∙◌, arith, ◌==◌, IsTrue, IsFalse, MatchOption, ◌↔◌}
+use Rattle.std.proofs.Common.{Bool, IsFalse, IsTrue, List, MatchOption, None, Option, Some, [], arith, cond, false, get_or, length, map, refl, replicate, suc, sym, take, true, zero, ℕ, ◌&&◌, ◌++◌, ◌+◌, ◌-◌, ◌<◌, ◌==◌, ◌||◌, ◌↔◌, ◌∙◌, ◌∷◌, ◌≡◌, ◌≤◌}
 use Rattle.std.specs.List.{list_any, range_with_len}
-use Rattle.std.proofs.lemmas.{Bool.cases_Bool, List.append-nil, List.get_or-map, List.length-map, List.take-map, List.get_or-take, List.get_or_past, Simd.get_or-replicate, List.Elements.All-head, List.Elements.All-tail, List.Elements.filter_more, List.Elements.Contains-append_left, List.Elements.Contains-push, List.Elements.Contains-push_cases, Bool.Decides.eqb_tells, Bool.cases_eq, Bool.cases_lt, Bool.or_left, Bool.or_right, Bool.or_cases, Bool.and_parts, Bool.false≢true, Bool.false_from_ne_true, Bool.eqb-true, Bool.eq-eqb}
-use Rattle.msg_order.specs.Prelude.{Graph, IsAcyclic, IsLowestOnCycle, NameSystemsBelow, Rule, SystemSet, TellsConflicts, edges_of, has_joined, rules_among, settle}
-use Rattle.msg_world.specs.{declared.limits.TheConstants.MAX_SYSTEMS, declared.access.Access.Access}
-use Rattle.msg_order.specs.{inner.SystemSet.has, inner.SystemSet.meets, inner.SystemSet.no_set, Graph.path, inner.Paths.set_at, inner.Paths.comes_before, inner.Paths.AreInConflict, inner.Paths.ArePaths, inner.Paths.AreStarts, inner.Paths.conflict_among}
-use Rattle.msg_order.proofs.{SystemSets.has-no_set, SystemSets.meets-found, SystemSets.meets-true, Elements.Contains-tail, Elements.Contains-cases, Elements.Contains-list_any, Elements.Contains-range, Elements.list_any-Contains, Elements.range-Contains, PathTest.path_trans, PathTest.to_Path, PathTest.no_Path, PathTest.same_test, PathTest.same_paths, SettledPairs.grown_paths, SettledPairs.reaches, SettledPairs.settle_row, SettledPairs.settle_append, SettledPairs.pairs_until, SettledPairs.pairs_until-more}
+use Rattle.std.proofs.lemmas.{Bool.and_parts, Bool.cases_Bool, Bool.cases_eq, Bool.cases_lt, Bool.eq-eqb, Bool.eqb-true, Bool.false_from_ne_true, Bool.false≢true, Bool.or_cases, Bool.or_left, Bool.or_right, Bool.Decides.eqb_tells, List.append-nil, List.get_or-map, List.get_or-take, List.get_or_past, List.length-map, List.take-map, List.Elements.All-head, List.Elements.All-tail, List.Elements.Contains-append_left, List.Elements.Contains-push, List.Elements.Contains-push_cases, List.Elements.filter_more, Simd.get_or-replicate}
+use Rattle.msg_order.specs.{Graph.path, Prelude.Graph, Prelude.IsAcyclic, Prelude.IsLowestOnCycle, Prelude.NameSystemsBelow, Prelude.Rule, Prelude.SystemSet, Prelude.TellsConflicts, Prelude.edges_of, Prelude.has_joined, Prelude.rules_among, Prelude.settle, inner.Paths.AreInConflict, inner.Paths.ArePaths, inner.Paths.AreStarts, inner.Paths.comes_before, inner.Paths.conflict_among, inner.Paths.set_at, inner.SystemSet.has, inner.SystemSet.meets, inner.SystemSet.no_set}
+use Rattle.msg_world.specs.{declared.access.Access.Access, declared.limits.TheConstants.MAX_SYSTEMS}
+use Rattle.msg_order.proofs.{Elements.Contains-cases, Elements.Contains-list_any, Elements.Contains-range, Elements.Contains-tail, Elements.list_any-Contains, Elements.range-Contains, PathTest.no_Path, PathTest.path_trans, PathTest.same_paths, PathTest.same_test, PathTest.to_Path, SettledPairs.grown_paths, SettledPairs.pairs_until, SettledPairs.pairs_until-more, SettledPairs.reaches, SettledPairs.settle_append, SettledPairs.settle_row, SystemSets.has-no_set, SystemSets.meets-found, SystemSets.meets-true}
 
 -- past the last set there is none
 pub set_past : (before : List SystemSet) (j : ℕ) → length before ≤ j → set_at before j ≡ no_set
@@ -39,8 +38,7 @@ reached_in before to reached within is k e =
 -- if a set has none of the starts, no path leads on from it
 pub leads_nowhere : (before : List SystemSet) (starts to : SystemSet) → AreStarts before starts
     → meets to starts ≡ false → (k : ℕ) → meets (set_at before k) to ≡ false
-leads_nowhere before starts to are apart k =
-    false_from_ne_true (meets (set_at before k) to) (λ e.
+leads_nowhere before starts to are apart k = false_from_ne_true (meets (set_at before k) to) (λ e.
     let m = meets-true (set_at before k) to e in
     grind (arith, false≢true, are m.0 k m.1.1.0, meets-found to starts m.0 m.1.0 m.1.1.1))
 
@@ -94,15 +92,11 @@ pub gains_none : (P : ℕ → Type 0) {old : ℕ → Bool} (j : ℕ) → ((k : �
     → (k : ℕ) → IsTrue (old k) ↔ ((k < j + 1) × P k)
 gains_none P j told fails k = grind (arith, cases_eq, told k)
 
--- what `later_conflicts` says
-abbrev pub TellsLater : (ℕ → ℕ → Bool) → SystemSet → ℕ → SystemSet → Type 0
-TellsLater conflict before i later = (j : ℕ) → IsTrue (has later j)
-    ↔ ((i < j) × (IsTrue (conflict i j) × IsFalse (has before j)))
-
--- the pairs of system i with the later ones
+-- the pairs of system i with the later ones, of which the set `later` has those in conflict, as `later_conflicts` says
 pub row_settles : (conflict : ℕ → ℕ → Bool) (g : Graph) (n i : ℕ) (before new : List SystemSet) (later : SystemSet)
     → n ≤ MAX_SYSTEMS → i < n → ((j : ℕ) → IsTrue (conflict i j) → j < n)
-    → TellsLater conflict (set_at before i) i later → AddsEdges before i later new
+    → ((j : ℕ) → IsTrue (has later j) ↔ ((i < j) × (IsTrue (conflict i j) × IsFalse (has (set_at before i) j))))
+    → AddsEdges before i later new
     → ArePaths (settle conflict g (pairs_until n i)) before → ArePaths (settle conflict g (pairs_until n (i + 1))) new
 row_settles conflict g n i before new later few lt below tells adds way =
     let h : Graph = settle conflict g (pairs_until n i) in

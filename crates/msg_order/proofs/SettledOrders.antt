@@ -1,10 +1,9 @@
 -- The settled order: where it leads, whom it orders, and that any test of conflicts makes the same.
-use Rattle.std.proofs.Common.{◌≡◌, ℕ, ◌<◌, Bool, false, ◌&&◌, List, length, ap, ◌∙◌, ◌⊎◌, inl, inr, ◌↔◌, IsTrue, arith}
-use Rattle.std.proofs.lemmas.{Bool.Decides.eqb_tells, Bool.cases_Bool, Bool.cases_order, Bool.and_parts, Bool.and_from}
+use Rattle.std.proofs.Common.{Bool, IsTrue, List, ap, arith, false, inl, inr, length, ℕ, ◌&&◌, ◌<◌, ◌↔◌, ◌∙◌, ◌≡◌, ◌⊎◌}
+use Rattle.std.proofs.lemmas.{Bool.and_from, Bool.and_parts, Bool.cases_Bool, Bool.cases_order, Bool.Decides.eqb_tells}
 use Rattle.msg_world.specs.{Prelude.Conflict, declared.access.Access.Access}
 use Rattle.msg_world.proofs.{Bits.share_bit-and, Conflicts.collides, Conflicts.conflicts_lem}
-use Rattle.msg_order.specs.Prelude.{ConflictingSystemsAreOrdered, FewerSystemsMakeNoCycle, Graph, IsAcyclic, IsAmong, IsSettledOrder, Path, Rule, TellsConflicts, access_of, edges_of, has_joined, pairs, path, rules_among, settle, settled}
-use Rattle.msg_order.specs.inner.Paths.{conflict_among}
+use Rattle.msg_order.specs.{Prelude.ConflictingSystemsAreOrdered, Prelude.FewerSystemsMakeNoCycle, Prelude.Graph, Prelude.IsAcyclic, Prelude.IsAmong, Prelude.IsSettledOrder, Prelude.Path, Prelude.Rule, Prelude.TellsConflicts, Prelude.access_of, Prelude.edges_of, Prelude.has_joined, Prelude.pairs, Prelude.path, Prelude.rules_among, Prelude.settle, Prelude.settled, inner.Paths.conflict_among}
 use Rattle.msg_order.proofs.{Chains.path_grows, Elements.Contains-cases, Elements.Contains-filter, Elements.filter-Contains, PathTest.no_Path, PathTest.no_path, PathTest.path_trans, PathTest.same_test, PathTest.to_Path, SetPaths.joined_in, SetPaths.tells_among, SettledPairs.Contains-pairs, SettledPairs.pairs-Contains, SettledPairs.settle_covers, SettledPairs.settle_keeps}
 
 module _ (rules : List Rule) (joined : List Bool) (conflict : ℕ → ℕ → Bool) where
@@ -19,8 +18,7 @@ module _ (rules : List Rule) (joined : List Bool) (conflict : ℕ → ℕ → Bo
   pub settled_no_cycle : IsAcyclic (rules_among joined rules) → IsAcyclic (settled conflict rules joined)
   settled_no_cycle free i =
       no_Path _ i i (settle_keeps (conflict_among joined conflict) (λ k. (s : ℕ) → path k s s ≡ false)
-      (pairs (length joined)) (rules_among joined rules)
-      (λ p k m test back free s.
+      (pairs (length joined)) (rules_among joined rules) (λ p k m test back free s.
       let rises = pairs-Contains (length joined) p.0 p.1 m in
       grind (arith, cases_Bool, eqb_tells, free, back, path_trans k, rises))
       (λ k. no_path _ k k (free k)) i)

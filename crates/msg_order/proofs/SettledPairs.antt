@@ -1,9 +1,9 @@
 -- Pairs taken in turn: what they add, keep and reach.
-use Rattle.std.proofs.Common.{◌≡◌, ◌≢◌, ℕ, ◌+◌, ◌-◌, ◌<◌, ◌⊎◌, inl, inr, Bool, true, false, not, cond, ◌&&◌, ◌||◌, List, [], ◌∷◌, ◌++◌, map, refl, ap, sym, ◌∙◌, arith, ◌==◌, Contains, flat_map, IsTrue}
+use Rattle.std.proofs.Common.{Bool, Contains, IsTrue, List, [], ap, arith, cond, false, flat_map, inl, inr, map, not, refl, sym, true, ℕ, ◌&&◌, ◌++◌, ◌+◌, ◌-◌, ◌<◌, ◌==◌, ◌||◌, ◌∙◌, ◌∷◌, ◌≡◌, ◌≢◌, ◌⊎◌}
 use Rattle.std.specs.List.{list_any, range_with_len}
-use Rattle.std.proofs.lemmas.{Bool.Decides.eqb_tells, Bool.cases_Bool, Bool.and_parts, Grind.flat_map-append, List.append-nil}
-use Rattle.msg_order.specs.{Prelude.Graph, Prelude.pairs, Prelude.settle, Graph.path}
-use Rattle.msg_order.proofs.{Elements.Contains-head, Elements.Contains-tail, Elements.Contains-cases, Elements.not_in_none, Elements.range_more, Elements.flat_map-Contains, Elements.Contains-flat_map, Elements.map-Contains, Elements.Contains-map, Elements.range-Contains, Elements.Contains-range}
+use Rattle.std.proofs.lemmas.{Bool.and_parts, Bool.cases_Bool, Bool.Decides.eqb_tells, Grind.flat_map-append, List.append-nil}
+use Rattle.msg_order.specs.{Graph.path, Prelude.Graph, Prelude.pairs, Prelude.settle}
+use Rattle.msg_order.proofs.Elements.{Contains-cases, Contains-flat_map, Contains-head, Contains-map, Contains-range, Contains-tail, flat_map-Contains, map-Contains, not_in_none, range-Contains, range_more}
 
 module _ (test : ℕ → ℕ → Bool) where
   -- some pairs after others
@@ -26,17 +26,13 @@ module _ (test : ℕ → ℕ → Bool) where
         | inr e ↦ rw e (settle_keeps P ps g later first)
       ]
 
-  -- a path stays
-  settle_grows : (ps g : Graph) (i j : ℕ) → path g i j ≡ true → path (settle test g ps) i j ≡ true
-  settle_grows ps g i j = settle_keeps (λ k. path k i j ≡ true) ps g (λ p k m t f h. grind arith)
-
   -- Between each of the pairs that are in conflict there is a path one way or the other.
   pub settle_covers : (ps g : Graph) (i j : ℕ) → Contains ps (i, j) → IsTrue (test i j)
       → (path (settle test g ps) i j ≡ true) ⊎ (path (settle test g ps) j i ≡ true)
   settle_covers [] g i j m c = absurd (not_in_none (i, j) m)
   settle_covers (p ∷ ps) g i j m c =
       let next : Graph = cond (test p.0 p.1 && not (path g p.1 p.0)) (p ∷ g) g in
-      let stays = settle_grows ps next in
+      let stays = λ (a b : ℕ). settle_keeps (λ k. path k a b ≡ true) ps next (λ p k m t f h. grind arith) in
       grind (arith, Contains-cases p ps (i, j) m, cases_Bool (path g j i), eqb_tells, stays i j, stays j i, settle_covers ps next i j)
 
 -- All pairs of numbers below n, up to those of i.
@@ -91,12 +87,9 @@ grown_paths g i test (j ∷ js) f x k = elim (cases_Bool (test j)) [
       grind (arith, e, grown_paths h i test js still_free x k, same, eqb_tells, f j)
 ]
 
--- a test of the later systems that gain an edge from i, whichever of them did before
-abbrev pub TellsRow : (ℕ → ℕ → Bool) → Graph → ℕ → (ℕ → Bool) → Type 0
-TellsRow conflict g i test = (k : ℕ) → i < k → test k ≡ (conflict i k && not (path g k i))
-
+-- by a test of the later systems that gain an edge from i, whichever of them did before
 pub settle_row : (conflict : ℕ → ℕ → Bool) (g : Graph) (i : ℕ) (test : ℕ → Bool) (js : List ℕ)
-    → ((j : ℕ) → Contains js j → i < j) → TellsRow conflict g i test
+    → ((j : ℕ) → Contains js j → i < j) → ((k : ℕ) → i < k → test k ≡ (conflict i k && not (path g k i)))
     → settle conflict g (map (λ k. (i, k)) js) ≡ grown i test js g
 settle_row conflict g i test [] up h = refl
 settle_row conflict g i test (j ∷ js) up h =

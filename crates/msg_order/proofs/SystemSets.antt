@@ -1,11 +1,12 @@
 -- Sets of systems as words of bits.
-use Rattle.std.proofs.Common.{◌≡◌, ℕ, ◌+◌, ◌*◌, ◌/◌, ◌^◌, ◌%◌, ◌<◌, ◌≤◌, Bool, true, false, not, ◌&&◌, ◌||◌, List, get_or, length, refl, arith, w64, get_or-set_same, get_or-set_other, slice_set, ◌==◌, bit_and, bit_or, ◌≢◌}
-use Rattle.std.specs.{Int.bit_not, Int.trailing_zeros, List.list_any, List.range_with_len}
-use Rattle.std.proofs.lemmas.{Bool.cases_eq, Bool.and_parts, Bool.and_from, Bool.eq-eqb, Bool.ne_eqb, Bool.false_from_ne_true, List.get_or_past}
+use Rattle.std.proofs.Common.{Bool, List, arith, bit_and, bit_or, false, get_or, get_or-set_other, get_or-set_same, length, not, refl, slice_set, true, w64, ℕ, ◌%◌, ◌&&◌, ◌*◌, ◌+◌, ◌/◌, ◌<◌, ◌==◌, ◌^◌, ◌||◌, ◌≡◌, ◌≢◌, ◌≤◌}
+use Rattle.std.specs.Int.{bit_not, trailing_zeros}
+use Rattle.std.specs.List.{list_any, range_with_len}
+use Rattle.std.proofs.lemmas.{Bool.and_from, Bool.and_parts, Bool.cases_eq, Bool.eq-eqb, Bool.false_from_ne_true, Bool.ne_eqb, List.get_or_past}
 use Rattle.msg_world.specs.{Prelude.has_bit, declared.limits.TheConstants.MAX_SYSTEMS}
-use Rattle.msg_world.proofs.Bits.{has_bit-zero, has_bit-set, has_bit-unset, has_bit-and, has_bit-or, next_is_below, next_is_set, none_before_next, none_from}
+use Rattle.msg_world.proofs.Bits.{has_bit-and, has_bit-or, has_bit-set, has_bit-unset, has_bit-zero, next_is_below, next_is_set, none_before_next, none_from}
 use Rattle.msg_order.specs.{Prelude.SystemSet, declared.system_set.TheConstants.WORDS, inner.SystemSet.has, inner.SystemSet.meets, inner.SystemSet.no_set}
-use Rattle.msg_order.proofs.Elements.{list_any-Contains, Contains-list_any, Contains-range, range-Contains}
+use Rattle.msg_order.proofs.Elements.{Contains-list_any, Contains-range, list_any-Contains, range-Contains}
 
 -- a test holds of a number below n just if it holds of one in the range of n numbers from 0
 pub some_below : (test : ℕ → Bool) (n k : ℕ) → k < n → test k ≡ true → list_any test (range_with_len 0 n) ≡ true
@@ -33,8 +34,7 @@ words-set words new j k f l h same is =
 -- `words[k / 64] |= 1 << (k % 64)`
 pub words-insert : (words : List ℕ) (j k : ℕ) → length words ≡ WORDS → k < MAX_SYSTEMS →
     has_bit (get_or (slice_set words (k / 64) (bit_or (get_or words (k / 64) 0) (1 * 2 ^ (k % 64) % 2 ^ 64)))
-    (j / 64) 0) (j % 64)
-    ≡ ((j == k) || has_bit (get_or words (j / 64) 0) (j % 64))
+    (j / 64) 0) (j % 64) ≡ ((j == k) || has_bit (get_or words (j / 64) 0) (j % 64))
 words-insert words j k l h = words-set words _ j k (λ a b. a || b) l h (λ b. refl)
     (has_bit-set (get_or words (k / 64) 0) (k % 64) (j % 64) (omega arith))
 
@@ -43,8 +43,7 @@ pub words-remove : (words : List ℕ) (j k : ℕ) → length words ≡ WORDS →
     has_bit (get_or (slice_set words (k / 64)
     (bit_and (get_or words (k / 64) 0) (bit_not w64 (1 * 2 ^ (k % 64) % 2 ^ 64)))) (j / 64) 0) (j % 64)
     ≡ (not (j == k) && has_bit (get_or words (j / 64) 0) (j % 64))
-words-remove words j k l h =
-    words-set words _ j k (λ a b. not a && b) l h (λ b. refl)
+words-remove words j k l h = words-set words _ j k (λ a b. not a && b) l h (λ b. refl)
     (has_bit-unset (get_or words (k / 64) 0) (k % 64) (j % 64) (omega arith) (omega arith))
 
 -- nothing is in a set of no words

@@ -1,10 +1,10 @@
 -- The batches one after the other are the turn order. It is lawful, and no two systems of a batch conflict.
-use Rattle.std.proofs.Common.{◌≡◌, ◌≢◌, ℕ, suc, ◌-◌, ◌<◌, Bool, List, [], ◌∷◌, ◌++◌, length, get_or, sym, ◌∙◌, arith, length-append, Contains, All, AllPairs}
+use Rattle.std.proofs.Common.{All, AllPairs, Bool, Contains, List, [], arith, get_or, length, length-append, suc, sym, ℕ, ◌++◌, ◌-◌, ◌<◌, ◌∙◌, ◌∷◌, ◌≡◌, ◌≢◌}
 use Rattle.std.specs.List.{concat}
-use Rattle.std.proofs.lemmas.{Bool.cases_lt, Bool.cases_order, Grind.get_or_default_zero, List.get_or_append_left, List.get_or-append_right, List.Elements.All-head, List.Elements.All-tail, List.Elements.All-from_get_or, List.Elements.Contains-get_or, List.Kept.AllPairs-from_increasing, Option.slice_get-get_or, Option.slice_get_within, Option.get_or_from_slice_get}
+use Rattle.std.proofs.lemmas.{Bool.cases_lt, Bool.cases_order, Grind.get_or_default_zero, List.get_or-append_right, List.get_or_append_left, List.Elements.All-from_get_or, List.Elements.All-head, List.Elements.All-tail, List.Elements.Contains-get_or, List.Kept.AllPairs-from_increasing, Option.get_or_from_slice_get, Option.slice_get-get_or, Option.slice_get_within}
 use Rattle.msg_world.specs.declared.access.Access.{Access}
 use Rattle.msg_order.specs.Prelude.{AreBatches, Graph, IsLawfulOrder, IsSettledOrder, IsTurnOrder, NoneConflict, Path, Rule, RunsBefore, StandsBefore, TurnOrderIsLawful, batch_at}
-use Rattle.msg_order.proofs.{Elements.Contains-concat, Elements.concat-Contains, Chains.number_once, Chains.number_rises, Chains.edge_is_path, SettledOrders.conflicts_ordered}
+use Rattle.msg_order.proofs.{Chains.edge_is_path, Chains.number_once, Chains.number_rises, Elements.Contains-concat, Elements.concat-Contains, SettledOrders.conflicts_ordered}
 
 pub stands : (order : List ℕ) (i j a b : ℕ) → a < b → b < length order → get_or order a 0 ≡ i → get_or order b 0 ≡ j
     → StandsBefore order i j

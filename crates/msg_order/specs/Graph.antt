@@ -1,5 +1,5 @@
 -- Edges between systems, and the chains that they make.
-use Rattle.std.specs.Prelude.{◌≡◌, ℕ, ◌<◌, ◌≤◌, ◌==◌, ◌&&◌, ◌||◌, Bool, false, List, [], ◌∷◌, ◌++◌, length, Contains, ⊤}
+use Rattle.std.specs.Prelude.{Bool, Contains, List, [], false, length, ℕ, ⊤, ◌&&◌, ◌++◌, ◌<◌, ◌==◌, ◌||◌, ◌∷◌, ◌≡◌, ◌≤◌}
 
 -- edges, each a pair of the earlier system and the later one
 abbrev pub Graph : Type 0

@@ -1,7 +1,7 @@
 -- Laws of the settled order. Each is the contract of a function of the same name in src/laws.rt.
-use Rattle.std.specs.Prelude.{◌≡◌, ◌≢◌, ◌<◌, ℕ, Bool, List, IsTrue, ◌⊎◌, ◌↔◌}
+use Rattle.std.specs.Prelude.{Bool, IsTrue, List, ℕ, ◌<◌, ◌↔◌, ◌≡◌, ◌≢◌, ◌⊎◌}
 use Rattle.msg_world.specs.{Prelude.Conflict, declared.access.Access.Access}
-use Rattle.msg_order.specs.{declared.rule.Rule.Rule, Graph.Graph, Graph.Path, Graph.IsAcyclic, Graph.IsBatchNumber, Settled.has_joined, Order.access_of, Settled.rules_among, Order.IsAmong, Order.IsSettledOrder, Order.TellsConflicts, Order.AreBatches, Order.IsTurnOrder, Order.StandsBefore, Order.IsLawfulOrder, Settled.batches, Settled.settled, Settled.turns}
+use Rattle.msg_order.specs.{Graph.Graph, Graph.IsAcyclic, Graph.IsBatchNumber, Graph.Path, Order.AreBatches, Order.IsAmong, Order.IsLawfulOrder, Order.IsSettledOrder, Order.IsTurnOrder, Order.StandsBefore, Order.TellsConflicts, Order.access_of, Settled.batches, Settled.has_joined, Settled.rules_among, Settled.settled, Settled.turns, declared.rule.Rule.Rule}
 
 -- Rules that make no cycle among some systems make none among fewer of them.
 abbrev pub FewerSystemsMakeNoCycle : Type 0
@@ -9,11 +9,11 @@ FewerSystemsMakeNoCycle = (rules : List Rule) (joined fewer : List Bool)
     → ((i : ℕ) → IsTrue (has_joined fewer i) → IsTrue (has_joined joined i))
     → IsAcyclic (rules_among joined rules) → IsAcyclic (rules_among fewer rules)
 
--- If the rules make no cycle, the settled order has none.
+-- The settled order leads among those that have joined. If the rules make no cycle, it has none.
 abbrev pub SettlingMakesNoCycle : Type 0
 SettlingMakesNoCycle = (accesses : List Access) (rules : List Rule) (joined : List Bool)
     → (order : Graph) → IsSettledOrder accesses rules joined order
-    → IsAcyclic (rules_among joined rules) → IsAcyclic order
+    → IsAmong joined order × (IsAcyclic (rules_among joined rules) → IsAcyclic order)
 
 -- The settled order leads from one of two joined systems in conflict to the other.
 abbrev pub ConflictingSystemsAreOrdered : Type 0
@@ -32,8 +32,7 @@ SettledIsTheOrder = (accesses : List Access) (rules : List Rule) (joined : List 
 -- If no path leads back, the batches are by batch number, and the turns go in that order.
 abbrev pub BatchesAreByNumber : Type 0
 BatchesAreByNumber = (order : Graph) (joined : List Bool) → IsAmong joined order → IsAcyclic order
-    → AreBatches order joined (batches order joined)
-    × IsTurnOrder order joined (turns order joined)
+    → AreBatches order joined (batches order joined) × IsTurnOrder order joined (turns order joined)
 
 -- A turn order keeps the order: it is a lawful one.
 abbrev pub TurnOrderIsLawful : Type 0

@@ -1,8 +1,8 @@
 -- The settled order of systems, its batches and its lawful orders.
-use Rattle.std.specs.Prelude.{◌≡◌, ◌≢◌, ℕ, ◌<◌, Bool, List, [], length, All, AllPairs, Contains, Some, slice_get, slice_index_or, IsTrue, ◌⊎◌, ◌↔◌}
-use Rattle.std.specs.{List.Sorted.IsStrictlyIncreasing}
+use Rattle.std.specs.Prelude.{All, AllPairs, Bool, Contains, IsTrue, List, Some, [], length, slice_get, slice_index_or, ℕ, ◌<◌, ◌↔◌, ◌≡◌, ◌≢◌, ◌⊎◌}
+use Rattle.std.specs.List.Sorted.{IsStrictlyIncreasing}
 use Rattle.msg_world.specs.{Prelude.Conflict, Prelude.no_access, declared.access.Access.Access}
-use Rattle.msg_order.specs.{declared.rule.Rule.Rule, Graph.Graph, Graph.IsEdge, Graph.IsBatchNumber, Settled.has_joined, Settled.settled}
+use Rattle.msg_order.specs.{Graph.Graph, Graph.IsBatchNumber, Graph.IsEdge, Settled.has_joined, Settled.settled, declared.rule.Rule.Rule}
 
 -- the access of system i, which uses nothing if there is no such system
 abbrev pub access_of : List Access → ℕ → Access

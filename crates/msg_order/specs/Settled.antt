@@ -1,7 +1,7 @@
 -- The settled order, its batches and its turns, as functions.
-use Rattle.std.specs.Prelude.{ℕ, zero, suc, ◌+◌, ◌-◌, Bool, false, not, ◌&&◌, List, [], ◌∷◌, length, map, filter, flat_map, slice_index_or, if◌then◌else◌}
+use Rattle.std.specs.Prelude.{Bool, List, [], false, filter, flat_map, if◌then◌else◌, length, map, not, slice_index_or, suc, zero, ℕ, ◌&&◌, ◌+◌, ◌-◌, ◌∷◌}
 use Rattle.std.specs.List.{concat, list_any, range_with_len}
-use Rattle.msg_order.specs.{declared.rule.Rule.Rule, Graph.Graph, Graph.path}
+use Rattle.msg_order.specs.{Graph.Graph, Graph.path, declared.rule.Rule.Rule}
 
 -- whether system i has joined
 abbrev pub has_joined : List Bool → ℕ → Bool

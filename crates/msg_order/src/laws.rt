@@ -8,7 +8,7 @@ pub fn fewer_systems_make_no_cycle()
     ensures law { FewerSystemsMakeNoCycle }
 {}
 
-/// If the rules make no cycle, the settled order has none.
+/// The settled order leads among those that have joined. If the rules make no cycle, it has none.
 pub fn settling_makes_no_cycle()
     ensures law { SettlingMakesNoCycle }
 {}

@@ -133,9 +133,8 @@ impl<A: Allocator + Copy> Plan<A> {
 }
 
 impl<A: Allocator> Plan<A> {
-    ghost use Rattle.std.specs.Prelude.{List, Bool, IsTrue, ◌↔◌};
-    ghost use Rattle.msg_world.specs.declared.access.Access.{Access as AccessView};
-    ghost use Rattle.msg_order.specs.{declared.rule.Rule.Rule as RuleView, Graph.IsEdge, Order.IsLawfulOrder, Plan.IsPlanOf};
+    ghost use Rattle.std.specs.Prelude.{ℕ, List, Bool, IsTrue, ◌↔◌};
+    ghost use Rattle.msg_order.specs.{declared.rule.Rule.Rule as RuleView, Graph.IsEdge, Order.IsLawfulOrder, Plan.plan_of, Settled.settled};
 
     /// The joined systems batch by batch, each batch by order of addition. All systems of a batch
     /// have to end before the next batch begins.
@@ -163,10 +162,10 @@ impl<A: Allocator> Plan<A> {
         ensures keeps_what_precedes { IsTrue result
             ↔ IsLawfulOrder self.now.precedes self.now.joined order.now }
 
-        // If this is the plan of some systems, the order is lawful for their settled order.
-        ensures lawful { (accesses : List AccessView) (rules : List RuleView) (joined : List Bool)
-            (plan : IsPlanOf accesses rules joined self.now)
-            → IsTrue result ↔ IsLawfulOrder plan.order joined order.now }
+        // If this is the plan of a settled order, the order is lawful for that.
+        ensures lawful { (rules : List RuleView) (joined : List Bool) (conflict : ℕ → ℕ → Bool)
+            → self.now ≡ plan_of (settled conflict rules joined) joined
+            → IsTrue result ↔ IsLawfulOrder (settled conflict rules joined) joined order.now }
     {
         let mut left = self.joined;
         for &system in order {

@@ -4,7 +4,7 @@ use Rattle.msg_frames.specs.Prelude.{SameSystems, State, are_in_conflict, before
 use Rattle.msg_frames.specs.Frames.{settled_order, turn_order}
 use Rattle.msg_frames.specs.declared.frame.Frame.{Frame}
 use Rattle.msg_order.specs.Prelude.{settled}
-use Rattle.msg_frames.proofs.{FramesInOrder.in_that_order, SystemsStay.frames_keep, SystemsStay.same_accesses}
+use Rattle.msg_frames.proofs.{FramesInOrder.in_that_order, SystemsStay.frames_keep, SystemsStay.joined_stay}
 use Rattle.msg_scenario_data.specs.Prelude.{state_of}
 use Rattle.msg_scenario_data.specs.declared.scenario.Scenario.{Scenario}
 use Rattle.msg_plans.specs.Order.{batches_in, state_in, turns_in}
@@ -19,7 +19,7 @@ pub same_order : (s u : State i64_values) → SameSystems s u → u.frames ≡ s
     → (settled_order u ≡ settled_order s) × (join_flags u ≡ join_flags s)
 unfolding settled_order
 same_order s u same frames =
-    let flags = (same_accesses s u same).1 frames in
+    let flags = joined_stay s u same frames in
     let conflicts = same_conflicts s u same in (λ k. settled (conflicts k) (same.rules k) (flags k), flags)
 
 same_trans : (s u v : State i64_values) → SameSystems s u → SameSystems u v → SameSystems s v

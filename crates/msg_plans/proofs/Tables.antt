@@ -6,15 +6,15 @@ use Rattle.std.proofs.lemmas.List.{map-id}
 use Rattle.msg_world.specs.{declared.part.Part.Part, declared.part.Part.TheVariants.OfResource, declared.part.Part.TheVariants.OfType, declared.part.Part.TheVariants.Registry, Prelude.HasPart, Prelude.no_access, Prelude.i64_values}
 use Rattle.msg_world.specs.declared.access.Access.{Access}
 use Rattle.msg_system.specs.Prelude.{IsAccessOf, Meaning, Needs, needs_any, new_asked, new_system, with_conditions}
-use Rattle.msg_order.specs.Prelude.{IsAcyclic, IsPlanOf, NameSystemsBelow, access_of, edges_of, rules_among}
+use Rattle.msg_order.specs.Prelude.{IsAcyclic, IsPlanOf, NameSystemsBelow, access_of, edges_of, plan_of, rules_among}
 use Rattle.msg_order.specs.declared.rule.Rule.{Rule}
-use Rattle.msg_order.proofs.{PathTest.from_Path, PathTest.to_Path, SetPaths.all_rules, SettledOrders.fewer_make_none}
+use Rattle.msg_order.proofs.{PlanViews.plan_paths, SetPaths.all_rules, SettledOrders.fewer_make_none}
 use Rattle.msg_frames.specs.Prelude.{AreAccessesOf, SameSystems, State, UsesParts, before_joining, has_begun, join_flags, member_needs, default_system, default_place, waiting_member}
-use Rattle.msg_frames.specs.TurnLaws.{SameMember}
+use Rattle.msg_frames.specs.Prelude.{SameMember}
 use Rattle.msg_frames.specs.Frames.{Member}
 use Rattle.msg_frames.specs.declared.place.Place.{Place}
 use Rattle.msg_frames.specs.Frames.{settled_order}
-use Rattle.msg_frames.proofs.{Functions.plan_order, SystemsStay.joining_on_keeps}
+use Rattle.msg_frames.proofs.{Functions.order_among, Functions.plan_is, SystemsStay.joining_on_keeps}
 use Rattle.msg_scenario_data.specs.Prelude.{IsRunnable, first_world, meanings_of, places_of, state_of}
 use Rattle.msg_scenario_data.specs.{declared.scenario.Scenario.Scenario, declared.scenario.SystemSpec.SystemSpec}
 use Rattle.msg_world.specs.declared.limits.TheConstants.{MAX_RESOURCES, MAX_TYPES}
@@ -160,12 +160,11 @@ module _ (s : Scenario) where
     is_table p frame are plan turns =
         let t : State i64_values = state_in s k in
         let bs : List Access = p.accesses.items in
-        let settled : plan.order ≡ settled_order t =
-        plan_order t bs plan.order few_parts (accesses_are bs are) (rw flags at plan.settled) in
-        let same : p.plan.batches ≡ batches_in s k = rw (settled, flags) at plan.computed in
+        let is : p.plan ≡ plan_of (settled_order t) (join_flags t) =
+        plan_is t bs p.plan few_parts (accesses_are bs are) (rw flags at plan) in
         rw frame (record {
           accesses = access_is bs are;
-          paths = λ i j. grind (arith, plan.paths i j, settled, from_Path (settled_order t) i j, to_Path (settled_order t) i j);
-          batches = same;
-          turns = turns ∙ ap concat same;
+          paths = rw is (plan_paths (settled_order t) (join_flags t) (order_among t));
+          batches = rw is refl;
+          turns = rw (turns, is) refl;
         })

@@ -1,9 +1,9 @@
 -- Paths as the sets of the code keep them: before each system those that precede it. No public
 -- contract cites these; that they are the paths of the definitions is proved.
-use Rattle.std.specs.Prelude.{◌≡◌, ℕ, ◌≤◌, ◌<◌, Bool, true, not, ◌&&◌, List, map, length, filter, flat_map, slice_index_or, IsTrue}
+use Rattle.std.specs.Prelude.{Bool, IsTrue, List, filter, length, map, not, slice_index_or, true, ℕ, ◌&&◌, ◌<◌, ◌≡◌, ◌≤◌}
 use Rattle.std.specs.List.{range_with_len}
-use Rattle.msg_world.specs.{Prelude.Conflict, declared.limits.TheConstants.MAX_SYSTEMS, declared.access.Access.Access}
-use Rattle.msg_order.specs.{declared.system_set.SystemSet.SystemSet, inner.SystemSet.has, inner.SystemSet.meets, inner.SystemSet.no_set, Graph.Graph, Graph.path, Settled.has_joined, Settled.pairs, Settled.settle, Order.TellsConflicts, Order.access_of, Plan.PlanView}
+use Rattle.msg_world.specs.{Prelude.Conflict, declared.access.Access.Access, declared.limits.TheConstants.MAX_SYSTEMS}
+use Rattle.msg_order.specs.{Graph.Graph, Graph.path, Order.TellsConflicts, Order.access_of, Plan.PlanView, Plan.square, Settled.has_joined, Settled.pairs, Settled.settle, declared.system_set.SystemSet.SystemSet, inner.SystemSet.has, inner.SystemSet.meets, inner.SystemSet.no_set}
 
 -- the set of those before system j
 abbrev pub set_at : List SystemSet → ℕ → SystemSet
@@ -51,10 +51,6 @@ pub record AreKept (before : List SystemSet) (joined : SystemSet) : Type 0 where
   pub within : (i : ℕ) → has joined i ≡ true → i < length before
   pub among : (i j : ℕ) → comes_before before i j ≡ true
       → (has joined i ≡ true) × (has joined j ≡ true)
-
--- all pairs of numbers below n
-abbrev pub square : ℕ → List (ℕ × ℕ)
-square n = flat_map (λ i. map (λ j. (i, j)) (range_with_len 0 n)) (range_with_len 0 n)
 
 -- what callers see of a plan with these sets and batches
 abbrev pub view_of : List SystemSet → SystemSet → List (List ℕ) → PlanView

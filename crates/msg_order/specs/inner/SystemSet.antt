@@ -1,5 +1,5 @@
 -- Sets of systems, as the private functions' contracts see them. No public contract cites these.
-use Rattle.std.specs.Prelude.{ℕ, ◌/◌, ◌%◌, Bool, ◌&&◌, [], slice_index}
+use Rattle.std.specs.Prelude.{Bool, [], slice_index, ℕ, ◌%◌, ◌&&◌, ◌/◌}
 use Rattle.std.specs.List.{list_any, range_with_len}
 use Rattle.msg_world.specs.{Prelude.has_bit, declared.limits.TheConstants.MAX_SYSTEMS}
 use Rattle.msg_order.specs.declared.system_set.SystemSet.{SystemSet}

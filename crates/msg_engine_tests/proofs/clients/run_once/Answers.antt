@@ -1,6 +1,7 @@
 use Rattle.std.proofs.Common.{◌≡◌, ℕ, ◌<◌, List, rules, sym, ◌∙◌, IsTrue, ℤ}
-use Rattle.msg_frames.specs.{declared.frame.Frame.Frame, declared.log.Log.Log, Fates.Fate.given}
-use Rattle.msg_frames.specs.Prelude.{EachMeetsOneFate, IsCompleteRun, LogsTellEntries, Meets, State, has_begun, log_entries, run}
+use Rattle.msg_frames.specs.{declared.frame.Frame.Frame, declared.log.Log.Log}
+use Rattle.msg_frames.specs.Prelude.{IsCompleteRun, State, has_begun, run}
+use Rattle.msg_laws.specs.Prelude.{EachMeetsOneFate, LogsTellEntries, Meets, given, log_entries}
 use Rattle.msg_world.specs.Prelude.{i64_values}
 use Rattle.msg_engine_tests.proofs.clients.run_once.Goals as goal
 

@@ -2,7 +2,8 @@ use Rattle.std.proofs.Common.{◌≡◌, ℤ, [], ◌∷◌, All, List, None, ar
 use Rattle.msg_world.specs.Prelude.{i64_values}
 use Rattle.msg_system.specs.{declared.condition.Probe.TheVariants.OnMessage, declared.op.Op.TheVariants.Read, declared.program.Program.Program, declared.start.Start.TheVariants.Zero}
 use Rattle.msg_frames.specs.declared.frame.Frame.{Frame}
-use Rattle.msg_frames.specs.Prelude.{IsSoundState, IsWokenBy, LogsTellEntries, NoWakeUpIsLost, NothingDrained, WhoseProgramReadsAllWhenWoken, log_entries, run}
+use Rattle.msg_frames.specs.Prelude.{IsSoundState, run}
+use Rattle.msg_laws.specs.Prelude.{IsWokenBy, LogsTellEntries, NoWakeUpIsLost, NothingDrained, WhoseProgramReadsAllWhenWoken, log_entries}
 use Rattle.msg_engine_tests.specs.Pairs.{pair_state, waking_state}
 use Rattle.msg_engine_tests.proofs.pairs.run_waking.Goals as goal
 

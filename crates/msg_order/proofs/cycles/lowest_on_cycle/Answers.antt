@@ -1,4 +1,4 @@
-use Rattle.std.proofs.Common.{ℕ, List, Option, IfNone, MatchOption, arith}
+use Rattle.std.proofs.Common.{IfNone, List, MatchOption, Option, arith, ℕ}
 use Rattle.msg_world.specs.declared.limits.TheConstants.{MAX_SYSTEMS}
 use Rattle.msg_order.specs.{Prelude.Graph, Prelude.IsAcyclic, Prelude.IsLowestOnCycle, Prelude.SystemSet, inner.Paths.ArePaths}
 use Rattle.msg_order.proofs.SetPaths.{all_rules, sets_empty}

@@ -1,7 +1,7 @@
-use Rattle.std.proofs.Common.{◌≡◌, ℕ, ◌+◌, ◌-◌, Bool, not, ◌&&◌, List, ◌++◌, filter, length, map, refl, ap, sym, ◌∙◌, arith}
+use Rattle.std.proofs.Common.{Bool, List, ap, arith, filter, length, map, not, refl, sym, ℕ, ◌&&◌, ◌++◌, ◌+◌, ◌-◌, ◌∙◌, ◌≡◌}
 use Rattle.std.specs.List.{range_with_len}
 use Rattle.std.proofs.lemmas.{Bool.Decides.nat_tests, List.append-nil, List.length-map, List.length_push, List.map-append}
-use Rattle.msg_order.specs.{Prelude.batches_of, Prelude.has_joined, inner.SystemSet.has, inner.SystemSet.meets, inner.Paths.set_at}
+use Rattle.msg_order.specs.{Prelude.batches_of, Prelude.has_joined, inner.Paths.set_at, inner.SystemSet.has, inner.SystemSet.meets}
 use Rattle.msg_order.proofs.{BatchLevels.few_left, BatchLevels.left_falls, BatchLevels.left_of, BatchLevels.level, BatchLevels.levels_done, BatchLevels.sets_stop, Functions.out_next}
 use Rattle.msg_order.proofs.levels.batches_of.Goals as goal
 

@@ -1,4 +1,4 @@
-use Rattle.std.proofs.Common.{◌≡◌, ℕ, ◌+◌, ◌<◌, ◌≤◌, true, length, map}
+use Rattle.std.proofs.Common.{length, map, true, ℕ, ◌+◌, ◌<◌, ◌≡◌, ◌≤◌}
 use Rattle.msg_order.specs.{Prelude.Graph, inner.Paths.ArePaths, inner.SystemSet.has}
 use Rattle.msg_order.proofs.{BatchLevels.left_of, Functions.AreOut}
 use Rattle.msg_order.proofs.levels.batches_of.Given as goal

@@ -1,6 +1,6 @@
-use Rattle.std.proofs.Common.{◌≡◌, ℕ, ◌<◌, ◌≤◌, false, ◌&&◌, filter}
+use Rattle.std.proofs.Common.{false, filter, ℕ, ◌&&◌, ◌<◌, ◌≡◌, ◌≤◌}
 use Rattle.std.specs.List.{range_with_len}
-use Rattle.msg_order.specs.{inner.SystemSet.has, inner.SystemSet.meets, inner.Paths.set_at, inner.Paths.is_ready}
+use Rattle.msg_order.specs.{inner.Paths.is_ready, inner.Paths.set_at, inner.SystemSet.has, inner.SystemSet.meets}
 use Rattle.msg_order.proofs.levels.take_level.Given as goal
 
 abbrev pub invariant-loop-i : goal.invariant-loop-i

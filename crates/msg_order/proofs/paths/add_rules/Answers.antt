@@ -1,4 +1,4 @@
-use Rattle.std.proofs.Common.{ℕ, get_or, take, arith}
+use Rattle.std.proofs.Common.{arith, get_or, take, ℕ}
 use Rattle.msg_order.specs.Prelude.{Graph, Rule, rules_among}
 use Rattle.msg_order.proofs.{SetPaths.adds_edge, SetPaths.path-again, SetPaths.rule_more, paths.add_rules.Goals.then-joined-earlier+then-joined-later+then-not-contains, paths.add_rules.Goals.else-joined-earlier}
 use Rattle.msg_order.proofs.paths.add_rules.Goals as goal

@@ -1,5 +1,5 @@
-use Rattle.std.proofs.Common.{ℕ, ◌<◌, arith, IsFalse}
-use Rattle.msg_order.specs.inner.{Paths.AreInConflict, SystemSet.has}
+use Rattle.std.proofs.Common.{IsFalse, arith, ℕ, ◌<◌}
+use Rattle.msg_order.specs.{inner.Paths.AreInConflict, inner.SystemSet.has}
 use Rattle.msg_order.proofs.{SetPaths.gains_none, SetPaths.gains_one, paths.later_conflicts.Goals.then-are_in_conflict+then-not-contains, paths.later_conflicts.Goals.else-are_in_conflict}
 use Rattle.msg_order.proofs.paths.later_conflicts.Goals as goal
 

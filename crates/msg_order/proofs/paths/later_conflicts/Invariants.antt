@@ -1,5 +1,5 @@
-use Rattle.std.proofs.Common.{ℕ, ◌<◌, IsFalse, IsTrue, ◌↔◌}
-use Rattle.msg_order.specs.inner.{Paths.AreInConflict, SystemSet.has}
+use Rattle.std.proofs.Common.{IsFalse, IsTrue, ℕ, ◌<◌, ◌↔◌}
+use Rattle.msg_order.specs.{inner.Paths.AreInConflict, inner.SystemSet.has}
 use Rattle.msg_order.proofs.paths.later_conflicts.Given as goal
 
 abbrev pub invariant-loop-j : goal.invariant-loop-j

@@ -1,4 +1,4 @@
-use Rattle.std.proofs.Common.{◌≡◌, ℕ, ◌<◌, false}
+use Rattle.std.proofs.Common.{false, ℕ, ◌<◌, ◌≡◌}
 use Rattle.msg_order.specs.inner.Paths.{comes_before}
 use Rattle.msg_order.proofs.paths.lowest_before_itself.Given as goal
 

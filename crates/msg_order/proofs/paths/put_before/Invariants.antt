@@ -1,6 +1,6 @@
-use Rattle.std.proofs.Common.{◌≡◌, ℕ, ◌<◌, ◌≤◌, ◌-◌, ◌||◌, ◌&&◌, true}
+use Rattle.std.proofs.Common.{true, ℕ, ◌&&◌, ◌-◌, ◌<◌, ◌||◌, ◌≡◌, ◌≤◌}
 use Rattle.msg_world.specs.declared.limits.TheConstants.{MAX_SYSTEMS}
-use Rattle.msg_order.specs.{inner.SystemSet.has, inner.Paths.comes_before, inner.Paths.set_at}
+use Rattle.msg_order.specs.{inner.Paths.comes_before, inner.Paths.set_at, inner.SystemSet.has}
 use Rattle.msg_order.proofs.paths.put_before.Given as goal
 
 abbrev pub invariant-reached : goal.invariant-reached

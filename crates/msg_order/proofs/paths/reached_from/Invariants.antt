@@ -1,5 +1,5 @@
-use Rattle.std.proofs.Common.{◌≡◌, ℕ, ◌<◌, ◌≤◌, ◌||◌}
-use Rattle.msg_order.specs.{inner.SystemSet.has, inner.SystemSet.meets, inner.Paths.set_at}
+use Rattle.std.proofs.Common.{ℕ, ◌<◌, ◌||◌, ◌≡◌, ◌≤◌}
+use Rattle.msg_order.specs.{inner.Paths.set_at, inner.SystemSet.has, inner.SystemSet.meets}
 use Rattle.msg_order.proofs.paths.reached_from.Given as goal
 
 abbrev pub invariant-loop-j : goal.invariant-loop-j

@@ -1,4 +1,4 @@
-use Rattle.std.proofs.Common.{ℕ, Bool, length, arith}
+use Rattle.std.proofs.Common.{Bool, arith, length, ℕ}
 use Rattle.msg_order.specs.inner.Paths.{conflict_among}
 use Rattle.msg_order.proofs.SetPaths.{joined_in, row_settles, tells_among}
 use Rattle.msg_order.proofs.paths.settle_pairs.Goals as goal

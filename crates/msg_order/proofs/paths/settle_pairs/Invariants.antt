@@ -1,4 +1,4 @@
-use Rattle.std.proofs.Common.{ℕ, Bool, length}
+use Rattle.std.proofs.Common.{Bool, length, ℕ}
 use Rattle.msg_order.specs.{Prelude.Graph, Prelude.TellsConflicts, Prelude.settle, inner.Paths.ArePaths, inner.Paths.AreStarts, inner.Paths.conflict_among}
 use Rattle.msg_order.proofs.SettledPairs.{pairs_until}
 use Rattle.msg_order.proofs.paths.settle_pairs.Given as goal

@@ -1,5 +1,5 @@
-use Rattle.std.proofs.Common.{◌≡◌, ℕ, ◌<◌, true}
-use Rattle.msg_order.specs.{inner.SystemSet.has, inner.Paths.comes_before}
+use Rattle.std.proofs.Common.{true, ℕ, ◌<◌, ◌≡◌}
+use Rattle.msg_order.specs.{inner.Paths.comes_before, inner.SystemSet.has}
 use Rattle.msg_order.proofs.paths.starts_of.Given as goal
 
 abbrev pub invariant-loop-j : goal.invariant-loop-j

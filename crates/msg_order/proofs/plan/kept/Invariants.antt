@@ -1,4 +1,4 @@
-use Rattle.std.proofs.Common.{◌≡◌, take}
+use Rattle.std.proofs.Common.{take, ◌≡◌}
 use Rattle.msg_order.proofs.plan.kept.Given as goal
 
 abbrev pub invariant-loop-set : goal.invariant-loop-set

@@ -1,4 +1,4 @@
-use Rattle.std.proofs.Common.{◌≡◌, ℕ, ◌<◌, ◌≤◌, false}
+use Rattle.std.proofs.Common.{false, ℕ, ◌<◌, ◌≡◌, ◌≤◌}
 use Rattle.msg_order.specs.{Prelude.has_joined, inner.SystemSet.has}
 use Rattle.msg_order.proofs.plan.set_of.Given as goal
 

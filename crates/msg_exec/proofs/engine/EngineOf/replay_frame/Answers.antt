@@ -76,3 +76,7 @@ pub returns-in_default-replay_one-clause-asked : goal.returns-in_default-replay_
 returns-in_default-replay_one-clause-asked g c refused s stands =
     let core = rw c.in-Some.is at stands.core in
     inl ((c.in-Ok.ensures.lawful s core stands.frames c.args.frame.now).0 c.if-not-is_lawful.false)
+
+pub returns-in_default-accepts_next-clause-asked : goal.returns-in_default-accepts_next-clause-asked
+returns-in_default-accepts_next-clause-asked g c none s stands =
+    inr (c.in_default-accepts_next.ensures.asked s (rw c.in-Some.is at stands.core) stands.frames)

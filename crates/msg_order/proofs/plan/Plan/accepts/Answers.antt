@@ -1,7 +1,7 @@
-use Rattle.std.proofs.Common.{◌≡◌, ℕ, Bool, length, get_or, refl, arith}
-use Rattle.std.proofs.lemmas.{Bool.false≢true, Bool.false_from_ne_true, List.get_or_read}
-use Rattle.msg_order.specs.{inner.SystemSet.has, inner.SystemSet.no_set, inner.Paths.set_at}
-use Rattle.msg_order.proofs.{SystemSets.meets-found, SystemSets.meets-true, PlanViews.seen_edges, PlanViews.seen_joined, PlanViews.lawful_same, AcceptedOrders.goes_on, AcceptedOrders.not_all, AcceptedOrders.taken_all, AcceptedOrders.taken_first, AcceptedOrders.taken_next, plan.Plan.accepts.Goals.then-system-len-via-then-system-len, plan.Plan.accepts.Goals.then-system-len-via-else-system-len+then-not-contains, plan.Plan.accepts.Goals.then-system-len-via-else-system-len+else-not-contains+then-meets}
+use Rattle.std.proofs.Common.{Bool, arith, get_or, length, refl, ℕ, ◌≡◌}
+use Rattle.std.proofs.lemmas.{Bool.false_from_ne_true, Bool.false≢true, List.get_or_read}
+use Rattle.msg_order.specs.{inner.Paths.set_at, inner.SystemSet.has, inner.SystemSet.no_set}
+use Rattle.msg_order.proofs.{SystemSets.meets-found, SystemSets.meets-true, PlanViews.seen_edges, PlanViews.seen_joined, PlanViews.settled_lawful, AcceptedOrders.goes_on, AcceptedOrders.not_all, AcceptedOrders.taken_all, AcceptedOrders.taken_first, AcceptedOrders.taken_next, plan.Plan.accepts.Goals.then-system-len-via-then-system-len, plan.Plan.accepts.Goals.then-system-len-via-else-system-len+then-not-contains, plan.Plan.accepts.Goals.then-system-len-via-else-system-len+else-not-contains+then-meets}
 use Rattle.msg_order.proofs.plan.Plan.accepts.Goals as goal
 
 pub loop-system-init : goal.loop-system-init
@@ -43,9 +43,8 @@ returns-then-system-len-clause-keeps_what_precedes _g c =
     )
 
 pub returns-then-system-len-clause-lawful : goal.returns-then-system-len-clause-lawful
-returns-then-system-len-clause-lawful _g c = λ accesses rules joined plan.
-    let kept = returns-then-system-len-clause-keeps_what_precedes _g c in
-    grind (arith, lawful_same accesses rules joined c.args.self.now plan c.args.order.now, kept)
+returns-then-system-len-clause-lawful _g c rules joined conflict is =
+    settled_lawful rules joined conflict _ _ is (returns-then-system-len-clause-keeps_what_precedes _g c)
 
 pub returns-clause-keeps_what_precedes : goal.returns-clause-keeps_what_precedes
 returns-clause-keeps_what_precedes _g c =
@@ -61,6 +60,5 @@ returns-clause-keeps_what_precedes _g c =
     )
 
 pub returns-clause-lawful : goal.returns-clause-lawful
-returns-clause-lawful _g c = λ accesses rules joined plan.
-    let kept = returns-clause-keeps_what_precedes _g c in
-    grind (arith, lawful_same accesses rules joined c.args.self.now plan c.args.order.now, kept)
+returns-clause-lawful _g c rules joined conflict is =
+    settled_lawful rules joined conflict _ _ is (returns-clause-keeps_what_precedes _g c)

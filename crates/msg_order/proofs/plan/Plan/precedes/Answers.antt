@@ -1,5 +1,6 @@
-use Rattle.std.proofs.{Common.arith, lemmas.List.get_or_read}
-use Rattle.msg_order.specs.{inner.SystemSet.no_set}
+use Rattle.std.proofs.Common.{arith}
+use Rattle.std.proofs.lemmas.List.{get_or_read}
+use Rattle.msg_order.specs.inner.SystemSet.{no_set}
 use Rattle.msg_order.proofs.PlanViews.{seen_edges}
 use Rattle.msg_order.proofs.plan.Plan.precedes.Goals as goal
 

@@ -1,9 +1,9 @@
-use Rattle.std.proofs.Common.{◌<◌, ℕ, ◌+◌, ◌*◌, ◌/◌, ◌^◌, ◌&&◌, get_or, sym, refl, arith, rules, bit_and}
+use Rattle.std.proofs.Common.{arith, bit_and, get_or, refl, rules, sym, ℕ, ◌&&◌, ◌*◌, ◌+◌, ◌/◌, ◌<◌, ◌^◌}
 use Rattle.std.proofs.lemmas.Nat.{and_le_l}
 use Rattle.msg_world.specs.declared.limits.TheConstants.{MAX_SYSTEMS}
 use Rattle.msg_world.proofs.Bits.{some_bit}
 use Rattle.msg_order.specs.inner.SystemSet.{has, meets}
-use Rattle.msg_order.proofs.SystemSets.{none_below, some_below, has_bit-apart, words-share}
+use Rattle.msg_order.proofs.SystemSets.{has_bit-apart, none_below, some_below, words-share}
 use Rattle.msg_order.proofs.system_set.SystemSet.meets.Goals as goal
 
 pub returns : goal.returns

@@ -1,4 +1,4 @@
-use Rattle.std.proofs.Common.{◌≡◌, ℕ, ◌<◌, get_or, bit_and}
+use Rattle.std.proofs.Common.{bit_and, get_or, ℕ, ◌<◌, ◌≡◌}
 use Rattle.msg_order.proofs.system_set.SystemSet.meets.Given as goal
 
 abbrev pub invariant-loop-i : goal.invariant-loop-i

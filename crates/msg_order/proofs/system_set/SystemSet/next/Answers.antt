@@ -1,7 +1,7 @@
-use Rattle.std.proofs.Common.{◌<◌, ◌/◌, ◌^◌, get_or, arith, rules}
+use Rattle.std.proofs.Common.{arith, get_or, rules, ◌/◌, ◌<◌, ◌^◌}
 use Rattle.std.proofs.lemmas.Bool.{cases_lt}
 use Rattle.msg_order.specs.inner.SystemSet.{has}
-use Rattle.msg_order.proofs.SystemSets.{next_in_word, next_there, none_till_next, none_in_word}
+use Rattle.msg_order.proofs.SystemSets.{next_in_word, next_there, none_in_word, none_till_next}
 use Rattle.msg_order.proofs.system_set.SystemSet.next.Goals as goal
 
 word_fits : (c : goal.Then-rest-ne0) → get_or c.args.self.now.words (c.words.k / 64) 0 < 2 ^ 64

@@ -1,4 +1,4 @@
-use Rattle.std.proofs.Common.{◌≡◌, ℕ, ◌<◌, ◌≤◌, ◌-◌, false}
+use Rattle.std.proofs.Common.{false, ℕ, ◌-◌, ◌<◌, ◌≡◌, ◌≤◌}
 use Rattle.msg_world.specs.declared.limits.TheConstants.{MAX_SYSTEMS}
 use Rattle.msg_order.specs.inner.SystemSet.{has}
 use Rattle.msg_order.proofs.system_set.SystemSet.next.Given as goal

@@ -1,4 +1,4 @@
-use Rattle.std.proofs.Common.{◌≡◌, ℕ, ◌<◌, ◌≤◌, get_or, length, bit_or}
+use Rattle.std.proofs.Common.{bit_or, get_or, length, ℕ, ◌<◌, ◌≡◌, ◌≤◌}
 use Rattle.msg_order.specs.declared.system_set.TheConstants.{WORDS}
 use Rattle.msg_order.proofs.system_set.SystemSet.union_with.Given as goal
 

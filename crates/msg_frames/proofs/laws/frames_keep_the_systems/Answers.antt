@@ -1,5 +1,0 @@
-use Rattle.msg_frames.proofs.SystemsStay.{frames_keep}
-use Rattle.msg_frames.proofs.laws.frames_keep_the_systems.Goals as goal
-
-pub returns : goal.returns
-returns g c = record { law = frames_keep }

@@ -1,5 +1,0 @@
-use Rattle.msg_frames.proofs.{HistoriesGrow.buffer_laws, ReaderOverRun.accounts_begin}
-use Rattle.msg_frames.proofs.reader_laws.accounts_begin_at_the_start.Goals as goal
-
-pub returns : goal.returns
-returns g c = record { law = accounts_begin buffer_laws }

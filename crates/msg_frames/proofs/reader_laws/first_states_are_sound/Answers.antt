@@ -1,5 +1,0 @@
-use Rattle.msg_frames.proofs.FirstStatesAreSound.{first_is_sound}
-use Rattle.msg_frames.proofs.reader_laws.first_states_are_sound.Goals as goal
-
-pub returns : goal.returns
-returns g c = record { law = first_is_sound }

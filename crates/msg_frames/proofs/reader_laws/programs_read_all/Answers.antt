@@ -1,8 +1,0 @@
-use Rattle.msg_buffer.proofs.Growth.{only_grows}
-use Rattle.msg_frames.proofs.ProgramsReadAll as programs
-use Rattle.msg_frames.proofs.reader_laws.programs_read_all.Goals as goal
-
-pub returns : goal.returns
-returns g c =
-    let in_order = c.a_program_is_its_ops_in_order.ensures.law in
-    record { law = programs.programs_read_all only_grows in_order; woken = programs.programs_when_woken only_grows in_order }

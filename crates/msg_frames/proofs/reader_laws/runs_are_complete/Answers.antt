@@ -1,5 +1,0 @@
-use Rattle.msg_frames.proofs.{HistoriesGrow.buffer_laws, ReaderOverRun.runs_are_complete, WrittenOnce.run_answered}
-use Rattle.msg_frames.proofs.reader_laws.runs_are_complete.Goals as goal
-
-pub returns : goal.returns
-returns g c = record { law = runs_are_complete buffer_laws; answered = run_answered }

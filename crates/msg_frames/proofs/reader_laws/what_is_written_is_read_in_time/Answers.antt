@@ -1,5 +1,0 @@
-use Rattle.msg_frames.proofs.{HistoriesGrow.buffer_laws, Latency.later_at_once, Latency.all_next}
-use Rattle.msg_frames.proofs.reader_laws.what_is_written_is_read_in_time.Goals as goal
-
-pub returns : goal.returns
-returns g c = record { at_once = later_at_once buffer_laws; next = all_next buffer_laws }

@@ -1,0 +1,173 @@
+-- When readers have what was written: at once, or in the next frame.
+use Rattle.std.proofs.Common.{Contains, IsTrue, List, [], ap, append_assoc, arith, drop, filter, flat_map, inl, inr, length, map, refl, sym, ℕ, ◌++◌, ◌+◌, ◌-◌, ◌<◌, ◌==◌, ◌∙◌, ◌∷◌, ◌≡◌, ◌≤◌}
+use Rattle.std.proofs.lemmas.{Bool.cases_Bool, Bool.false≢true, Bool.Decides.eqb_tells, List.append-nil, List.length-map, List.Elements.All-contains, List.Elements.Contains-append_left, List.Elements.Contains-append_right, List.Elements.filter-append}
+use Rattle.std.specs.List.{enumerate_from}
+use Rattle.msg_buffer.specs.Prelude.{GoesOn, count}
+use Rattle.msg_world.specs.{Prelude.Values, Prelude.WorldState, Prelude.after_update, declared.record.Record.Record}
+use Rattle.msg_system.specs.Prelude.{Step}
+use Rattle.msg_order.specs.Prelude.{Path}
+use Rattle.msg_order.proofs.Elements.{Contains-cases, Contains-flat_map, Contains-head, Contains-range, Contains-tail, filter-Contains, flat_map-Contains, map-Contains, not_in_none}
+use Rattle.msg_frames.proofs.{BeforeTurns.Prepares, BeforeTurns.begun_within, BeforeTurns.comes, BeforeTurns.prepares, BeforeTurns.stood, BeforeTurns.waits, ElementsAndPairs.Cut, ElementsAndPairs.cut, ElementsAndPairs.pairs_head, ElementsAndPairs.pairs_right, LawfulOrdersAgree.lawful_forward, ReaderOverRun.run_follows, ReaderOverRun.runs_are_complete, ReaderOverTurns.turns_read, StatesStaySound.begun_alike, StatesStaySound.frame_sound, StatesStaySound.prepared_sound, StatesStaySound.turn_below, SystemsStay.frame_keeps, SystemsStay.turns_keep, WrittenOnce.before_writes, WrittenOnce.run_writes, WrittenOnce.turns_write, WrittenOnce.written_further}
+use Rattle.msg_frames.specs.{Frames.settled_order, Frames.turn_order, Prelude.IsSoundState, Prelude.IsTrueEntry, Prelude.IsWrittenOnce, Prelude.Moment, Prelude.State, Prelude.after_turn_of, Prelude.after_turns_of, Prelude.before_turns, Prelude.entries_in_run, Prelude.found_at, Prelude.frame, Prelude.has_begun, Prelude.moments, Prelude.numbers_missed, Prelude.post_steps, Prelude.reader_place, Prelude.run, Prelude.told, Prelude.turn_of, Prelude.turns_steps, Prelude.wrote, declared.frame.Frame.Frame}
+use Rattle.msg_laws.proofs.{OrderOfTurns.are_ordered, ReadersStayUpToDate.caught_up, ReadersStayUpToDate.frame_recent, ReadersStayUpToDate.has_frame_before, ReadersStayUpToDate.is_there, ReadersStayUpToDate.joined_by_turn, ReadersStayUpToDate.new_recent, StampsStayRecent.AreRecent, StampsStayRecent.earlier_recent, WritersInOrder.below_count}
+use Rattle.msg_laws.specs.Prelude.{AllReadersHaveItNext, HasTaken, LaterReadersHaveItAtOnce, NothingDrained, told_to}
+
+-- ---- the numbers that are told
+
+-- what stands behind a numbered list goes on with its numbers
+rest_numbered : {X : Type 0} (xs ys : List X) (zs : List (ℕ × X)) (a : ℕ) → enumerate_from a ys ≡ enumerate_from a xs ++ zs
+    → zs ≡ enumerate_from (a + length xs) (drop (length xs) ys)
+rest_numbered [] ys zs a is = grind (arith, is)
+rest_numbered (x ∷ xs) [] zs a is = absurd (omega (arith, ap length is))
+rest_numbered (x ∷ xs) (y ∷ ys) zs a is = grind (arith, rest_numbered xs ys zs (a + 1) (ap (drop 1) is))
+
+not_below : {X : Type 0} (xs : List X) (a n : ℕ) (x : X) → Contains (enumerate_from a xs) (n, x) → a ≤ n
+not_below [] a n x c = absurd (not_in_none (n, x) c)
+not_below (y ∷ ys) a n x c = elim (Contains-cases (a, y) (enumerate_from (a + 1) ys) (n, x) c) [
+  | inl here ↦ grind (arith, here)
+  | inr later ↦ omega (arith, not_below ys (a + 1) n x later)
+]
+
+module _ {V : Type 0} {values : Values V} (t n : ℕ) (m : Record V) where
+  -- what steps tell was written between the states that they lead from and to
+  told_between : (w : WorldState values) (steps : List (ℕ × Step values)) (v : WorldState values) → IsWrittenOnce t w steps v
+      → Contains (told t steps) (n, m) → (count (w.histories t) ≤ n) × (n < count (v.histories t))
+  told_between w steps v once c =
+      let before : List (Record V) = map (λ e. e.message) (w.histories t).entries in
+      let all : List (Record V) = map (λ e. e.message) (v.histories t).entries in
+      let first = length-map (w.histories t).entries (λ e. e.message) in
+      let last = length-map (v.histories t).entries (λ e. e.message) in
+      let rest = rest_numbered before all (told t steps) 0 once.grew in
+      let up = not_below (drop (length before) all) (0 + length before) n m (rw rest at c) in
+      let whole = below_count all 0 n m (rw (once.grew) (Contains-append_right _ (told t steps) (n, m) c)) in
+      (omega (arith, first, up), omega (arith, last, whole))
+
+  -- what one system is told is among what is told
+  told_by_one : (i : ℕ) (steps : List (ℕ × Step values)) → Contains (told_to i t steps) (n, m) → Contains (told t steps) (n, m)
+  told_by_one i steps c =
+      let wrote_at = λ (x : ℕ × Step values). wrote t x.0 x.1.op x.1.reply in
+      let f = flat_map-Contains wrote_at (filter (λ x. x.0 == i) steps) (n, m) c in
+      Contains-flat_map wrote_at steps f.0 (n, m) (filter-Contains (λ x. x.0 == i) steps f.0 f.1.0).0 f.1.1
+
+-- ---- what a run does with a message that is new in its first frame
+
+module _ {V : Type 0} {values : Values V} where
+  -- who has joined by the end of the first frame was found no further on than that frame's messages
+  found_within : (f : Frame V) (fs : List (Frame V)) (s : State values) (j t : ℕ) → IsSoundState s → t < s.types
+      → IsTrue (has_begun (frame f s).state j) → IsTrue (has_begun (run (f ∷ fs) s).state j)
+      → found_at s (run (f ∷ fs) s).state j t ≤ count (s.world.histories t)
+  found_within f fs s j t sound below has still =
+      let b : State values = before_turns f.posts s in
+      let m : State values = (frame f s).state in
+      let prep : Prepares s b = prepares f.posts s in
+      let ready : IsSoundState b = prepared_sound s b sound prep in
+      let under : t < b.types = rw (prep.same.types) below in
+      let keep = turns_keep (turn_order b) b in
+      let here = turns_read j t (turn_order b) b (ready.histories t under) (ready.places j t under) in
+      let later = run_follows j t fs m (frame_sound f s sound) (rw (keep.0.types) under) still in
+      elim (prep.arrival j) [
+        | stood was now same ↦ rw was (sound.places j t below)
+        | comes was now new ↦ rw (was, later.totals, has, here.totals, new) (begun_within s j t below (sound.places j t below))
+        | waits was now same ↦ absurd (grind (arith, false≢true, has, now, begun_alike b m j keep))
+      ]
+
+  module _ (f : Frame V) (fs : List (Frame V)) (s : State values) (j t n : ℕ) (sound : IsSoundState s) (below : t < s.types)
+      (has : IsTrue (has_begun (frame f s).state j)) (still : IsTrue (has_begun (run (f ∷ fs) s).state j)) where
+    abbrev u : State values
+    u = (run (f ∷ fs) s).state
+
+    not_missed : count (s.world.histories t) ≤ n → AreRecent 1 (count (s.world.histories t)) (u.world.histories t)
+        → NothingDrained t s u → ¬ Contains (flat_map numbers_missed (entries_in_run j t (f ∷ fs) s)) n
+    not_missed above recent drained c =
+        let p : ℕ = count (s.world.histories t) in
+        let ms : List (Moment V) = moments j t (f ∷ fs) s in
+        let e = flat_map-Contains numbers_missed (map (λ x. x.entry) ms) n c in
+        let x = map-Contains (λ x. x.entry) ms e.0 e.1.0 in
+        let goes = All-contains (λ x. GoesOn x.history (u.world.histories t)) ms x.0
+        (run_follows j t (f ∷ fs) s sound below still).passes.earlier x.1.0 in
+        let true = All-contains (IsTrueEntry (u.world.histories t)) ms x.0
+        ((runs_are_complete (f ∷ fs) s sound).served j t below still).true x.1.0 in
+        let gone = true.missed n (rw (x.1.1) e.1.1) in
+        gone.1 (is_there p x.0.history n (earlier_recent 1 p _ _ goes recent) above
+        (omega (arith, goes.floor, drained, (sound.histories t below).floor, above)) gone.0)
+
+    has_taken : count (s.world.histories t) ≤ n → n < reader_place u j t
+        → AreRecent 1 (count (s.world.histories t)) (u.world.histories t) → HasTaken j t n (f ∷ fs) s
+    has_taken above passed recent =
+        let found : ℕ = found_at s u j t in
+        let within = found_within f fs s j t sound below has still in
+        record {
+          told = rw (((runs_are_complete (f ∷ fs) s sound).served j t below still).once)
+              (Contains-range found (reader_place u j t - found) n (omega (arith, within, above)) (omega (arith, passed, within, above)));
+          not_missed = not_missed above recent;
+        }
+
+  -- ---- in the next frame
+
+  pub all_next : AllReadersHaveItNext values
+  all_next f next s i j t sound below has reads n m c =
+      let p : ℕ = count (s.world.histories t) in
+      let mid : State values = (frame f s).state in
+      let sound_mid : IsSoundState mid = frame_sound f s sound in
+      let below_mid : t < mid.types = rw ((frame_keeps (turn_order (before_turns f.posts s)) f s).types) below in
+      let wrote_once = rw (append-nil (frame f s).steps) at (run_writes t (f ∷ []) s sound) in
+      let at = told_between t n m s.world (frame f s).steps mid.world wrote_once (told_by_one t n m i (frame f s).steps c) in
+      let passed = has_frame_before next mid j t sound_mid below_mid reads in
+      let updated : AreRecent 1 p ((after_update mid.world).histories t) = λ k e from is.
+      grind (arith, cases_Bool, new_recent f s j t sound below k e from, is) in
+      has_taken f (next ∷ []) s j t n sound below has (joined_by_turn next mid j t sound_mid below_mid reads.has_turn)
+      at.0 (omega (arith, at.1, passed)) (frame_recent next mid j t sound_mid below_mid 1 p updated)
+
+-- ---- at once
+
+module _ {V : Type 0} {values : Values V} where
+  turns_steps_append : (xs ys : List ℕ) (s : State values) → turns_steps (xs ++ ys) s
+      ≡ turns_steps xs s ++ turns_steps ys (after_turns_of xs s).state
+  turns_steps_append [] ys s = refl
+  turns_steps_append (x ∷ xs) ys s = grind (arith, append_assoc, turns_steps_append xs ys (after_turn_of x s))
+
+  by_others : (i j : ℕ) → ¬ (j ≡ i) → (xs : List (Step values)) → filter (λ (x : ℕ × Step values). x.0 == i) (map (λ x. (j, x)) xs) ≡ []
+  by_others i j ne [] = refl
+  by_others i j ne (x ∷ xs) = grind (arith, eqb_tells j i, ne, by_others i j ne xs)
+
+  -- who has no turn has no steps
+  no_steps_of : (i : ℕ) (js : List ℕ) (s : State values) → ¬ Contains js i → filter (λ x. x.0 == i) (turns_steps js s) ≡ []
+  no_steps_of i [] s out = refl
+  no_steps_of i (j ∷ js) s out =
+      let others = by_others i j (λ e. out (rw (← e) (Contains-head j js))) (turn_of s j).steps in
+      rw (filter-append (λ x. x.0 == i) (map (λ x. (j, x)) (turn_of s j).steps) (turns_steps js (after_turn_of j s)), others)
+      (no_steps_of i js (after_turn_of j s) (λ at. out (Contains-tail j js i at)))
+
+  pub later_at_once : LaterReadersHaveItAtOnce values
+  later_at_once f s i j t sound below path reads n m c =
+      let b : State values = before_turns f.posts s in
+      let g = settled_order b in
+      let order : List ℕ = turn_order b in
+      let ready : IsSoundState b = prepared_sound s b sound (prepares f.posts s) in
+      let ordered = are_ordered b ready.no_cycle in
+      let cuts : Cut order j = cut order j reads.has_turn in
+      let forward = rw (cuts.is) at (lawful_forward g _ order ordered.once) in
+      let later = pairs_head (λ k l. ¬ Path g l k) j cuts.rest (pairs_right (λ k l. ¬ Path g l k) cuts.before (j ∷ cuts.rest) forward) in
+      let out : ¬ Contains (j ∷ cuts.rest) i = λ at. elim (Contains-cases j cuts.rest i at) [
+        | inl same ↦ ordered.no_cycle i (rw same at path)
+        | inr after ↦ All-contains (λ k. ¬ Path g k j) cuts.rest i later after path
+      ] in
+      let found : State values = (after_turns_of cuts.before b).state in
+      let posts = post_steps f.posts (after_update s.world) in
+      let early : List (ℕ × Step values) = posts ++ turns_steps cuts.before b in
+      let late : List (ℕ × Step values) = turns_steps (j ∷ cuts.rest) found in
+      let by_one = λ (x : ℕ × Step values). x.0 == i in
+      let steps : (frame f s).steps ≡ early ++ late =
+      ap (λ o. posts ++ turns_steps o b) cuts.is ∙ ap (λ xs. posts ++ xs) (turns_steps_append cuts.before (j ∷ cuts.rest) b)
+      ∙ sym (append_assoc posts (turns_steps cuts.before b) late) in
+      let all_early : filter by_one (frame f s).steps ≡ filter by_one early =
+      ap (filter by_one) steps ∙ filter-append by_one early late ∙ ap (λ xs. filter by_one early ++ xs) (no_steps_of i (j ∷ cuts.rest) found out)
+      ∙ append-nil (filter by_one early) in
+      let own = λ (k : ℕ) (at : Contains cuts.before k).
+      ready.writers k (turn_below b k (rw (cuts.is) (Contains-append_left cuts.before (j ∷ cuts.rest) k at))) in
+      let once = written_further t _ _ _ _ _ (before_writes t f.posts s) (turns_write t cuts.before b own) in
+      let at = told_between t n m s.world early found.world once (told_by_one t n m i early (rw all_early at c)) in
+      let passed = caught_up f s j t sound below reads cuts.before cuts.rest cuts.is in
+      let has = joined_by_turn f s j t sound below reads.has_turn in
+      has_taken f [] s j t n sound below has has at.0 (omega (arith, at.1, passed))
+      (λ k e from is. omega (arith, new_recent f s j t sound below k e from is))

@@ -1,0 +1,18 @@
+-- ---- turns
+mod OrderOfTurns
+-- ---- what runs tell of readers
+mod StepsAnswered
+mod LogsTell
+mod ReaderLaws
+mod OneFateEach
+mod WritersInOrder
+-- ---- readers that read all
+mod StampsStayRecent
+mod OneTurn
+mod ReadersTakeAll
+mod ReadersStayUpToDate
+mod ProgramsReadAll
+mod WakeUps
+mod Latency
+-- ---- worked runs
+mod ReadingsOfRows

@@ -1,0 +1,22 @@
+-- What follows of readers from the laws of frames.
+use Rattle.msg_frames.proofs.ReaderOverRun.{run_follows, runs_are_complete}
+use Rattle.msg_frames.specs.{Prelude.State, Prelude.first_state, Prelude.has_begun, Prelude.reader_place, Prelude.totals_from}
+use Rattle.msg_laws.specs.Prelude.{AccountsBeginAtTheStart, ReadersTile}
+use Rattle.msg_world.specs.Prelude.{Values}
+use Rattle.std.proofs.Common.{IsTrue, arith, ◌≡◌}
+use Rattle.std.proofs.lemmas.{Bool.cases_Bool, Bool.Decides.eqb_tells, Bool.Decides.nat_tests}
+
+module _ {V : Type 0} {values : Values V} where
+  pub readers_tile : ReadersTile values
+  readers_tile frames s sound i t below has =
+      let passes = (run_follows i t frames s sound below has).passes in
+      record { tile = passes.tile; gives = passes.gives }
+
+  -- from a first state a reader was found with new accounts
+  pub accounts_begin : AccountsBeginAtTheStart values
+  accounts_begin systems places rules types world frames i t sound below has =
+      let s : State values = first_state systems places rules types world in
+      let served = (runs_are_complete frames s sound).served i t below has in
+      let new : IsTrue (has_begun s i) → (s.members i).totals t ≡ totals_from (reader_place s i t) = λ here.
+      grind (arith, cases_Bool, eqb_tells, nat_tests, sound.joins i, here) in
+      grind (arith, cases_Bool, served.totals, new)

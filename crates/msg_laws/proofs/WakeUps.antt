@@ -1,0 +1,187 @@
+-- Who is woken by a message and then reads all misses nothing.
+use Rattle.std.proofs.Common.{IsTrue, List, [], arith, inl, inr, length, refl, ℕ, ◌++◌, ◌<◌, ◌∙◌, ◌∷◌, ◌≡◌, ◌≢◌, ◌≤◌, ◌⊎◌}
+use Rattle.std.proofs.lemmas.{Bool.cases_Bool, Bool.cases_lt, Bool.false≢true, Bool.Decides.nat_tests, List.get_or_append_left, List.Elements.All-append, List.Elements.All-map, List.Elements.All-nil, List.Elements.Contains-append_right, Option.get_or_from_slice_get, Option.slice_get_cases}
+use Rattle.std.specs.List.{list_any}
+use Rattle.msg_buffer.specs.Prelude.{GoesOn, History, IsPresent, IsSound, count, unread}
+use Rattle.msg_buffer.proofs.{Presence.not_present, Unread.length-unread}
+use Rattle.msg_world.specs.{Prelude.Values, Prelude.WorldState, declared.record.Record.Record}
+use Rattle.msg_system.specs.{Prelude.Asked, Prelude.Job, Prelude.after_job, Prelude.all_hold, declared.condition.Probe.TheVariants.OnMessage}
+use Rattle.msg_frames.proofs.{BeforeTurns.prepares, ElementsAndPairs.Cut, ElementsAndPairs.cut, HistoriesGrow.counts_more, ReaderOverRun.run_further, SystemsStay.frame_keeps, SystemsStay.no_cycle_stays}
+use Rattle.msg_frames.specs.{Frames.turn_order, Prelude.IsSoundState, Prelude.State, Prelude.after_turns_of, Prelude.before_turns, Prelude.frame, Prelude.has_begun, Prelude.moments, Prelude.outcome_of, Prelude.reader_place, Prelude.run, declared.frame.Frame.Frame, declared.log.Outcome.TheVariants.Skipped}
+use Rattle.msg_laws.proofs.{OneTurn.goes_from_turn, OneTurn.goes_to_turn, OneTurn.in_log, OneTurn.job_left, OneTurn.member_found, OneTurn.within_turn, ProgramsReadAll.has_turn, ReadersStayUpToDate.Between, ReadersStayUpToDate.NoneMissed, ReadersStayUpToDate.all_there, ReadersStayUpToDate.between, ReadersStayUpToDate.frame_misses_none, ReadersStayUpToDate.joined_by_turn, ReadersStayUpToDate.past_frame, ReadersTakeAll.job_takes}
+use Rattle.msg_laws.specs.Prelude.{IsSkipped, IsUpToDate, IsWokenBy, NoWakeUpIsLost, NothingDrained, NothingUnread, ReadsAllIfWoken, ReadsAllWhenWoken, WhoIsWokenStaysSo, WhoSleepsHasNothingUnread, reads_all}
+use Rattle.msg_order.proofs.Elements.{Contains-head}
+
+-- ---- what is gone stays gone
+
+module _ {V : Type 0} where
+  -- none of the messages from p to c is present
+  abbrev Gone : ℕ → ℕ → History (Record V) → Type 0
+  Gone p c h = (n : ℕ) → p ≤ n → n < c → ¬ IsPresent h n
+
+  was_present : (a b : History (Record V)) (n : ℕ) → GoesOn a b → n < count a → IsPresent b n → IsPresent a n
+  was_present a b n goes lt there = elim (slice_get_cases a.entries n).1 [
+    | inl got ↦
+        let same = get_or_append_left a.entries goes.more got.0 n lt in
+        (got.0, got.2, grind (arith, cases_Bool, nat_tests, get_or_from_slice_get, same, goes.entries, there.1, there.2, got.2))
+    | inr past ↦ absurd (omega (arith, past.0, lt))
+  ]
+
+  still_gone : (p c : ℕ) (a b : History (Record V)) → GoesOn a b → c ≤ count a → Gone p c a → Gone p c b
+  still_gone p c a b goes within gone n above lt there =
+      gone n above lt (was_present a b n goes (omega (arith, within, lt)) there)
+
+  -- if nothing is unread from c on, nothing is present there
+  none_unread : (c : ℕ) (h : History (Record V)) → IsSound h → length (unread h c) ≡ 0 → Gone c (count h) h
+  none_unread c h sound none n above lt = not_present h n sound (omega (arith, length-unread h c, none, above, lt))
+
+-- ---- a job that waits for a message
+
+module _ {V : Type 0} where
+  -- the one condition that a message of the type came
+  abbrev message_came : ℕ → ℕ → List (Asked V)
+  message_came t place = record { condition = record { nots = 0; probe = OnMessage t }; place = place } ∷ []
+
+module _ {V : Type 0} {values : Values V} (t : ℕ) where
+  module _ (j : Job V) (w : WorldState values) (c : ℕ) (is : j.conditions ≡ message_came t c) where
+    asked : (after_job j w).job.conditions ≡ message_came t (count (w.histories t))
+    asked = grind (arith, cases_Bool, is)
+
+    slept : IsSound (w.histories t) → Gone (j.system.places t) c (w.histories t) → outcome_of (after_job j w).replies ≡ Skipped
+        → Gone (j.system.places t) (count (w.histories t)) (w.histories t)
+    slept sound gone skipped n above lt =
+        let none : length (unread (w.histories t) c) ≡ 0 = grind (arith, cases_Bool, nat_tests, is, skipped) in
+        elim (cases_lt n c) [
+          | inl before ↦ gone n above before
+          | inr after ↦ none_unread c (w.histories t) sound none n after lt
+        ]
+
+    -- it goes past all that there is, or it was skipped since nothing was unread
+    came_or_slept : IsSound (w.histories t) → j.system.places t ≤ count (w.histories t)
+        → Gone (j.system.places t) c (w.histories t)
+        → (outcome_of (after_job j w).replies ≢ Skipped → IsTrue (list_any (reads_all t) (after_job j w).job.system.last))
+        → (count (w.histories t) ≤ (after_job j w).job.system.places t) ⊎ (((after_job j w).job.system.places t
+        ≡ j.system.places t) × Gone (j.system.places t) (count (w.histories t)) (w.histories t))
+    came_or_slept sound within gone reads = elim (cases_Bool (all_hold j.conditions w)) [
+      | inl holds ↦
+          let ran : outcome_of (after_job j w).replies ≢ Skipped = grind (arith, holds) in
+          inl (job_takes t j w sound within ran (reads ran))
+      | inr fails ↦ inr (grind (arith, fails), slept sound gone (grind (arith, fails)))
+    ]
+
+-- ---- a frame
+
+module _ {V : Type 0} {values : Values V} (f : Frame V) (s : State values) (i t : ℕ) (sound : IsSoundState s)
+    (below : t < s.types) (has : IsTrue (has_begun s i)) (woken : IsWokenBy t i s) (earlier later : List ℕ)
+    (is : turn_order (before_turns f.posts s) ≡ earlier ++ i ∷ later) where
+  abbrev found : State values
+  found = (after_turns_of earlier (before_turns f.posts s)).state
+
+  abbrev u : State values
+  u = (frame f s).state
+
+  to_turn : GoesOn (s.world.histories t) (found.world.histories t)
+  to_turn = goes_to_turn f s i earlier later is t sound below
+
+  from_turn : GoesOn (found.world.histories t) (u.world.histories t)
+  from_turn = goes_from_turn f s i earlier later is t sound below
+
+  stood : found.members i ≡ s.members i
+  stood = member_found f s i earlier later is ∙ grind (arith, false≢true, (prepares f.posts s).arrival i)
+
+  waits : (found.members i).job.conditions ≡ message_came t woken.place
+  waits = rw stood woken.condition
+
+  gone : Gone (reader_place found i t) woken.place (found.world.histories t)
+  gone = rw (reader_place, stood) (still_gone _ _ _ _ to_turn woken.within woken.behind)
+
+  pub sleeps : IsSkipped i f s → NothingUnread i t found
+  sleeps skipped = slept t (found.members i).job found.world woken.place waits to_turn.sound gone
+      (in_log f s i earlier later is (λ turn. turn.system ≡ i → turn.outcome ≡ Skipped) skipped refl)
+
+  module _ (reads : ReadsAllIfWoken i t f s) where
+    -- what its turn did, told of the state after the frame
+    took_or_slept : (count (found.world.histories t) ≤ reader_place u i t) ⊎ ((reader_place u i t ≡ reader_place s i t)
+        × Gone (reader_place s i t) (count (found.world.histories t)) (found.world.histories t))
+    took_or_slept =
+        let j : Job V = (found.members i).job in
+        let here = came_or_slept t j found.world woken.place waits to_turn.sound
+        (within_turn f s i earlier later is t sound below) gone
+        (λ ran. rw (← job_left f s i earlier later is)
+        (reads (λ skipped. ran (in_log f s i earlier later is (λ turn. turn.system ≡ i → turn.outcome ≡ Skipped) skipped refl)))) in
+        rw (reader_place, job_left f s i earlier later is, ← stood) here
+
+    stays_woken : IsWokenBy t i u
+    stays_woken = record {
+      place = count (found.world.histories t);
+      condition = rw (job_left f s i earlier later is) (asked t (found.members i).job found.world woken.place waits);
+      within = counts_more _ _ from_turn;
+      behind = λ n above lt there. elim took_or_slept [
+        | inl took ↦ absurd (omega (arith, took, above, lt))
+        | inr asleep ↦ still_gone _ _ _ _ from_turn (omega arith) asleep.1 n (omega (arith, asleep.0, above)) lt there
+      ];
+    }
+
+    stays_up_to_date : IsUpToDate s i t → NothingDrained t s u → IsUpToDate u i t
+    stays_up_to_date up drained =
+        let old = counts_more _ _ to_turn in
+        past_frame f s i t sound below (elim took_or_slept [
+          | inl took ↦ omega (arith, took, old)
+          | inr asleep ↦ elim (cases_lt (reader_place s i t) (count (found.world.histories t))) [
+            | inl lt ↦ absurd (asleep.1 (reader_place s i t) (omega arith) lt
+                (all_there f s i t sound below (found.world.histories t) up drained from_turn (reader_place s i t) (omega arith) lt))
+            | inr past ↦ omega (arith, past, asleep.0, old)
+          ]
+        ]) drained
+
+-- ---- a run
+
+module _ {V : Type 0} {values : Values V} where
+  -- one that has joined has its turn
+  turn_cut : (f : Frame V) (s : State values) (i : ℕ) → IsSoundState s → i < s.systems → IsTrue (has_begun s i)
+      → Cut (turn_order (before_turns f.posts s)) i
+  turn_cut f s i sound there has =
+      let prep = prepares f.posts s in
+      cut _ _ (has_turn (before_turns f.posts s) i (no_cycle_stays s _ prep.same sound.no_cycle) (rw (prep.same.systems) there)
+      (grind (arith, false≢true, prep.arrival i)))
+
+  pub who_sleeps : WhoSleepsHasNothingUnread values
+  who_sleeps f s i t sound below has woken skipped earlier later is = sleeps f s i t sound below has woken earlier later is skipped
+
+  pub woken_stays : WhoIsWokenStaysSo values
+  woken_stays f s i t sound below there has woken reads =
+      let c = turn_cut f s i sound there has in
+      stays_woken f s i t sound below has woken c.before c.rest c.is reads
+
+  -- what is so after the run, and that the moments of the run miss nothing
+  record Kept (frames : List (Frame V)) (s : State values) (i t : ℕ) : Type 0 where
+    none : NoneMissed (moments i t frames s)
+    woken : IsWokenBy t i (run frames s).state
+    up : IsUpToDate (run frames s).state i t
+
+  runs_keep : (frames : List (Frame V)) (s : State values) (i t : ℕ) → IsSoundState s → t < s.types → i < s.systems
+      → IsTrue (has_begun s i) → IsWokenBy t i s → IsUpToDate s i t → ReadsAllWhenWoken i t frames s
+      → NothingDrained t s (run frames s).state → Kept frames s i t
+  runs_keep [] s i t sound below there has woken up reads drained =
+      record { none = All-nil (λ m. m.entry.stretch.missed ≡ 0); woken = woken; up = up }
+  runs_keep (f ∷ fs) s i t sound below there has woken up reads drained =
+      let m : State values = (frame f s).state in
+      let c = turn_cut f s i sound there has in
+      let mid : Between t s m (run fs m).state = between f fs s t sound below drained in
+      let order : List ℕ = turn_order (before_turns f.posts s) in
+      let keeps = frame_keeps order f s in
+      let joined = joined_by_turn f s i t sound below (rw (c.is) (Contains-append_right c.before (i ∷ c.rest) i (Contains-head i c.rest))) in
+      let rest = runs_keep fs m i t mid.sound mid.below (rw (keeps.systems) there) joined
+      (stays_woken f s i t sound below has woken c.before c.rest c.is reads.0)
+      (stays_up_to_date f s i t sound below has woken c.before c.rest c.is reads.0 up mid.first) reads.1 mid.rest in
+      record {
+        none = rw (run_further i t f fs s) (All-append (λ x. x.entry.stretch.missed ≡ 0) _ _
+            (frame_misses_none f s i t sound below has up mid.first) rest.none);
+        woken = rest.woken;
+        up = rest.up;
+      }
+
+  pub no_wake_up : NoWakeUpIsLost values
+  no_wake_up frames s i t sound below there has woken up reads drained =
+      let kept = runs_keep frames s i t sound below there has woken up reads drained in
+      (All-map (λ e. e.stretch.missed ≡ 0) _ _ kept.none, kept.woken, kept.up)

@@ -1,0 +1,5 @@
+use Rattle.msg_frames.proofs.LawfulOrdersAgree.{orders_agree}
+use Rattle.msg_laws.proofs.turn_laws.lawful_orders_agree.Goals as goal
+
+pub returns : goal.returns
+returns g c = record { law = orders_agree c.nothing_else_is_used.ensures.jobs }

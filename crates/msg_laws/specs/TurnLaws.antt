@@ -1,0 +1,101 @@
+-- What holds of turns, in other orders and by batches, and of frames. Each law is the contract of a
+-- function in src/turn_laws.rt.
+use Rattle.msg_frames.specs.{Frames.settled_order, Frames.turn_order, Prelude.AfterTurns, Prelude.AreAccessesOf, Prelude.NoCycle, Prelude.SameSystems, Prelude.State, Prelude.UsesParts, Prelude.after_turn_of, Prelude.after_turns_of, Prelude.all_home, Prelude.are_in_conflict, Prelude.join_flags, Prelude.logged_turn, Prelude.run, declared.frame.Frame.Frame}
+use Rattle.msg_buffer.specs.Prelude.{GoesOn, IsSound}
+use Rattle.msg_order.specs.{Graph.Graph, Order.AreBatches, Order.IsSettledOrder, Order.access_of, Prelude.IsAcyclic, Prelude.IsLawfulOrder, Prelude.IsTurnOrder, Prelude.NoneConflict, Prelude.Path, Settled.batches, Settled.has_joined}
+use Rattle.msg_world.specs.{Prelude.Conflict, Prelude.Values, declared.access.Access.Access}
+use Rattle.std.specs.List.{concat}
+use Rattle.std.specs.Prelude.{All, AllPairs, IsPermutation, IsTrue, List, [], map, ℕ, ◌++◌, ◌<◌, ◌∷◌, ◌≡◌, ◌≢◌, ◌⊎◌}
+
+-- Turns keep the systems, and make no frame.
+abbrev pub TurnsKeepSystems : {V : Type 0} → Values V → Type 0
+TurnsKeepSystems values = (order : List ℕ) (s : State values)
+    → SameSystems s (after_turns_of order s).state
+    × ((after_turns_of order s).state.frames ≡ s.frames)
+
+-- The same systems have the same accesses, and as many frames on the same have joined.
+abbrev pub SameSystemsHaveSameAccesses : {V : Type 0} → Values V → Type 0
+SameSystemsHaveSameAccesses values = (s u : State values) → SameSystems s u
+    → ((accesses : List Access) → AreAccessesOf s accesses → AreAccessesOf u accesses)
+    × (u.frames ≡ s.frames → join_flags u ≡ join_flags s)
+
+-- If the accesses of two systems don't conflict, the turn of one doesn't change what comes of
+-- the other's, and it doesn't matter which is first.
+abbrev pub TurnsOfOthersCommute : {V : Type 0} → Values V → Type 0
+TurnsOfOthersCommute values = (s : State values) (accesses : List Access) (i j : ℕ)
+    → AreAccessesOf s accesses
+    → i < s.systems → j < s.systems → i ≢ j
+    → ¬ Conflict (access_of accesses i) (access_of accesses j)
+    → (logged_turn (after_turn_of i s) j ≡ logged_turn s j)
+    × (logged_turn (after_turn_of j s) i ≡ logged_turn s i)
+    × (after_turn_of j (after_turn_of i s) ≡ after_turn_of i (after_turn_of j s))
+
+module _ {V : Type 0} {values : Values V} where
+  -- each batch side by side, on the state that the batches before it left
+  abbrev pub by_batches : List Access → List (List ℕ) → State values → AfterTurns values
+  by_batches accesses [] s = record { state = s; turns = [] }
+  by_batches accesses (batch ∷ batches) s =
+      let rest : AfterTurns values = by_batches accesses batches (all_home accesses s batch s) in
+      record { state = rest.state; turns = map (logged_turn s) batch ++ rest.turns }
+
+-- One batch after the other, each side by side, leaves the log and the state of one turn after the
+-- other.
+abbrev pub FramesRunByBatches : {V : Type 0} → Values V → Type 0
+FramesRunByBatches values = (s : State values) (accesses : List Access) (batches : List (List ℕ))
+    → AreAccessesOf s accesses
+    → All (λ i. i < s.systems) (concat batches) → AllPairs (λ i j. i ≢ j) (concat batches)
+    → All (NoneConflict accesses) batches
+    → after_turns_of (concat batches) s ≡ by_batches accesses batches s
+
+-- Two lawful orders of one settled order leave the same state and have the same turns: each
+-- system's comes out alike.
+abbrev pub LawfulOrdersAgree : {V : Type 0} → Values V → Type 0
+LawfulOrdersAgree values = (s : State values) (accesses : List Access) (settled : Graph)
+    (a b : List ℕ) → AreAccessesOf s accesses
+    → IsSettledOrder accesses s.rules (join_flags s) settled
+    → IsLawfulOrder settled (join_flags s) a → IsLawfulOrder settled (join_flags s) b
+    → ((after_turns_of a s).state ≡ (after_turns_of b s).state)
+    × IsPermutation (after_turns_of a s).turns (after_turns_of b s).turns
+
+-- How the systems of a state that have joined are ordered.
+pub record AreOrdered {V : Type 0} {values : Values V} (s : State values) : Type 0 where
+  -- no path leads back
+  pub no_cycle : IsAcyclic (settled_order s)
+  -- of two in conflict, one comes before the other
+  pub conflicts : (i j : ℕ) → i ≢ j → IsTrue (has_joined (join_flags s) i)
+      → IsTrue (has_joined (join_flags s) j) → IsTrue (are_in_conflict s i j)
+      → Path (settled_order s) i j ⊎ Path (settled_order s) j i
+  -- the batches are by batch number, that of the longest chain
+  pub by_number : AreBatches (settled_order s) (join_flags s)
+      (batches (settled_order s) (join_flags s))
+  -- the turns go by batch number, and then by addition
+  pub turns : IsTurnOrder (settled_order s) (join_flags s) (turn_order s)
+  -- each that has joined has one turn, after those that come before it
+  pub once : IsLawfulOrder (settled_order s) (join_flags s) (turn_order s)
+
+-- If the rules make no cycle, the systems are ordered so.
+abbrev pub TurnsAreInOrder : {V : Type 0} → Values V → Type 0
+TurnsAreInOrder values = (s : State values) → NoCycle s → AreOrdered s
+
+-- The settled order is the one that the rules make, and then the pairs whose accesses conflict.
+abbrev pub OrderIsSettled : {V : Type 0} → Values V → Type 0
+OrderIsSettled values = (s : State values) (accesses : List Access) → UsesParts s
+    → AreAccessesOf s accesses
+    → IsSettledOrder accesses s.rules (join_flags s) (settled_order s)
+
+-- Over a run each type's history goes on: what was written stays, each message in its place.
+abbrev pub ListsOnlyGrow : {V : Type 0} → Values V → Type 0
+ListsOnlyGrow {V} values = (frames : List (Frame V)) (s : State values) (t : ℕ)
+    → IsSound (s.world.histories t)
+    → GoesOn (s.world.histories t) ((run frames s).state.world.histories t)
+
+-- Frames, and then more frames, are one run: it leaves the state that the later ones leave, and has
+-- the logs and the steps of both. So what the first frames came to doesn't depend on later ones.
+abbrev pub RunsCompose : {V : Type 0} → Values V → Type 0
+RunsCompose {V} values = (frames later : List (Frame V)) (s : State values)
+    → run (frames ++ later) s
+    ≡ record {
+      state = (run later (run frames s).state).state;
+      logs = (run frames s).logs ++ (run later (run frames s).state).logs;
+      steps = (run frames s).steps ++ (run later (run frames s).state).steps;
+    }

@@ -1,0 +1,72 @@
+//! Laws of turns and frames. Calling one makes its fact available to the caller's proof; it does
+//! nothing at run time.
+ghost use Rattle.msg_frames.specs.Prelude.{FramesKeepSystems};
+ghost use Rattle.msg_laws.specs.Prelude.{FramesRunByBatches, LawfulOrdersAgree, ListsOnlyGrow, OrderIsSettled, RunsCompose, SameSystemsHaveSameAccesses, TurnsAreInOrder, TurnsKeepSystems, TurnsOfOthersCommute};
+
+use msg_buffer::laws::histories_only_grow;
+use msg_system::nothing_else_is_used;
+use msg_world::{Record, Value};
+
+/// Turns keep the systems: what they need, where they start, their conditions, and the rules of
+/// their order. Only what they do next, places, accounts and the world change.
+#[tactic(auto, using(msg_frames::proofs::SystemsStay::turns_keep))]
+pub fn turns_keep_the_systems<V: Value>()
+    ensures law { TurnsKeepSystems V.values }
+{}
+
+/// Frames keep the systems too.
+pub fn frames_keep_the_systems<V: Value>()
+    ensures law { FramesKeepSystems V.values }
+{}
+
+/// The same systems have the same accesses, and after as many frames the same of them have joined.
+#[tactic(auto, using(msg_frames::proofs::SystemsStay::accesses_stay, msg_frames::proofs::SystemsStay::joined_stay))]
+pub fn same_systems_have_same_accesses<V: Value>()
+    ensures law { SameSystemsHaveSameAccesses V.values }
+{}
+
+/// Of two systems whose accesses don't conflict, the turn of one doesn't change what comes of the
+/// other's, and it doesn't matter which is first.
+pub fn turns_of_others_commute<V: Value>()
+    ensures law { TurnsOfOthersCommute V.values }
+{
+    nothing_else_is_used::<V>();
+}
+
+/// Batch after batch, each side by side, gives what one turn after the other gives.
+#[tactic(auto, using(crate::proofs::OrderOfTurns::batch_by_batch))]
+pub fn frames_run_by_batches<V: Value>()
+    ensures law { FramesRunByBatches V.values }
+{
+    nothing_else_is_used::<V>();
+}
+
+/// Two lawful orders of the same turns leave the same state, and each system's turn comes out
+/// alike.
+pub fn lawful_orders_agree<V: Value>()
+    ensures law { LawfulOrdersAgree V.values }
+{
+    nothing_else_is_used::<V>();
+}
+
+/// The order of a state's systems is the settled one. If the rules make no cycle, it has none, it
+/// orders those in conflict, the batches are by the longest chain, and each system that has joined
+/// has its turn once.
+pub fn turns_are_in_settled_order<V: Value>()
+    ensures turns { TurnsAreInOrder V.values }
+    ensures settled { OrderIsSettled V.values }
+{}
+
+/// Over a run each type's list of messages only grows.
+#[tactic(auto, using(crate::proofs::ReadersStayUpToDate::runs_go_on))]
+pub fn lists_only_grow<V: Value>()
+    ensures law { ListsOnlyGrow V.values }
+{
+    histories_only_grow::<Record<V>>();
+}
+
+/// Calls in a row are one run: frames, and then more of them from the state that these leave.
+#[tactic(auto, using(msg_frames::proofs::Functions::run_append))]
+pub fn runs_compose<V: Value>()
+    ensures law { RunsCompose V.values }
+{}
