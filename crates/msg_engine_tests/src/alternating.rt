@@ -100,20 +100,18 @@ fn written(rt: &impl Abort, world: &World, number: u32) -> usize
     messages.current().len()
 }
 
-/// How many messages each system writes to its first type, and how many to its second; None if it
-/// is skipped.
-type Wrote = Option<(usize, usize)>;
+/// How many replies the turn has; None if it was skipped.
+fn replies_to(turn: &Turn) -> Option<usize> {
+    match &turn.outcome {
+        Outcome::Ran(replies) => Some(replies.as_slice().len()),
+        Outcome::Skipped => None,
+    }
+}
 
-/// Each turn was skipped, or has a reply for each message.
-fn expect_turns(rt: &impl Abort, turns: &[Turn], wrote: Wrote) {
+/// Each turn has so many replies, or was skipped.
+fn expect_turns(rt: &impl Abort, turns: &[Turn], replies: Option<usize>) {
     for turn in turns {
-        match (&turn.outcome, wrote) {
-            (Outcome::Ran(replies), Some((first, second))) => {
-                expect_eq(rt, &replies.as_slice().len(), &first.max(second))
-            }
-            (Outcome::Skipped, None) => {}
-            _other => panic!(rt; "skipped or not"),
-        }
+        expect_eq(rt, replies_to(turn), replies);
     }
 }
 
@@ -121,13 +119,14 @@ fn expect_turns(rt: &impl Abort, turns: &[Turn], wrote: Wrote) {
 fn expect_written(rt: &impl Abort, world: &World, wrote: (usize, usize)) {
     for here in [1, 3] {
         let both = (written(rt, world, here), written(rt, world, here + 1));
-        expect_eq(rt, &both, &wrote);
+        expect_eq(rt, both, wrote);
     }
 }
 
-/// A frame: what is posted, whether it is replayed with system 1 before system 0, and what each
-/// system that has joined writes.
-type Frame = (&'static [i64], bool, Wrote);
+/// A frame: what is posted, whether it is replayed with system 1 before system 0, how many replies
+/// each turn has, if it isn't skipped, and how many messages each system writes to its first type
+/// and to its second.
+type Frame = (&'static [i64], bool, Option<usize>, (usize, usize));
 
 /// Runs or replays a frame.
 fn log_of<R: Threads + Sync + Abort + AllocGlobal, S: SystemOf<Value = i64> + Send>(
@@ -139,7 +138,7 @@ fn log_of<R: Threads + Sync + Abort + AllocGlobal, S: SystemOf<Value = i64> + Se
     requires engine { IsEngine i64_values S.meaning engine.old }
     ensures engine { IsEngine i64_values S.meaning engine.new }
 {
-    let (posts, is_replayed, _wrote) = frame;
+    let (posts, is_replayed, _replies, _wrote) = frame;
     let log = if is_replayed {
         replay(rt, engine, posts, &[1, 0])
     } else {
@@ -161,7 +160,7 @@ fn expect_frame<R: Threads + Sync + Abort + AllocGlobal, S: SystemOf<Value = i64
     expect_turns(rt, log.turns.as_slice(), frame.2);
     drop(log);
     let world = engine.world().expect(rt, "a world");
-    expect_written(rt, world, frame.2.unwrap_or((0, 0)));
+    expect_written(rt, world, frame.3);
 }
 
 /// Two systems and three frames, of which the second has no message.
@@ -181,9 +180,9 @@ const ROWS: &[Row] = &[
         join: 1,
         asks: false,
         frames: &[
-            (&[1], false, Some((1, 0))),
-            (&[], false, Some((0, 1))),
-            (&[1], false, Some((1, 0))),
+            (&[1], false, Some(1), (1, 0)),
+            (&[], false, Some(1), (0, 1)),
+            (&[1], false, Some(1), (1, 0)),
         ],
     },
     Row {
@@ -191,9 +190,9 @@ const ROWS: &[Row] = &[
         join: 1,
         asks: false,
         frames: &[
-            (&[1], false, Some((0, 0))),
-            (&[], false, Some((0, 0))),
-            (&[1], false, Some((0, 0))),
+            (&[1], false, Some(0), (0, 0)),
+            (&[], false, Some(0), (0, 0)),
+            (&[1], false, Some(0), (0, 0)),
         ],
     },
     // never more than 64 messages
@@ -202,9 +201,9 @@ const ROWS: &[Row] = &[
         join: 1,
         asks: false,
         frames: &[
-            (&[1], false, Some((64, 0))),
-            (&[], false, Some((0, 64))),
-            (&[1], false, Some((64, 0))),
+            (&[1], false, Some(64), (64, 0)),
+            (&[], false, Some(64), (0, 64)),
+            (&[1], false, Some(64), (64, 0)),
         ],
     },
     // nothing before they joined
@@ -213,9 +212,9 @@ const ROWS: &[Row] = &[
         join: 3,
         asks: false,
         frames: &[
-            (&[1], false, Some((0, 0))),
-            (&[], false, Some((0, 0))),
-            (&[1], false, Some((1, 0))),
+            (&[1], false, Some(0), (0, 0)),
+            (&[], false, Some(0), (0, 0)),
+            (&[1], false, Some(1), (1, 0)),
         ],
     },
     // a skipped turn isn't told: the next one writes as it would have written
@@ -224,9 +223,9 @@ const ROWS: &[Row] = &[
         join: 1,
         asks: true,
         frames: &[
-            (&[1], false, Some((1, 0))),
-            (&[], false, None),
-            (&[1], false, Some((0, 1))),
+            (&[1], false, Some(1), (1, 0)),
+            (&[], false, None, (0, 0)),
+            (&[1], false, Some(1), (0, 1)),
         ],
     },
     // a replayed turn is told
@@ -235,9 +234,9 @@ const ROWS: &[Row] = &[
         join: 1,
         asks: false,
         frames: &[
-            (&[1], false, Some((1, 0))),
-            (&[], true, Some((0, 1))),
-            (&[1], false, Some((1, 0))),
+            (&[1], false, Some(1), (1, 0)),
+            (&[], true, Some(1), (0, 1)),
+            (&[1], false, Some(1), (1, 0)),
         ],
     },
 ];

@@ -109,7 +109,7 @@ fn expect_two<R: Threads + Sync + Abort + AllocGlobal>(rt: &R, number: u32) {
     let runs = shared_number(rt, rt.alloc());
     let engine = two_beacons(rt, rt.alloc(), &runs);
     expect_frames(rt, engine, number, FRAMES);
-    expect_eq(rt, &runs.load(Ordering::SeqCst), &4);
+    expect_eq(rt, runs.load(Ordering::SeqCst), 4);
 }
 
 #[test]

@@ -191,6 +191,6 @@ fn numbers_of_workers(rt: HostRuntime) {
     const ROWS: &[(u32, bool)] = &[(0, false), (1, true), (64, true), (65, false)];
     for row in ROWS {
         let found = Workers::new(row.0).is_some();
-        expect_eq(&rt, &(row.0, found), row);
+        expect_eq(&rt, (row.0, found), *row);
     }
 }

@@ -104,7 +104,7 @@ fn signalling(rt: &impl Abort, alloc: Global) -> EngineOf<Scripted>
 fn expect_set(rt: &impl Abort, world: &World, oldest: u64) {
     let messages = world.messages(type_no(0)).expect(rt, "type 0 is home");
     let found = (world.resource(res_no(0)), messages.oldest());
-    expect_eq(rt, &found, &(Some(8), oldest));
+    expect_eq(rt, found, (Some(8), oldest));
 }
 
 /// The frames of such an engine, and the oldest message after each.

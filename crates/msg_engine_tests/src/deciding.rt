@@ -18,9 +18,9 @@ use std::thread::Threads;
 fn expect_written(rt: &impl Abort, world: &World, want: &[Record]) {
     let messages = world.messages(type_no(1)).expect(rt, "type 1 is home");
     let written = messages.current();
-    expect_eq(rt, &written.len(), &want.len());
+    expect_eq(rt, written.len(), want.len());
     for instance in written {
-        expect_eq(rt, &want.first(), &Some(&instance.message));
+        expect_eq(rt, want.first(), Some(&instance.message));
     }
 }
 

@@ -105,5 +105,5 @@ pub fn expect_unlawful<S: SystemOf<Value = i64>>(
 
 /// A call was refused for this reason.
 pub fn expect_fault<T: Drop>(rt: &impl Abort, came: Result<T, RunFault>, want: RunFault) {
-    expect_eq(rt, &came.err(), &Some(want));
+    expect_eq(rt, came.err(), Some(want));
 }

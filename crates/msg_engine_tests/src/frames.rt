@@ -33,10 +33,10 @@ const ROWS: &[Row] = &[
 /// The post tells the first of two texts, and each reader, in order of addition, the second.
 fn expect_reads(rt: &impl Abort, log: &Log, number: u32, (post, reads): (&str, &str)) {
     expect_replies(rt, log.posts.as_slice(), post);
-    expect_eq(rt, &log.turns.as_slice().len(), &(number as usize));
+    expect_eq(rt, log.turns.as_slice().len(), number as usize);
     for system in 0..number {
         let turn = log.turns.as_slice().get(system as usize);
-        expect_eq(rt, &turn.expect(rt, "a turn").system, &system);
+        expect_eq(rt, turn.expect(rt, "a turn").system, system);
         expect_replies(rt, replies_of(rt, log, system as usize), reads);
     }
 }
@@ -138,7 +138,7 @@ fn expect_gate_first<R: Threads + Sync + Abort + AllocGlobal>(rt: &R, workers: u
     drop(run_frame(rt, &mut engine, &[], workers, &gate));
     drop(engine);
     gate.expect_first(rt, 5);
-    expect_eq(rt, &runs.load(Ordering::SeqCst), &5);
+    expect_eq(rt, runs.load(Ordering::SeqCst), 5);
 }
 
 #[test]
@@ -171,5 +171,5 @@ fn the_gate_is_called_before_the_system_runs(rt: HostRuntime) {
     drop(run_frame(&rt, &mut engine, &[], 2, &gate));
     drop(engine);
     // The gate notes 9, and system i notes i + 1: gate, system 0, gate, system 1.
-    expect_eq(&rt, &noted.load(Ordering::SeqCst), &9192);
+    expect_eq(&rt, noted.load(Ordering::SeqCst), 9192);
 }

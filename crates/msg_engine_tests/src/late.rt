@@ -47,7 +47,7 @@ fn expect_third<
     let ran = run_frames(rt, &mut engine, &frames, number, &NoGate, &mut logs);
     drop((engine, frames));
     ran.expect(rt, "frames");
-    expect_eq(rt, &logs.len(), &3);
+    expect_eq(rt, logs.len(), 3);
     expect_log(rt, logs.last().expect(rt, "a log"), told);
     drop(logs);
 }

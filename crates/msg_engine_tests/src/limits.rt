@@ -92,8 +92,8 @@ fn expect_written(rt: &impl Abort, world: &World, number: u32, value: i64)
     let first = messages.get(MessageId(0)).copied();
     expect_eq(
         rt,
-        &(number, found, first),
-        &(number, (1, 1), Some(by(0, value))),
+        (number, found, first),
+        (number, (1, 1), Some(by(0, value))),
     );
 }
 
@@ -103,7 +103,7 @@ fn expect_all_written(rt: &impl Abort, world: &World) {
         let value = number as i64 + 100;
         expect_written(rt, world, number, value);
         let set = world.resource(res_no(number));
-        expect_eq(rt, &(number, set), &(number, Some(value)));
+        expect_eq(rt, (number, set), (number, Some(value)));
     }
 }
 
@@ -112,8 +112,8 @@ fn expect_all_written(rt: &impl Abort, world: &World) {
 fn types_resources_and_ops(rt: HostRuntime) {
     let mut engine = writers_of_all(&rt, rt.alloc());
     let log = run_frame(&rt, &mut engine, &[], 2, &NoGate);
-    expect_eq(&rt, &replies_of(&rt, &log, 0).len(), &MAX_OPS);
-    expect_eq(&rt, &replies_of(&rt, &log, 1).len(), &MAX_OPS);
+    expect_eq(&rt, replies_of(&rt, &log, 0).len(), MAX_OPS);
+    expect_eq(&rt, replies_of(&rt, &log, 1).len(), MAX_OPS);
     drop(log);
     expect_all_written(&rt, engine.world().expect(&rt, "a world"));
     drop(engine);
@@ -132,7 +132,7 @@ fn systems_on_64_workers(rt: HostRuntime) {
     let mut engine = readers(&rt, rt.alloc(), MAX_SYSTEMS as u32);
     let log = run_frame(&rt, &mut engine, &[5], MAX_WORKERS, &NoGate);
     drop(engine);
-    expect_eq(&rt, &log.turns.as_slice().len(), &MAX_SYSTEMS);
+    expect_eq(&rt, log.turns.as_slice().len(), MAX_SYSTEMS);
     expect_reads(&rt, &log, 0, " read from 0: host=5");
     drop(log);
 }
@@ -160,17 +160,17 @@ fn backwards(rt: &impl Abort, alloc: Global) -> EngineOf<Scripted>
     let mut acts = Vec::from_elem(alloc, (0, Does::Reads), readers).expect(rt, "acts");
     acts.push((0, Does::Writes(5))).expect(rt, "an act");
     let rules = rules_backwards(rt, alloc);
-    expect_eq(rt, &rules.len(), &1024);
+    expect_eq(rt, rules.len(), 1024);
     scripted_engine(rt, alloc, 10, &acts, &rules)
 }
 
 /// These are the turns of all systems, from the last to the first.
 fn expect_backwards(rt: &impl Abort, turns: &[Turn]) {
-    expect_eq(rt, &turns.len(), &MAX_SYSTEMS);
+    expect_eq(rt, turns.len(), MAX_SYSTEMS);
     let mut left = MAX_SYSTEMS as u32;
     for turn in turns {
         left = left.saturating_sub(1);
-        expect_eq(rt, &turn.system, &left);
+        expect_eq(rt, turn.system, left);
     }
 }
 
@@ -222,14 +222,14 @@ fn conditions_and_nots(rt: HostRuntime) {
 fn expect_values(rt: &impl Abort, records: &[Record], writer: u32) {
     let mut value = 0;
     for record in records {
-        expect_eq(rt, record, &by(writer, value));
+        expect_eq(rt, *record, by(writer, value));
         value = value.saturating_add(1);
     }
 }
 
 /// The posts of so many values, and after them the batch.
 fn expect_all(rt: &impl Abort, items: &[Record], number: usize) {
-    expect_eq(rt, &items.len(), &number.saturating_add(1_024));
+    expect_eq(rt, items.len(), number.saturating_add(1_024));
     assert!(rt; number <= items.len());
     expect_values(rt, &items[..number], HOST);
     expect_values(rt, &items[number..], 0);
@@ -248,11 +248,11 @@ fn items_of<'a>(rt: &impl Abort, replies: &'a [Reply]) -> (u64, u64, &'a [Record
 /// After these posts the first system wrote the batch, and tells this; the second read all, and the
 /// third drained all.
 fn expect_posts_and_batch(rt: &impl Abort, log: &Log, number: usize, told: &str) {
-    expect_eq(rt, &log.posts.as_slice().len(), &number);
+    expect_eq(rt, log.posts.as_slice().len(), number);
     expect_replies(rt, replies_of(rt, log, 0), told);
     for place in [1, 2] {
         let (missed, first, items) = items_of(rt, replies_of(rt, log, place));
-        expect_eq(rt, &(missed, first), &(0, 0));
+        expect_eq(rt, (missed, first), (0, 0));
         expect_all(rt, items, number);
     }
 }
@@ -309,18 +309,18 @@ fn run_up_to<R: Threads + Sync + Abort>(
     let (frames, mut logs) = (quiet_frames(rt, alloc, number), Vec::new(alloc));
     let ran = run_frames(rt, engine, &frames, 2, &NoGate, &mut logs);
     ran.expect(rt, "frames");
-    expect_eq(rt, &engine.frames_run(), &number);
+    expect_eq(rt, engine.frames_run(), number);
     expect_last(rt, &logs, number);
     drop((frames, logs));
 }
 
 /// There are so many logs. None but the last of them has a turn.
 fn expect_last(rt: &impl Abort, logs: &[Log], number: u32) {
-    expect_eq(rt, &logs.len(), &(number as usize));
+    expect_eq(rt, logs.len(), number as usize);
     let (last, before) = logs.split_last().expect(rt, "a log");
-    expect_eq(rt, &last.turns.as_slice().len(), &1);
+    expect_eq(rt, last.turns.as_slice().len(), 1);
     for log in before {
-        expect_eq(rt, &log.turns.as_slice().len(), &0);
+        expect_eq(rt, log.turns.as_slice().len(), 0);
     }
 }
 
@@ -344,7 +344,7 @@ fn run_and_recycle<R: Threads + Sync + Abort + AllocGlobal, S: SystemOf<Value = 
 fn a_million_frames(rt: HostRuntime) {
     let mut engine = readers(&rt, rt.alloc(), 0);
     run_and_recycle(&rt, &mut engine, 1_000_001);
-    expect_eq(&rt, &engine.frames_run(), &1_000_001);
+    expect_eq(&rt, engine.frames_run(), 1_000_001);
     drop(engine);
 }
 
@@ -355,6 +355,6 @@ fn frames_and_a_join(rt: HostRuntime) {
     run_up_to(&rt, rt.alloc(), &mut engine, LAST_JOIN);
     const NEXT: &Told<'static> = &(&[5], " wrote 1 from 0[0 read from 0: host=5]");
     expect_frame(&rt, &mut engine, 2, NEXT);
-    expect_eq(&rt, &engine.frames_run(), &(LAST_JOIN + 1));
+    expect_eq(&rt, engine.frames_run(), LAST_JOIN + 1);
     drop(engine);
 }

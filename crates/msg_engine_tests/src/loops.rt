@@ -93,7 +93,7 @@ fn expect_end<R: Threads + Sync + Abort + AllocGlobal>(rt: &R, row: &Row) {
     let ended = engine.run_loop(rt, &mut host, most, workers(rt, 1));
     let found = (ended, engine.frames_run(), engine.world().is_some());
     drop(engine);
-    expect_eq(rt, &found, &(came, run, true));
+    expect_eq(rt, found, (came, run, true));
 }
 
 #[test]

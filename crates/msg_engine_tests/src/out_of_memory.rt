@@ -95,10 +95,10 @@ fn is_refused<R: Threads + Sync + Abort + AllocGlobal>(
     requires engine { IsEngine i64_values ⟦<Scripted as SystemOf>⟧.meaning engine.old }
 {
     let Err(fault) = came else {
-        expect_eq(rt, &engine.frames_run(), &frames_run);
+        expect_eq(rt, engine.frames_run(), frames_run);
         return false;
     };
-    expect_eq(rt, &fault, &RunFault::NoMemory);
+    expect_eq(rt, fault, RunFault::NoMemory);
     expect_spoiled(rt, engine, frames_run);
     true
 }
@@ -115,8 +115,8 @@ fn run_two<R: Threads + Sync + Abort + AllocGlobal>(
     let mut logs = Vec::new(rt.alloc());
     let ran = run_two_quiet(rt, &mut engine, number, &mut logs);
     let whole = engine.frames_run();
-    expect_eq(rt, &logs.len(), &(whole as usize));
-    expect_eq(rt, &(ran.is_err() || whole == 2), &true);
+    expect_eq(rt, logs.len(), whole as usize);
+    expect_eq(rt, ran.is_err() || whole == 2, true);
     expect_logs(rt, &logs, frames);
     drop(logs);
     let is_refused = is_refused(rt, &mut engine, whole, ran);
@@ -256,7 +256,7 @@ fn accounts_of<S: SystemOf<Value = i64>>(
     match engine.accounts() {
         Ok(accounts) => (accounts, false),
         Err(fault) => {
-            expect_eq(rt, &fault, &RunFault::NoMemory);
+            expect_eq(rt, fault, RunFault::NoMemory);
             (engine.accounts().expect(rt, "accounts"), true)
         }
     }
@@ -275,7 +275,7 @@ fn are_accounts_refused(
     expect_accounts(rt, &accounts, told);
     drop(accounts);
     let left = (engine.frames_run(), engine.world().is_some());
-    expect_eq(rt, &left, &(2, true));
+    expect_eq(rt, left, (2, true));
     Ok(is_refused)
 }
 

@@ -201,16 +201,16 @@ mod tests {
         let frames = quiet_frames(&rt, rt.alloc(), 3);
         let workers = (workers(&rt, 1), workers(&rt, 7));
         let logs = run_both(&rt, rt.alloc(), &frames, workers).expect(&rt, "logs");
-        expect_eq(&rt, &logs.0.len(), &3);
+        expect_eq(&rt, logs.0.len(), 3);
         expect_eq(&rt, &logs.0, &logs.1);
         drop((frames, logs));
     }
 
     /// There are three logs of two turns, and in each the reader ran.
     fn expect_three(rt: &impl Abort, logs: &[Log]) {
-        expect_eq(rt, &logs.len(), &3);
+        expect_eq(rt, logs.len(), 3);
         for log in logs {
-            expect_eq(rt, &log.turns.as_slice().len(), &2);
+            expect_eq(rt, log.turns.as_slice().len(), 2);
             replies_of(rt, log, 1);
         }
     }
@@ -230,7 +230,7 @@ mod tests {
         let life = run_life(&rt, rt.alloc(), &frames, &last, workers(&rt, 2));
         drop((frames, last));
         let (accounts, engine) = life.expect(&rt, "a life");
-        expect_eq(&rt, &engine.frames_run(), &3);
+        expect_eq(&rt, engine.frames_run(), 3);
         drop(engine);
         let told = "[1 of 0: start Some(0) got 3 missed 0 cleared 0 place 3]";
         expect_accounts(&rt, &accounts, told);

@@ -17,7 +17,7 @@ use std::thread::Threads;
 
 /// The digits that were noted.
 fn expect_noted(rt: &impl Abort, noted: &AtomicU64, digits: u64) {
-    expect_eq(rt, &noted.load(Ordering::SeqCst), &digits);
+    expect_eq(rt, noted.load(Ordering::SeqCst), digits);
 }
 
 /// A writer and two readers, which note their runs.

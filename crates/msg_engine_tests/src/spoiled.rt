@@ -29,7 +29,7 @@ fn expect_none_runs<R: Threads + Sync + Abort + AllocGlobal, S: SystemOf<Value =
     let mut logs = Vec::new(rt.alloc());
     let two = run_two_quiet(rt, engine, 1, &mut logs);
     expect_fault(rt, two, RunFault::Spoiled);
-    expect_eq(rt, &logs.len(), &0);
+    expect_eq(rt, logs.len(), 0);
     drop(logs);
     let replayed = replay(rt, engine, &[], &[0, 1]);
     expect_fault(rt, replayed, RunFault::Spoiled);
@@ -47,7 +47,7 @@ pub fn expect_spoiled<R: Threads + Sync + Abort + AllocGlobal, S: SystemOf<Value
     expect_none_runs(rt, engine);
     expect_fault(rt, engine.accounts(), RunFault::Spoiled);
     let left = (engine.world().is_none(), engine.frames_run());
-    expect_eq(rt, &left, &(true, frames_run));
+    expect_eq(rt, left, (true, frames_run));
 }
 
 /// An engine of readers of one type. The first of them has memory for `first_runs` runs; the runs
@@ -105,7 +105,7 @@ fn expect_run_of_others<R: Threads + Sync + Abort + AllocGlobal>(
     drop(engine);
     gate.expect_met(rt, run as u64 + 1);
     let ran = runs.load(Ordering::SeqCst);
-    expect_eq(rt, &(workers, ran), &(workers, run as u64));
+    expect_eq(rt, (workers, ran), (workers, run as u64));
 }
 
 /// The other workers run the other jobs of the batch; if the job was the only worker's, no job
