@@ -235,12 +235,12 @@ fn expect_all(rt: &impl Abort, items: &[Record], number: usize) {
     expect_values(rt, &items[number..], 0);
 }
 
-/// What was read or drained by one op: how many messages were missed, the number of the first that
-/// wasn't, and the messages.
-fn items_of<'a>(rt: &impl Abort, replies: &'a [Reply]) -> (u64, u64, &'a [Record]) {
+/// What one op read or drained: whether it drained, how many messages were missed, the number of
+/// the first that wasn't, and the messages.
+fn items_of<'a>(rt: &impl Abort, replies: &'a [Reply]) -> (bool, u64, u64, &'a [Record]) {
     match replies {
-        [Reply::Read(took)] => (took.missed, took.first, took.items.as_slice()),
-        [Reply::Drained { first, items }] => (0, *first, items.as_slice()),
+        [Reply::Read(took)] => (false, took.missed, took.first, took.items.as_slice()),
+        [Reply::Drained { first, items }] => (true, 0, *first, items.as_slice()),
         _other => panic!(rt; "neither a read nor a drain"),
     }
 }
@@ -251,8 +251,8 @@ fn expect_posts_and_batch(rt: &impl Abort, log: &Log, number: usize, told: &str)
     expect_eq(rt, log.posts.as_slice().len(), number);
     expect_replies(rt, replies_of(rt, log, 0), told);
     for place in [1, 2] {
-        let (missed, first, items) = items_of(rt, replies_of(rt, log, place));
-        expect_eq(rt, (missed, first), (0, 0));
+        let (drained, missed, first, items) = items_of(rt, replies_of(rt, log, place));
+        expect_eq(rt, (drained, missed, first), (place == 2, 0, 0));
         expect_all(rt, items, number);
     }
 }
