@@ -40,13 +40,14 @@ fn readers_after_a_post(rt: &impl Abort, alloc: Global) -> EngineOf<Scripted>
 /// The first frame in a world that had a message before the engine was made.
 #[test]
 fn starts_in_a_world_with_a_message(rt: HostRuntime) {
-    let mut engine = readers_after_a_post(&rt, rt.alloc());
+    let rt = &rt;
+    let mut engine = readers_after_a_post(rt, rt.alloc());
     let told = "[0 read from 0: host=5][1 read from 1:]";
-    expect_frame(&rt, &mut engine, 1, &(&[], told));
+    expect_frame(rt, &mut engine, 1, &(&[], told));
     let told = "1 frames, from 0 to 1: host=5\
         [0 of 0: start Some(0) got 1 missed 0 cleared 0 place 1]\
         [1 of 0: start Some(1) got 0 missed 0 cleared 0 place 1]";
-    expect_engine(&rt, &engine, told);
+    expect_engine(rt, &engine, told);
     drop(engine);
 }
 

@@ -161,15 +161,16 @@ fn readers_meet(rt: HostRuntime) {
 
 #[test]
 fn the_gate_is_called_before_the_system_runs(rt: HostRuntime) {
+    let rt = &rt;
     const ACTS: &[(Act, Start)] = &[
         ((0, Does::Reads), Start::Zero),
         ((0, Does::Writes(1)), Start::Zero),
     ];
-    let noted = shared_number(&rt, rt.alloc());
-    let mut engine = noting_engine(&rt, rt.alloc(), 1, ACTS, &noted);
+    let noted = shared_number(rt, rt.alloc());
+    let mut engine = noting_engine(rt, rt.alloc(), 1, ACTS, &noted);
     let gate = NotingGate { noted: &noted };
-    drop(run_frame(&rt, &mut engine, &[], 2, &gate));
+    drop(run_frame(rt, &mut engine, &[], 2, &gate));
     drop(engine);
     // The gate notes 9, and system i notes i + 1: gate, system 0, gate, system 1.
-    expect_eq(&rt, noted.load(Ordering::SeqCst), 9192);
+    expect_eq(rt, noted.load(Ordering::SeqCst), 9192);
 }

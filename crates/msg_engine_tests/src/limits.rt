@@ -110,12 +110,13 @@ fn expect_all_written(rt: &impl Abort, world: &World) {
 /// All types and all resources, by `MAX_OPS` ops each, side by side.
 #[test]
 fn types_resources_and_ops(rt: HostRuntime) {
-    let mut engine = writers_of_all(&rt, rt.alloc());
-    let log = run_frame(&rt, &mut engine, &[], 2, &NoGate);
-    expect_eq(&rt, replies_of(&rt, &log, 0).len(), MAX_OPS);
-    expect_eq(&rt, replies_of(&rt, &log, 1).len(), MAX_OPS);
+    let rt = &rt;
+    let mut engine = writers_of_all(rt, rt.alloc());
+    let log = run_frame(rt, &mut engine, &[], 2, &NoGate);
+    expect_eq(rt, replies_of(rt, &log, 0).len(), MAX_OPS);
+    expect_eq(rt, replies_of(rt, &log, 1).len(), MAX_OPS);
     drop(log);
-    expect_all_written(&rt, engine.world().expect(&rt, "a world"));
+    expect_all_written(rt, engine.world().expect(rt, "a world"));
     drop(engine);
 }
 
@@ -129,11 +130,12 @@ fn expect_reads(rt: &impl Abort, log: &Log, from: usize, told: &str) {
 /// As many readers as may be, side by side on as many workers as may be; each reads the post.
 #[test]
 fn systems_on_64_workers(rt: HostRuntime) {
-    let mut engine = readers(&rt, rt.alloc(), MAX_SYSTEMS as u32);
-    let log = run_frame(&rt, &mut engine, &[5], MAX_WORKERS, &NoGate);
+    let rt = &rt;
+    let mut engine = readers(rt, rt.alloc(), MAX_SYSTEMS as u32);
+    let log = run_frame(rt, &mut engine, &[5], MAX_WORKERS, &NoGate);
     drop(engine);
-    expect_eq(&rt, log.turns.as_slice().len(), MAX_SYSTEMS);
-    expect_reads(&rt, &log, 0, " read from 0: host=5");
+    expect_eq(rt, log.turns.as_slice().len(), MAX_SYSTEMS);
+    expect_reads(rt, &log, 0, " read from 0: host=5");
     drop(log);
 }
 
@@ -177,22 +179,24 @@ fn expect_backwards(rt: &impl Abort, turns: &[Turn]) {
 /// The systems run from the last to the first, and read what the last wrote.
 #[test]
 fn systems_and_rules(rt: HostRuntime) {
-    let mut engine = backwards(&rt, rt.alloc());
-    let log = run_frame(&rt, &mut engine, &[], MAX_WORKERS, &NoGate);
+    let rt = &rt;
+    let mut engine = backwards(rt, rt.alloc());
+    let log = run_frame(rt, &mut engine, &[], MAX_WORKERS, &NoGate);
     drop(engine);
-    expect_backwards(&rt, log.turns.as_slice());
-    expect_replies(&rt, replies_of(&rt, &log, 0), " wrote 1 from 0");
-    expect_reads(&rt, &log, 1, " read from 0: 255=5");
+    expect_backwards(rt, log.turns.as_slice());
+    expect_replies(rt, replies_of(rt, &log, 0), " wrote 1 from 0");
+    expect_reads(rt, &log, 1, " read from 0: 255=5");
     drop(log);
 }
 
 /// An order may be longer than there can be systems: it isn't lawful.
 #[test]
 fn an_order_of_300(rt: HostRuntime) {
-    let mut engine = readers(&rt, rt.alloc(), 3);
-    expect_unlawful(&rt, &mut engine, &[], &[0; 300]);
+    let rt = &rt;
+    let mut engine = readers(rt, rt.alloc(), 3);
+    expect_unlawful(rt, &mut engine, &[], &[0; 300]);
     const READS: &Told<'static> = &(&[], "[2 read from 0:][1 read from 0:][0 read from 0:]");
-    expect_replay(&rt, &mut engine, &[2, 1, 0], READS);
+    expect_replay(rt, &mut engine, &[2, 1, 0], READS);
     drop(engine);
 }
 
@@ -342,19 +346,21 @@ fn run_and_recycle<R: Threads + Sync + Abort + AllocGlobal, S: SystemOf<Value = 
 /// More frames than a million, in which nobody takes a turn.
 #[test]
 fn a_million_frames(rt: HostRuntime) {
-    let mut engine = readers(&rt, rt.alloc(), 0);
-    run_and_recycle(&rt, &mut engine, 1_000_001);
-    expect_eq(&rt, engine.frames_run(), 1_000_001);
+    let rt = &rt;
+    let mut engine = readers(rt, rt.alloc(), 0);
+    run_and_recycle(rt, &mut engine, 1_000_001);
+    expect_eq(rt, engine.frames_run(), 1_000_001);
     drop(engine);
 }
 
 /// Frames up to the last that a system may join with, with which one joins, and one more.
 #[test]
 fn frames_and_a_join(rt: HostRuntime) {
-    let mut engine = last_joining(&rt, rt.alloc());
-    run_up_to(&rt, rt.alloc(), &mut engine, LAST_JOIN);
+    let rt = &rt;
+    let mut engine = last_joining(rt, rt.alloc());
+    run_up_to(rt, rt.alloc(), &mut engine, LAST_JOIN);
     const NEXT: &Told<'static> = &(&[5], " wrote 1 from 0[0 read from 0: host=5]");
-    expect_frame(&rt, &mut engine, 2, NEXT);
-    expect_eq(&rt, engine.frames_run(), LAST_JOIN + 1);
+    expect_frame(rt, &mut engine, 2, NEXT);
+    expect_eq(rt, engine.frames_run(), LAST_JOIN + 1);
     drop(engine);
 }

@@ -184,12 +184,13 @@ fn replay_two<S: SystemOf<Value = i64>>(
 
 #[test]
 fn a_replayed_frame(rt: HostRuntime) -> Result<(), Fail> {
-    let mut engine = engine_for(&rt, rt.alloc(), LAG)?;
+    let rt = &rt;
+    let mut engine = engine_for(rt, rt.alloc(), LAG)?;
     let mut replayed = 0;
-    let came = replay_two(&rt, &mut engine, &mut replayed);
-    let is_refused = is_refused(&rt, &mut engine, replayed, came);
+    let came = replay_two(rt, &mut engine, &mut replayed);
+    let is_refused = is_refused(rt, &mut engine, replayed, came);
     drop(engine);
-    tell(&rt, is_refused)
+    tell(rt, is_refused)
 }
 
 /// What is to be an engine whose rules are against the order of addition.
@@ -237,15 +238,16 @@ fn ran(rt: &impl Abort, came: Result<(), RunFault>) -> Result<(), NoMemory> {
 /// If there is no memory for an engine there is none.
 #[test]
 fn a_new_engine(rt: HostRuntime) -> Result<(), Fail> {
-    let systems = contradictory(&rt, rt.alloc())?;
+    let rt = &rt;
+    let systems = contradictory(rt, rt.alloc())?;
     let world = World::new(rt.alloc(), &[10, 10], &[])?;
-    let Ok(mut engine) = made(&rt, systems.build(world)) else {
-        return tell(&rt, true);
+    let Ok(mut engine) = made(rt, systems.build(world)) else {
+        return tell(rt, true);
     };
-    let came = expect_settled(&rt, &mut engine);
+    let came = expect_settled(rt, &mut engine);
     drop(engine);
-    ran(&rt, came)?;
-    tell(&rt, false)
+    ran(rt, came)?;
+    tell(rt, false)
 }
 
 /// What the readers were given, and whether that was refused memory. A second call gives it then.
@@ -282,8 +284,9 @@ fn are_accounts_refused(
 /// If there is no memory for the accounts nothing has changed: a second call gives them.
 #[test]
 fn accounts(rt: HostRuntime) -> Result<(), Fail> {
-    let mut engine = engine_for(&rt, rt.alloc(), LAG)?;
-    let is_refused = are_accounts_refused(&rt, &mut engine);
+    let rt = &rt;
+    let mut engine = engine_for(rt, rt.alloc(), LAG)?;
+    let is_refused = are_accounts_refused(rt, &mut engine);
     drop(engine);
-    tell(&rt, is_refused?)
+    tell(rt, is_refused?)
 }

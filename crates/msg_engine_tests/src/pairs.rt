@@ -198,11 +198,12 @@ mod tests {
 
     #[test]
     fn two_engines(rt: HostRuntime) {
-        let frames = quiet_frames(&rt, rt.alloc(), 3);
-        let workers = (workers(&rt, 1), workers(&rt, 7));
-        let logs = run_both(&rt, rt.alloc(), &frames, workers).expect(&rt, "logs");
-        expect_eq(&rt, logs.0.len(), 3);
-        expect_eq(&rt, &logs.0, &logs.1);
+        let rt = &rt;
+        let frames = quiet_frames(rt, rt.alloc(), 3);
+        let workers = (workers(rt, 1), workers(rt, 7));
+        let logs = run_both(rt, rt.alloc(), &frames, workers).expect(rt, "logs");
+        expect_eq(rt, logs.0.len(), 3);
+        expect_eq(rt, &logs.0, &logs.1);
         drop((frames, logs));
     }
 
@@ -217,23 +218,25 @@ mod tests {
 
     #[test]
     fn a_reader_that_waits(rt: HostRuntime) {
-        let frames = quiet_frames(&rt, rt.alloc(), 3);
-        let logs = run_waking(&rt, rt.alloc(), &frames, workers(&rt, 2)).expect(&rt, "logs");
-        expect_three(&rt, &logs);
+        let rt = &rt;
+        let frames = quiet_frames(rt, rt.alloc(), 3);
+        let logs = run_waking(rt, rt.alloc(), &frames, workers(rt, 2)).expect(rt, "logs");
+        expect_three(rt, &logs);
         drop((frames, logs));
     }
 
     #[test]
     fn a_life(rt: HostRuntime) {
-        let frames = quiet_frames(&rt, rt.alloc(), 2);
+        let rt = &rt;
+        let frames = quiet_frames(rt, rt.alloc(), 2);
         let last = quiet(rt.alloc());
-        let life = run_life(&rt, rt.alloc(), &frames, &last, workers(&rt, 2));
+        let life = run_life(rt, rt.alloc(), &frames, &last, workers(rt, 2));
         drop((frames, last));
-        let (accounts, engine) = life.expect(&rt, "a life");
-        expect_eq(&rt, engine.frames_run(), 3);
+        let (accounts, engine) = life.expect(rt, "a life");
+        expect_eq(rt, engine.frames_run(), 3);
         drop(engine);
         let told = "[1 of 0: start Some(0) got 3 missed 0 cleared 0 place 3]";
-        expect_accounts(&rt, &accounts, told);
+        expect_accounts(rt, &accounts, told);
         drop(accounts);
     }
 }

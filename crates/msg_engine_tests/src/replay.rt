@@ -100,9 +100,10 @@ fn expect_both(rt: &impl Abort, logs: &[Log]) {
 /// accounts.
 #[test]
 fn a_replayed_frame(rt: HostRuntime) {
-    let noted = shared_number(&rt, rt.alloc());
-    run_both(&rt, &noted);
-    run_and_replay(&rt, &noted);
+    let rt = &rt;
+    let noted = shared_number(rt, rt.alloc());
+    run_both(rt, &noted);
+    run_and_replay(rt, &noted);
 }
 
 /// Replays a frame that no system has joined by.
@@ -146,16 +147,17 @@ fn expect_they_join<S: SystemOf<Value = i64>>(
 /// Two readers that join with the third frame, and note their runs.
 #[test]
 fn late_systems(rt: HostRuntime) {
+    let rt = &rt;
     const READERS: &[(Act, Start)] = &[
         ((0, Does::Reads), Start::Zero),
         ((0, Does::Reads), Start::Current),
     ];
-    let noted = shared_number(&rt, rt.alloc());
-    let mut engine = noting_engine(&rt, rt.alloc(), 3, READERS, &noted);
-    expect_post_alone(&rt, &mut engine, &(&[1], " wrote 1 from 0"));
-    expect_post_alone(&rt, &mut engine, &(&[2], " wrote 1 from 1"));
-    expect_they_join(&rt, &mut engine);
+    let noted = shared_number(rt, rt.alloc());
+    let mut engine = noting_engine(rt, rt.alloc(), 3, READERS, &noted);
+    expect_post_alone(rt, &mut engine, &(&[1], " wrote 1 from 0"));
+    expect_post_alone(rt, &mut engine, &(&[2], " wrote 1 from 1"));
+    expect_they_join(rt, &mut engine);
     drop(engine);
     // System 1 ran, and then system 0.
-    expect_noted(&rt, &noted, 21);
+    expect_noted(rt, &noted, 21);
 }
