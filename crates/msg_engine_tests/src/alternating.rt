@@ -4,8 +4,8 @@ ghost use Rattle.msg_exec.specs.Prelude.{IsEngine};
 ghost use Rattle.msg_world.specs.Prelude.{i64_values};
 
 use crate::equal::expect_eq;
-use crate::expecting::replies_of;
-use crate::making::{NUMBERS, add, engine_over, replay, run_frame, try_frame};
+use crate::expecting::{Told, expect_frames};
+use crate::making::{NUMBERS, add, engine_over, replay, try_frame};
 use msg_exec::{EngineBuilder, EngineOf, Log, NoGate, Outcome, Turn};
 use msg_part_tests::numbers::type_no;
 use msg_system::{
@@ -57,24 +57,25 @@ impl Behavior for Alternating {
     }
 }
 
-/// An engine of two of them, the first over the types 0 and 1 and the second over 2 and 3.
-fn engine_of_two(
-    rt: &impl Abort,
-    alloc: Global,
-    writes: u64,
-    conditions: &[Condition],
-    join: u32,
-) -> EngineOf<BehaviorSystem<Alternating>>
+/// An engine of two of them, the first over the types 1 and 2 and the second over 3 and 4.
+fn engine_of_two(rt: &impl Abort, alloc: Global, row: &Row) -> EngineOf<BehaviorSystem<Alternating>>
     ensures engine { IsEngine i64_values
         ⟦<BehaviorSystem<Alternating> as SystemOf>⟧.meaning result }
 {
     let mut systems = EngineBuilder::new(alloc);
-    for here in [0, 2] {
-        let system = system_of(alloc, here, writes);
-        let conditions = Vec::from_slice(alloc, conditions).expect(rt, "conditions");
-        add(rt, &mut systems, system, conditions, join);
+    for here in [1, 3] {
+        let system = system_of(alloc, here, row.writes);
+        let conditions = asked(rt, alloc, row.asks);
+        add(rt, &mut systems, system, conditions, row.join);
     }
     engine_over(rt, alloc, systems, &[200; 5], &[])
+}
+
+/// That a message of the first type is asked for, if so.
+fn asked(rt: &impl Abort, alloc: Global, asks: bool) -> Vec<Condition> {
+    let probe = Probe::OnMessage(type_no(0));
+    let asked = Vec::from_elem(alloc, Condition { nots: 0, probe }, asks as usize);
+    asked.expect(rt, "conditions")
 }
 
 /// One of them, over the type of this number and the next one.
@@ -91,69 +92,75 @@ fn system_of(alloc: Global, here: u32, writes: u64) -> BehaviorSystem<Alternatin
     BehaviorSystem::new(alloc, behavior, access, Start::Zero, 0)
 }
 
-/// What a system wrote in a frame: how many messages to its first type, and how many to its
-/// second; None if it was skipped.
-type Wrote = Option<(usize, usize)>;
-
-/// How many messages of this type were written in this frame.
-fn written(rt: &impl Abort, world: &World, t: TypeNo) -> usize {
-    let messages = world.messages(t).expect(rt, "it is home");
+/// How many messages of the type of this number were written in this frame.
+fn written(rt: &impl Abort, world: &World, number: u32) -> usize
+    requires below { number < 64 }
+{
+    let messages = world.messages(type_no(number)).expect(rt, "it is home");
     messages.current().len()
 }
 
-/// Each system that has joined wrote as `wrote` says, by one op a message.
-fn expect_wrote<S: SystemOf<Value = i64>>(
-    rt: &impl Abort,
-    engine: &EngineOf<S>,
-    log: &Log,
-    wrote: Wrote,
-) {
-    for turn in log.turns.as_slice() {
-        expect_turn(rt, turn, wrote);
-    }
-    let world = engine.world().expect(rt, "a world");
-    expect_written(rt, world, (type_no(0), type_no(1)), wrote);
-    expect_written(rt, world, (type_no(2), type_no(3)), wrote);
-}
-
-/// The turn was skipped, or each op of it wrote one of these messages.
-fn expect_turn(rt: &impl Abort, turn: &Turn, wrote: Wrote) {
-    match (&turn.outcome, wrote) {
-        (Outcome::Ran(replies), Some((first, second))) => {
-            expect_eq(rt, &replies.as_slice().len(), &first.max(second))
-        }
-        (Outcome::Skipped, None) => {}
-        _other => panic!(rt; "skipped or not"),
+/// How many replies the turn has; None if it was skipped.
+fn replies_to(turn: &Turn) -> Option<usize> {
+    match &turn.outcome {
+        Outcome::Ran(replies) => Some(replies.as_slice().len()),
+        Outcome::Skipped => None,
     }
 }
 
-/// These messages were written to the two types of a system.
-fn expect_written(rt: &impl Abort, world: &World, types: (TypeNo, TypeNo), wrote: Wrote) {
-    let both = (written(rt, world, types.0), written(rt, world, types.1));
-    expect_eq(rt, &both, &wrote.unwrap_or((0, 0)));
+/// Each turn has so many replies, or was skipped.
+fn expect_turns(rt: &impl Abort, turns: &[Turn], replies: Option<usize>) {
+    for turn in turns {
+        expect_eq(rt, replies_to(turn), replies);
+    }
 }
 
-/// Runs a frame on `number` workers, or replays it with system 1 before system 0. Each system
-/// writes as `wrote` says.
-fn expect_frame<R: Threads + Sync + Abort + AllocGlobal, S: SystemOf<Value = i64> + Send>(
+/// These messages were written to the two types of each system.
+fn expect_written(rt: &impl Abort, world: &World, wrote: (usize, usize)) {
+    for here in [1, 3] {
+        let both = (written(rt, world, here), written(rt, world, here + 1));
+        expect_eq(rt, both, wrote);
+    }
+}
+
+/// A frame: what is posted, whether it is replayed with system 1 before system 0, how many replies
+/// each turn has, if it isn't skipped, and how many messages each system writes to its first type
+/// and to its second.
+type Frame = (&'static [i64], bool, Option<usize>, (usize, usize));
+
+/// Runs or replays a frame.
+fn log_of<R: Threads + Sync + Abort + AllocGlobal, S: SystemOf<Value = i64> + Send>(
     rt: &R,
     engine: &mut EngineOf<S>,
-    posts: &[(TypeNo, i64)],
     number: u32,
-    is_replayed: bool,
-    wrote: Wrote,
-)
+    frame: Frame,
+) -> Log
     requires engine { IsEngine i64_values S.meaning engine.old }
     ensures engine { IsEngine i64_values S.meaning engine.new }
 {
+    let (posts, is_replayed, _replies, _wrote) = frame;
     let log = if is_replayed {
         replay(rt, engine, posts, &[1, 0])
     } else {
         try_frame(rt, engine, posts, number, &NoGate)
     };
-    let log = log.expect(rt, "a frame");
-    expect_wrote(rt, engine, &log, wrote);
+    log.expect(rt, "a frame")
+}
+
+fn expect_frame<R: Threads + Sync + Abort + AllocGlobal, S: SystemOf<Value = i64> + Send>(
+    rt: &R,
+    engine: &mut EngineOf<S>,
+    number: u32,
+    frame: Frame,
+)
+    requires engine { IsEngine i64_values S.meaning engine.old }
+    ensures engine { IsEngine i64_values S.meaning engine.new }
+{
+    let log = log_of(rt, engine, number, frame);
+    expect_turns(rt, log.turns.as_slice(), frame.2);
     drop(log);
+    let world = engine.world().expect(rt, "a world");
+    expect_written(rt, world, frame.3);
 }
 
 /// Two systems and three frames, of which the second has no message.
@@ -164,79 +171,103 @@ struct Row {
     join: u32,
     /// Whether they ask for a message.
     asks: bool,
-    /// Whether the second frame is replayed.
-    replays: bool,
-    /// What they write in each frame.
-    wrote: [Wrote; 3],
+    frames: &'static [Frame],
 }
 
-const ROWS: [Row; 6] = [
+const ROWS: &[Row] = &[
     Row {
         writes: 1,
         join: 1,
         asks: false,
-        replays: false,
-        wrote: [Some((1, 0)), Some((0, 1)), Some((1, 0))],
+        frames: &[
+            (&[1], false, Some(1), (1, 0)),
+            (&[], false, Some(1), (0, 1)),
+            (&[1], false, Some(1), (1, 0)),
+        ],
     },
     Row {
         writes: 0,
         join: 1,
         asks: false,
-        replays: false,
-        wrote: [Some((0, 0)), Some((0, 0)), Some((0, 0))],
+        frames: &[
+            (&[1], false, Some(0), (0, 0)),
+            (&[], false, Some(0), (0, 0)),
+            (&[1], false, Some(0), (0, 0)),
+        ],
     },
     // never more than 64 messages
     Row {
         writes: 65,
         join: 1,
         asks: false,
-        replays: false,
-        wrote: [Some((64, 0)), Some((0, 64)), Some((64, 0))],
+        frames: &[
+            (&[1], false, Some(64), (64, 0)),
+            (&[], false, Some(64), (0, 64)),
+            (&[1], false, Some(64), (64, 0)),
+        ],
     },
     // nothing before they joined
     Row {
         writes: 1,
         join: 3,
         asks: false,
-        replays: false,
-        wrote: [Some((0, 0)), Some((0, 0)), Some((1, 0))],
+        frames: &[
+            (&[1], false, Some(0), (0, 0)),
+            (&[], false, Some(0), (0, 0)),
+            (&[1], false, Some(1), (1, 0)),
+        ],
     },
     // a skipped turn isn't told: the next one writes as it would have written
     Row {
         writes: 1,
         join: 1,
         asks: true,
-        replays: false,
-        wrote: [Some((1, 0)), None, Some((0, 1))],
+        frames: &[
+            (&[1], false, Some(1), (1, 0)),
+            (&[], false, None, (0, 0)),
+            (&[1], false, Some(1), (0, 1)),
+        ],
     },
     // a replayed turn is told
     Row {
         writes: 1,
         join: 1,
         asks: false,
-        replays: true,
-        wrote: [Some((1, 0)), Some((0, 1)), Some((1, 0))],
+        frames: &[
+            (&[1], false, Some(1), (1, 0)),
+            (&[], true, Some(1), (0, 1)),
+            (&[1], false, Some(1), (1, 0)),
+        ],
     },
 ];
 
-fn expect_row<R: Threads + Sync + Abort + AllocGlobal>(rt: &R, row: &Row, number: u32) {
-    let (t, [first, second, third]) = (type_no(4), row.wrote);
-    let probe = Probe::OnMessage(t);
-    let asked = [Condition { nots: 0, probe }];
-    let asked = &asked[..row.asks as usize];
-    let mut engine = engine_of_two(rt, rt.alloc(), row.writes, asked, row.join);
-    expect_frame(rt, &mut engine, &[(t, 1)], number, false, first);
-    expect_frame(rt, &mut engine, &[], number, row.replays, second);
-    expect_frame(rt, &mut engine, &[(t, 1)], number, false, third);
+/// Runs these frames on `number` workers, and drops the engine.
+fn expect_wrote<R: Threads + Sync + Abort + AllocGlobal, S: SystemOf<Value = i64> + Send>(
+    rt: &R,
+    mut engine: EngineOf<S>,
+    number: u32,
+    frames: &[Frame],
+)
+    requires engine { IsEngine i64_values S.meaning engine }
+{
+    for frame in frames {
+        expect_frame(rt, &mut engine, number, *frame);
+    }
     drop(engine);
+}
+
+/// Runs the frames of the row on each of `NUMBERS` workers.
+fn expect_row<R: Threads + Sync + Abort + AllocGlobal>(rt: &R, row: &Row) {
+    for number in NUMBERS {
+        let engine = engine_of_two(rt, rt.alloc(), row);
+        expect_wrote(rt, engine, number, row.frames);
+    }
 }
 
 #[test]
 fn they_take_turns(rt: HostRuntime) {
-    for row in &ROWS {
-        for number in NUMBERS {
-            expect_row(&rt, row, number);
-        }
+    for row in ROWS {
+        expect_row(&rt, row);
     }
 }
 
@@ -262,54 +293,46 @@ fn engine_of_one(
     engine_over(rt, alloc, systems, &[limit; 2], &[])
 }
 
-/// Runs a frame in which it writes `wrote` messages, and then is told so often that numbers are
-/// spent.
-fn expect_spent<R: Threads + Sync + Abort + AllocGlobal, S: SystemOf<Value = i64> + Send>(
+/// Runs these frames of one of them on each of `NUMBERS` workers.
+fn expect_alone<R: Threads + Sync + Abort + AllocGlobal>(
     rt: &R,
-    engine: &mut EngineOf<S>,
-    number: u32,
-    wrote: u32,
-    spent: u32,
-)
-    requires engine { IsEngine i64_values S.meaning engine.old }
-    ensures engine { IsEngine i64_values S.meaning engine.new }
-{
-    let log = run_frame(rt, engine, &[], number, &NoGate);
-    expect_replies(rt, replies_of(rt, &log, 0), wrote, spent);
-    drop(log);
-}
-
-/// Of so many replies the first tell of writes, and the others that numbers are spent.
-fn expect_replies(rt: &impl Abort, replies: &[Reply], wrote: u32, spent: u32) {
-    expect_eq(rt, &replies.len(), &(wrote as usize + spent as usize));
-    for (k, reply) in replies.iter().enumerate() {
-        expect_eq(rt, &matches!(reply, Reply::Spent), &(k >= wrote as usize));
+    writes: u64,
+    access: Access,
+    limit: u64,
+    frames: &[Told<'_>],
+) {
+    for number in NUMBERS {
+        let engine = engine_of_one(rt, rt.alloc(), writes, access, limit);
+        expect_frames(rt, engine, number, frames);
     }
 }
 
 /// Its second turn would write to a type outside its access: it ends before that.
 #[test]
 fn a_turn_ends_where_it_would_leave_its_access(rt: HostRuntime) {
+    const FRAMES: &[Told<'static>] = &[
+        (&[], "[0 wrote 1 from 0 wrote 1 from 1]"),
+        (&[], "[0]"),
+        (&[], "[0 wrote 1 from 2 wrote 1 from 3]"),
+    ];
     let access = Access::none().with_write_type(type_no(0));
-    for number in NUMBERS {
-        let mut engine = engine_of_one(&rt, rt.alloc(), 2, access, 200);
-        expect_spent(&rt, &mut engine, number, 2, 0);
-        expect_spent(&rt, &mut engine, number, 0, 0);
-        expect_spent(&rt, &mut engine, number, 2, 0);
-        drop(engine);
-    }
+    expect_alone(&rt, 2, access, 200, FRAMES);
 }
 
 /// A turn goes on after a write that meets the limit of its type.
 #[test]
 fn a_turn_goes_on_where_numbers_are_spent(rt: HostRuntime) {
+    const FRAMES: &[Told<'static>] = &[
+        (
+            &[],
+            "[0 wrote 1 from 0 wrote 1 from 1 wrote 1 from 2 Spent]",
+        ),
+        (
+            &[],
+            "[0 wrote 1 from 0 wrote 1 from 1 wrote 1 from 2 Spent]",
+        ),
+        (&[], "[0 Spent Spent Spent Spent]"),
+    ];
     let first = Access::none().with_write_type(type_no(0));
-    let both = first.with_write_type(type_no(1));
-    for number in NUMBERS {
-        let mut engine = engine_of_one(&rt, rt.alloc(), 4, both, 3);
-        expect_spent(&rt, &mut engine, number, 3, 1);
-        expect_spent(&rt, &mut engine, number, 3, 1);
-        expect_spent(&rt, &mut engine, number, 0, 4);
-        drop(engine);
-    }
+    expect_alone(&rt, 4, first.with_write_type(type_no(1)), 3, FRAMES);
 }

@@ -3,7 +3,7 @@ ghost use Rattle.msg_exec.specs.Prelude.{IsEngine};
 ghost use Rattle.msg_world.specs.Prelude.{i64_values};
 
 use crate::equal::expect_eq;
-use crate::expecting::{expect_frame, wrote};
+use crate::expecting::{Told, expect_frames};
 use crate::making::{NUMBERS, add, engine_over};
 use crate::prefaced::{Before, Prefaced, shared_number};
 use msg_exec::{EngineBuilder, EngineOf};
@@ -17,6 +17,7 @@ use std::panic::Expect;
 use std::process::Abort;
 use std::sync::Arc;
 use std::sync::atomic::{AtomicU64, Ordering};
+use std::thread::Threads;
 
 /// Writes the same value to a type, turn after turn.
 #[derive(Drop)]
@@ -81,9 +82,10 @@ fn two_beacons(rt: &impl Abort, alloc: Global, runs: &Arc<AtomicU64>) -> EngineO
     ensures engine { IsEngine i64_values ⟦<Prefaced<Beacon> as SystemOf>⟧.meaning result }
 {
     let mut systems = EngineBuilder::new(alloc);
-    let (one, other) = (counted(rt, type_no(0), runs), counted(rt, type_no(1), runs));
-    add(rt, &mut systems, one, Vec::new(alloc), 1);
-    add(rt, &mut systems, other, Vec::new(alloc), 1);
+    for to in [type_no(0), type_no(1)] {
+        let beacon = counted(rt, to, runs);
+        add(rt, &mut systems, beacon, Vec::new(alloc), 1);
+    }
     engine_over(rt, alloc, systems, &[10, 10], &[])
 }
 
@@ -99,16 +101,20 @@ fn counted(rt: &impl Abort, to: TypeNo, runs: &Arc<AtomicU64>) -> Prefaced<Beaco
     Prefaced { system, before }
 }
 
+fn expect_two<R: Threads + Sync + Abort + AllocGlobal>(rt: &R, number: u32) {
+    const FRAMES: &[Told<'static>] = &[
+        (&[], "[0 wrote 1 from 0][1 wrote 1 from 0]"),
+        (&[], "[0 wrote 1 from 1][1 wrote 1 from 1]"),
+    ];
+    let runs = shared_number(rt, rt.alloc());
+    let engine = two_beacons(rt, rt.alloc(), &runs);
+    expect_frames(rt, engine, number, FRAMES);
+    expect_eq(rt, runs.load(Ordering::SeqCst), 4);
+}
+
 #[test]
 fn a_system_of_ones_own(rt: HostRuntime) {
     for number in NUMBERS {
-        let runs = shared_number(&rt, rt.alloc());
-        let mut engine = two_beacons(&rt, rt.alloc(), &runs);
-        let steps = [wrote(0, 0), wrote(1, 0)];
-        expect_frame(&rt, &mut engine, number, &[], &[], &steps);
-        let steps = [wrote(0, 1), wrote(1, 1)];
-        expect_frame(&rt, &mut engine, number, &[], &[], &steps);
-        drop(engine);
-        expect_eq(&rt, &runs.load(Ordering::SeqCst), &4);
+        expect_two(&rt, number);
     }
 }

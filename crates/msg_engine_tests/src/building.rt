@@ -3,128 +3,195 @@ ghost use Rattle.msg_exec.specs.Prelude.{IsEngine};
 ghost use Rattle.msg_world.specs.Prelude.{i64_values};
 
 use crate::equal::{expect_eq, expect_text};
-use crate::expecting::{expect_frame, posted, read};
-use crate::making::{add, engine_of, reader};
-use msg_exec::{Account, BuildError, BuildRefusal, EngineBuilder, EngineOf, Workers};
+use crate::expecting::expect_frame;
+use crate::making::{Act, Does, add, engine_of, reader};
+use crate::told::expect_engine;
+use msg_exec::{BuildError, BuildRefusal, EngineBuilder, EngineOf, Workers};
 use msg_order::Rule;
 use msg_part_tests::numbers::type_no;
-use msg_system::{Op, Scripted, Start, SystemOf};
+use msg_system::{Scripted, Start, SystemOf};
 use msg_world::World;
 use std::alloc::Global;
 use std::panic::Expect;
 use std::process::Abort;
 
-/// An engine of two readers, of which one starts at 0 and one at the count, in a world with one
-/// message.
+/// Two readers, of which one starts at 0 and one at the count.
+fn two_readers(rt: &impl Abort, alloc: Global) -> EngineBuilder<Scripted> {
+    let mut systems = EngineBuilder::new(alloc);
+    for start in [Start::Zero, Start::Current] {
+        let reader = reader(rt, alloc, start);
+        add(rt, &mut systems, reader, Vec::new(alloc), 1);
+    }
+    systems
+}
+
+/// An engine of the two in a world with one message.
 fn readers_after_a_post(rt: &impl Abort, alloc: Global) -> EngineOf<Scripted>
     ensures engine { IsEngine i64_values ⟦<Scripted as SystemOf>⟧.meaning result }
 {
     let t = type_no(0);
-    let mut systems = EngineBuilder::new(alloc);
-    let (from_zero, from_count) = (Start::Zero, Start::Current);
-    add(
-        rt,
-        &mut systems,
-        reader(rt, alloc, from_zero),
-        Vec::new(alloc),
-        1,
-    );
-    add(
-        rt,
-        &mut systems,
-        reader(rt, alloc, from_count),
-        Vec::new(alloc),
-        1,
-    );
     let mut world = World::new(alloc, &[10], &[]).expect(rt, "a world");
     assert!(rt; world.messages(t).is_some());
-    expect_eq(rt, &world.post(t, 5).is_ok(), &true);
+    world.post(t, 5).expect(rt, "a post");
+    let systems = two_readers(rt, alloc);
     systems.build(world).expect(rt, "an engine")
 }
 
 /// The first frame in a world that had a message before the engine was made.
 #[test]
 fn starts_in_a_world_with_a_message(rt: HostRuntime) {
-    let mut engine = readers_after_a_post(&rt, rt.alloc());
-    let five = [posted(5)];
-    let steps = [read(0, 0, &five), read(1, 1, &[])];
-    expect_frame(&rt, &mut engine, 1, &[], &[], &steps);
-    let accounts = engine.accounts().expect(&rt, "accounts");
+    let rt = &rt;
+    let mut engine = readers_after_a_post(rt, rt.alloc());
+    let told = "[0 read from 0: host=5][1 read from 1:]";
+    expect_frame(rt, &mut engine, 1, &(&[], told));
+    let told = "1 frames, from 0 to 1: host=5\
+        [0 of 0: start Some(0) got 1 missed 0 cleared 0 place 1]\
+        [1 of 0: start Some(1) got 0 missed 0 cleared 0 place 1]";
+    expect_engine(rt, &engine, told);
     drop(engine);
-    expect_starts(&rt, accounts.as_slice());
-    drop(accounts);
-}
-
-/// The first reader started at 0, and the second at 1.
-fn expect_starts(rt: &impl Abort, accounts: &[Account]) {
-    let [zero, current] = accounts else {
-        panic!(rt; "two readers")
-    };
-    expect_eq(rt, &(zero.start, current.start), &(Some(0), Some(1)));
 }
 
 /// No engine is made of these scripts under these rules, and it is said why.
-fn expect_refused(rt: &impl Abort, alloc: Global, ops: &[Op], rules: &[Rule], want: &str) {
-    let refused = engine_of(rt, alloc, &[10, 10], ops, rules).err();
-    let refused = refused.expect(rt, want);
-    let refused = format!(in alloc; "{refused:?}").expect(rt, "a text");
-    expect_eq(rt, &refused.as_str(), &want);
+struct Refused {
+    acts: &'static [Act],
+    rules: &'static [Rule],
+    why: &'static str,
 }
 
+const WAITING: &[Act] = &[
+    (0, Does::Writes(1)),
+    (1, Does::Writes(2)),
+    (1, Does::Reads),
+    (0, Does::Reads),
+];
+
 /// A clash comes before a cycle, and of rules that go round the lowest system is named.
+const REFUSED: &[Refused] = &[
+    Refused {
+        acts: &[(0, Does::Forwards)],
+        rules: &[Rule {
+            earlier: 0,
+            later: 0,
+        }],
+        why: "system 0 reads and writes one type or resource",
+    },
+    Refused {
+        acts: &[(0, Does::Reads)],
+        rules: &[Rule {
+            earlier: 0,
+            later: 0,
+        }],
+        why: "the rules go round in a circle through system 0",
+    },
+    Refused {
+        acts: WAITING,
+        rules: &[
+            Rule {
+                earlier: 0,
+                later: 1,
+            },
+            Rule {
+                earlier: 1,
+                later: 0,
+            },
+        ],
+        why: "the rules go round in a circle through system 0",
+    },
+    Refused {
+        acts: WAITING,
+        rules: &[Rule {
+            earlier: 1,
+            later: 1,
+        }],
+        why: "the rules go round in a circle through system 1",
+    },
+    Refused {
+        acts: WAITING,
+        rules: &[Rule {
+            earlier: 3,
+            later: 3,
+        }],
+        why: "the rules go round in a circle through system 3",
+    },
+    Refused {
+        acts: &[(0, Does::Reads), (0, Does::Forwards)],
+        rules: &[Rule {
+            earlier: 0,
+            later: 0,
+        }],
+        why: "system 1 reads and writes one type or resource",
+    },
+];
+
+fn expect_refused(rt: &(impl Abort + AllocGlobal), row: &Refused) {
+    let refused = engine_of(rt, rt.alloc(), 10, row.acts, row.rules).err();
+    let refused = refused.expect(rt, row.why);
+    expect_text(rt, &refused, row.why);
+    drop(refused);
+}
+
 #[test]
 fn refused_engines(rt: HostRuntime) {
-    let (alloc, t, u) = (rt.alloc(), type_no(0), type_no(1));
-    let (clash, alone) = ([Op::Forward(t, t)], [Op::Read(t, None)]);
-    let waiting = [
-        Op::Write(t, 1),
-        Op::Write(u, 2),
-        Op::Read(u, None),
-        Op::Read(t, None),
-    ];
-    let later = [Op::Read(t, None), Op::Forward(t, t)];
-    let (own, next) = ([Rule::before(0, 0)], [Rule::before(1, 1)]);
-    let around = [Rule::before(0, 1), Rule::before(1, 0)];
-    expect_refused(&rt, alloc, &clash, &own, "Refused(Clash(0))");
-    expect_refused(&rt, alloc, &alone, &own, "Refused(Cycle(0))");
-    expect_refused(&rt, alloc, &waiting, &around, "Refused(Cycle(0))");
-    expect_refused(&rt, alloc, &waiting, &next, "Refused(Cycle(1))");
-    let last = [Rule::before(3, 3)];
-    expect_refused(&rt, alloc, &waiting, &last, "Refused(Cycle(3))");
-    expect_refused(&rt, alloc, &later, &own, "Refused(Clash(1))");
+    for row in REFUSED {
+        expect_refused(&rt, row);
+    }
 }
 
 #[test]
 fn refusals_say_why(rt: HostRuntime) {
-    let clash = "system 1 reads and writes one type or resource";
-    expect_text(&rt, &BuildRefusal::Clash(1), clash);
-    let cycle = "the rules go round in a circle through system 2";
-    expect_text(&rt, &BuildRefusal::Cycle(2), cycle);
-    expect_text(&rt, &BuildRefusal::NoMemory, "want of memory");
+    const ROWS: &[(BuildRefusal, &str)] = &[
+        (
+            BuildRefusal::Clash(1),
+            "system 1 reads and writes one type or resource",
+        ),
+        (
+            BuildRefusal::Cycle(2),
+            "the rules go round in a circle through system 2",
+        ),
+        (BuildRefusal::NoMemory, "want of memory"),
+    ];
+    for (refusal, why) in ROWS {
+        expect_text(&rt, refusal, why);
+    }
 }
 
 #[test]
 fn builders_say_why(rt: HostRuntime) {
-    let full = "there are 256 systems, and an engine has no more";
-    expect_text(&rt, &BuildError::Full, full);
-    let join = "a system can't join with frame 0, but with one from 1 to 10000";
-    expect_text(&rt, &BuildError::BadJoin(0), join);
-    let misfit = "system 7 or a condition of it reads or writes what the world hasn't got";
-    expect_text(&rt, &BuildError::Misfit(7), misfit);
-    let unknown = BuildError::UnknownSystem(Rule::before(3, 9));
-    expect_text(
-        &rt,
-        &unknown,
-        "no system 3, or no system 9, which a rule names",
-    );
-    let refused = BuildError::Refused(BuildRefusal::NoMemory);
-    expect_text(&rt, &refused, "want of memory");
+    const ROWS: &[(BuildError, &str)] = &[
+        (
+            BuildError::Full,
+            "there are 256 systems, and an engine has no more",
+        ),
+        (
+            BuildError::BadJoin(0),
+            "a system can't join with frame 0, but with one from 1 to 10000",
+        ),
+        (
+            BuildError::Misfit(7),
+            "system 7 or a condition of it reads or writes what the world hasn't got",
+        ),
+        (
+            BuildError::UnknownSystem(Rule {
+                earlier: 3,
+                later: 9,
+            }),
+            "no system 3, or no system 9, which a rule names",
+        ),
+        (
+            BuildError::Refused(BuildRefusal::NoMemory),
+            "want of memory",
+        ),
+    ];
+    for (error, why) in ROWS {
+        expect_text(&rt, error, why);
+    }
 }
 
 #[test]
 fn numbers_of_workers(rt: HostRuntime) {
-    for (number, is_there) in [(0, false), (1, true), (64, true), (65, false)] {
-        let found = Workers::new(number).is_some();
-        expect_eq(&rt, &(number, found), &(number, is_there));
+    const ROWS: &[(u32, bool)] = &[(0, false), (1, true), (64, true), (65, false)];
+    for row in ROWS {
+        let found = Workers::new(row.0).is_some();
+        expect_eq(&rt, (row.0, found), *row);
     }
 }

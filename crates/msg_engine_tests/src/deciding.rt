@@ -4,40 +4,23 @@ ghost use Rattle.msg_world.specs.Prelude.{i64_values};
 
 use crate::adders::Adder;
 use crate::equal::expect_eq;
-use crate::expecting::by;
 use crate::making::{NUMBERS, add, engine_over, run_frame};
 use msg_exec::{EngineBuilder, EngineOf, NoGate};
 use msg_part_tests::numbers::type_no;
 use msg_system::{Access, BehaviorSystem, Start, SystemOf};
-use msg_world::{TypeNo, World};
+use msg_world::{Record, World};
 use std::alloc::Global;
 use std::panic::Expect;
 use std::process::Abort;
 use std::thread::Threads;
 
-/// Runs a frame with these posts on `number` workers, in which just these values are written to
-/// the second type.
-fn expect_frame_writes<R: Threads + Sync + Abort + AllocGlobal>(
-    rt: &R,
-    engine: &mut EngineOf<BehaviorSystem<Adder>>,
-    number: u32,
-    posts: &[(TypeNo, i64)],
-    values: &[i64],
-)
-    requires engine { IsEngine i64_values ⟦<BehaviorSystem<Adder> as SystemOf>⟧.meaning engine.old }
-    ensures engine { IsEngine i64_values ⟦<BehaviorSystem<Adder> as SystemOf>⟧.meaning engine.new }
-{
-    drop(run_frame(rt, engine, posts, number, &NoGate));
-    expect_written(rt, engine.world().expect(rt, "a world"), values);
-}
-
-/// Just these values were written to the second type in this frame.
-fn expect_written(rt: &impl Abort, world: &World, values: &[i64]) {
+/// This was written to the second type in this frame.
+fn expect_written(rt: &impl Abort, world: &World, want: &[Record]) {
     let messages = world.messages(type_no(1)).expect(rt, "type 1 is home");
     let written = messages.current();
-    expect_eq(rt, &written.len(), &values.len());
-    for (instance, value) in written.iter().zip(values) {
-        expect_eq(rt, &instance.message, &by(0, *value));
+    expect_eq(rt, written.len(), want.len());
+    for instance in written {
+        expect_eq(rt, want.first(), Some(&instance.message));
     }
 }
 
@@ -54,14 +37,43 @@ fn engine_of_one(rt: &impl Abort, alloc: Global) -> EngineOf<BehaviorSystem<Adde
     engine_over(rt, alloc, systems, &[10, 10], &[])
 }
 
+/// What is posted in each frame, and the one message that is written then, if any.
+const FRAMES: &[(&[i64], &[Record])] = &[
+    (
+        &[5, 6],
+        &[Record {
+            writer: 0,
+            value: 11,
+        }],
+    ),
+    (&[], &[]),
+    (
+        &[5],
+        &[Record {
+            writer: 0,
+            value: 16,
+        }],
+    ),
+];
+
+/// Runs these frames on `number` workers, and drops the engine.
+fn expect_sums<R: Threads + Sync + Abort + AllocGlobal, S: SystemOf<Value = i64> + Send>(
+    rt: &R,
+    mut engine: EngineOf<S>,
+    number: u32,
+)
+    requires engine { IsEngine i64_values S.meaning engine }
+{
+    for frame in FRAMES {
+        drop(run_frame(rt, &mut engine, frame.0, number, &NoGate));
+        expect_written(rt, engine.world().expect(rt, "a world"), frame.1);
+    }
+    drop(engine);
+}
+
 #[test]
 fn a_sum_goes_out_in_its_turn(rt: HostRuntime) {
-    let two = [(type_no(0), 5), (type_no(0), 6)];
     for number in NUMBERS {
-        let mut engine = engine_of_one(&rt, rt.alloc());
-        expect_frame_writes(&rt, &mut engine, number, &two, &[11]);
-        expect_frame_writes(&rt, &mut engine, number, &[], &[]);
-        expect_frame_writes(&rt, &mut engine, number, &two[..1], &[16]);
-        drop(engine);
+        expect_sums(&rt, engine_of_one(&rt, rt.alloc()), number);
     }
 }

@@ -3,13 +3,13 @@ ghost use Rattle.msg_exec.specs.Prelude.{IsEngine};
 ghost use Rattle.msg_world.specs.Prelude.{i64_values};
 
 use crate::equal::expect_eq;
-use crate::expecting::{expect_log, posted, read};
+use crate::expecting::replies_of;
 use crate::gates::{FirstGate, HoldGate, MeetGate, NotingGate, OneByOne};
-use crate::making::{frame_of, readers, run_frame, run_frames};
+use crate::making::{Act, Does, frame_of, readers, run_frame, run_frames};
 use crate::prefaced::{add_counts, noting_engine, prefaced_readers, shared_number};
+use crate::told::expect_replies;
 use msg_exec::{EngineOf, Gate, Log};
-use msg_part_tests::numbers::type_no;
-use msg_system::{Op, Scripted, Start, SystemOf};
+use msg_system::{Scripted, Start, SystemOf};
 use std::panic::Expect;
 use std::process::Abort;
 use std::sync::atomic::Ordering;
@@ -18,7 +18,9 @@ use std::thread::Threads;
 /// How many readers there are, on how many workers they run, and which of them the gate holds until
 /// it was called for all readers. If it holds all, each worker has a thread and a number of its
 /// own.
-const ROWS: [(u32, u32, [bool; 5]); 7] = [
+type Row = (u32, u32, [bool; 5]);
+
+const ROWS: &[Row] = &[
     (3, 2, [true, false, false, false, false]),
     (3, 2, [false, true, false, false, false]),
     (3, 2, [false, false, true, false, false]),
@@ -28,64 +30,79 @@ const ROWS: [(u32, u32, [bool; 5]); 7] = [
     (5, 5, [true; 5]),
 ];
 
-/// Each of the readers read this message, and none before it in its frame.
-fn expect_reads(rt: &impl Abort, log: &Log, number: u32, first: u64, value: i64) {
-    let records = [posted(value)];
-    let all = [
-        read(0, first, &records),
-        read(1, first, &records),
-        read(2, first, &records),
-        read(3, first, &records),
-        read(4, first, &records),
-    ];
-    assert!(rt; number <= 5);
-    expect_log(rt, log, &[first], &all[..number as usize]);
+/// The post tells the first of two texts, and each reader, in order of addition, the second.
+fn expect_reads(rt: &impl Abort, log: &Log, number: u32, (post, reads): (&str, &str)) {
+    expect_replies(rt, log.posts.as_slice(), post);
+    expect_eq(rt, log.turns.as_slice().len(), number as usize);
+    for system in 0..number {
+        let turn = log.turns.as_slice().get(system as usize);
+        expect_eq(rt, turn.expect(rt, "a turn").system, system);
+        expect_replies(rt, replies_of(rt, log, system as usize), reads);
+    }
 }
 
-/// The first frame runs by `run_frame`: its workers start one another. The second runs by
-/// `run_frames`: if the other workers ran at least half of the first frame's jobs, the first worker
-/// starts them all at once.
-fn expect_row<R: Threads + Sync + Abort + AllocGlobal>(
+/// The first frame runs by `run_frame`: its workers start one another.
+fn expect_first<R: Threads + Sync + Abort + AllocGlobal>(
     rt: &R,
+    engine: &mut EngineOf<Scripted>,
     number: u32,
     workers: u32,
-    held: [bool; 5],
-) {
-    let mut engine = readers(rt, rt.alloc(), number);
-    let gate = HoldGate::new(workers, held, number as u64);
-    let log = run_frame(rt, &mut engine, &[(type_no(0), 5)], workers, &gate);
+    gate: &HoldGate,
+)
+    requires engine { IsEngine i64_values ⟦<Scripted as SystemOf>⟧.meaning engine.old }
+    ensures engine { IsEngine i64_values ⟦<Scripted as SystemOf>⟧.meaning engine.new }
+{
+    let log = run_frame(rt, engine, &[5], workers, gate);
     gate.expect_met(rt, number as u64);
-    expect_reads(rt, &log, number, 0, 5);
-    drop(log);
-    let gate = HoldGate::new(workers, held, number as u64);
-    let log = run_one(rt, engine, 6, workers, &gate);
-    gate.expect_met(rt, number as u64);
-    expect_reads(rt, &log, number, 1, 6);
+    expect_reads(
+        rt,
+        &log,
+        number,
+        (" wrote 1 from 0", " read from 0: host=5"),
+    );
     drop(log);
 }
 
-/// Runs a frame with a post of this value by `run_frames`.
-fn run_one<R: Threads + Sync + Abort + AllocGlobal>(
+/// The second frame runs by `run_frames`: if the other workers ran at least half of the first
+/// frame's jobs, the first worker starts them all at once.
+fn expect_second<R: Threads + Sync + Abort + AllocGlobal>(
     rt: &R,
-    mut engine: EngineOf<Scripted>,
-    value: i64,
+    engine: &mut EngineOf<Scripted>,
+    number: u32,
     workers: u32,
     gate: &HoldGate,
-) -> Log
-    requires engine { IsEngine i64_values ⟦<Scripted as SystemOf>⟧.meaning engine }
+)
+    requires engine { IsEngine i64_values ⟦<Scripted as SystemOf>⟧.meaning engine.old }
 {
-    let frames = [frame_of(rt, rt.alloc(), &[(type_no(0), value)])];
+    let frames = [frame_of(rt, rt.alloc(), &[6])];
     let mut logs = Vec::new(rt.alloc());
-    let ran = run_frames(rt, &mut engine, &frames, workers, gate, &mut logs);
-    drop(engine);
+    let ran = run_frames(rt, engine, &frames, workers, gate, &mut logs);
     ran.expect(rt, "frames");
-    logs.pop().expect(rt, "a log")
+    gate.expect_met(rt, number as u64);
+    let log = logs.pop().expect(rt, "a log");
+    expect_reads(
+        rt,
+        &log,
+        number,
+        (" wrote 1 from 1", " read from 1: host=6"),
+    );
+    drop((log, logs, frames));
+}
+
+fn expect_row<R: Threads + Sync + Abort + AllocGlobal>(rt: &R, row: &Row) {
+    let (number, workers, held) = *row;
+    let mut engine = readers(rt, rt.alloc(), number);
+    let gate = HoldGate::new(workers, held, number as u64);
+    expect_first(rt, &mut engine, number, workers, &gate);
+    let gate = HoldGate::new(workers, held, number as u64);
+    expect_second(rt, &mut engine, number, workers, &gate);
+    drop(engine);
 }
 
 #[test]
 fn readers_run_side_by_side(rt: HostRuntime) {
-    for (number, workers, held) in ROWS {
-        expect_row(&rt, number, workers, held);
+    for row in ROWS {
+        expect_row(&rt, row);
     }
 }
 
@@ -111,19 +128,23 @@ fn one_worker_takes_them_one_by_one(rt: HostRuntime) {
     }
 }
 
-/// Of five readers that may run side by side none runs before the gate was called for it.
+/// Runs five readers that may run side by side, none before the gate was called for it.
+fn expect_gate_first<R: Threads + Sync + Abort + AllocGlobal>(rt: &R, workers: u32) {
+    let runs = shared_number(rt, rt.alloc());
+    let mut all = Vec::new(rt.alloc());
+    add_counts(rt, &mut all, 5, &runs);
+    let mut engine = prefaced_readers(rt, rt.alloc(), all);
+    let gate = FirstGate::new(&runs);
+    drop(run_frame(rt, &mut engine, &[], workers, &gate));
+    drop(engine);
+    gate.expect_first(rt, 5);
+    expect_eq(rt, runs.load(Ordering::SeqCst), 5);
+}
+
 #[test]
 fn the_gate_comes_first_on_a_board(rt: HostRuntime) {
     for workers in [1, 2, 5] {
-        let runs = shared_number(&rt, rt.alloc());
-        let mut all = Vec::new(rt.alloc());
-        add_counts(&rt, &mut all, 5, &runs);
-        let mut engine = prefaced_readers(&rt, rt.alloc(), all);
-        let gate = FirstGate::new(&runs);
-        drop(run_frame(&rt, &mut engine, &[], workers, &gate));
-        drop(engine);
-        gate.expect_first(&rt, 5);
-        expect_eq(&rt, &runs.load(Ordering::SeqCst), &5);
+        expect_gate_first(&rt, workers);
     }
 }
 
@@ -140,16 +161,16 @@ fn readers_meet(rt: HostRuntime) {
 
 #[test]
 fn the_gate_is_called_before_the_system_runs(rt: HostRuntime) {
-    let (alloc, t) = (rt.alloc(), type_no(0));
-    let noted = shared_number(&rt, alloc);
-    let ops = [
-        (Op::Read(t, None), Start::Zero),
-        (Op::Write(t, 1), Start::Zero),
+    let rt = &rt;
+    const ACTS: &[(Act, Start)] = &[
+        ((0, Does::Reads), Start::Zero),
+        ((0, Does::Writes(1)), Start::Zero),
     ];
-    let mut engine = noting_engine(&rt, alloc, 1, &ops, &noted);
+    let noted = shared_number(rt, rt.alloc());
+    let mut engine = noting_engine(rt, rt.alloc(), 1, ACTS, &noted);
     let gate = NotingGate { noted: &noted };
-    drop(run_frame(&rt, &mut engine, &[], 2, &gate));
+    drop(run_frame(rt, &mut engine, &[], 2, &gate));
     drop(engine);
     // The gate notes 9, and system i notes i + 1: gate, system 0, gate, system 1.
-    expect_eq(&rt, &noted.load(Ordering::SeqCst), &9192);
+    expect_eq(rt, noted.load(Ordering::SeqCst), 9192);
 }

@@ -29,7 +29,7 @@ fn count(calls: &AtomicU64) {
 
 /// So many calls were counted.
 fn expect_count(rt: &impl Abort, calls: &AtomicU64, number: u64) {
-    expect_eq(rt, &calls.load(Ordering::SeqCst), &number);
+    expect_eq(rt, calls.load(Ordering::SeqCst), number);
 }
 
 impl HoldGate {
@@ -53,7 +53,7 @@ impl HoldGate {
         let clashes = self.clashes.load(Ordering::SeqCst);
         let came = self.came.load(Ordering::SeqCst);
         let held = self.held;
-        expect_eq(rt, &(held, limits_met, clashes, came), &(held, 0, 0, calls));
+        expect_eq(rt, (held, limits_met, clashes, came), (held, 0, 0, calls));
     }
 
     fn hold(&self) {

@@ -43,3 +43,5 @@ mod prefaced;
 mod replay;
 #[cfg(test)]
 mod spoiled;
+#[cfg(test)]
+mod told;

@@ -43,38 +43,77 @@ impl Host for Giver {
     }
 }
 
-/// A loop of `most` frames at most comes to this, and then so many frames were run. The engine can
-/// go on.
-fn expect_end<R: Threads + Sync + Abort + AllocGlobal>(
-    rt: &R,
-    most: u64,
-    mut host: Giver,
-    came: Result<(), LoopFault>,
-    run: u32,
-) {
+/// How many frames a loop runs at most, its host, what it comes to, and how many frames were run
+/// then.
+type Row = (u64, Giver, Result<(), LoopFault>, u32);
+
+const ROWS: &[Row] = &[
+    (
+        9,
+        Giver {
+            frames: 2,
+            then: Then::Ends,
+        },
+        Ok(()),
+        2,
+    ),
+    (
+        2,
+        Giver {
+            frames: 3,
+            then: Then::Ends,
+        },
+        Ok(()),
+        2,
+    ),
+    (
+        9,
+        Giver {
+            frames: 1,
+            then: Then::PostsToNoType,
+        },
+        Err(LoopFault::Misfit),
+        1,
+    ),
+    (
+        9,
+        Giver {
+            frames: 1,
+            then: Then::HasNoMemory,
+        },
+        Err(LoopFault::Host),
+        1,
+    ),
+];
+
+/// The loop ends so, and the engine can go on.
+fn expect_end<R: Threads + Sync + Abort + AllocGlobal>(rt: &R, row: &Row) {
+    let (most, mut host, came, run) = *row;
     let mut engine = readers(rt, rt.alloc(), 1);
     let ended = engine.run_loop(rt, &mut host, most, workers(rt, 1));
     let found = (ended, engine.frames_run(), engine.world().is_some());
     drop(engine);
-    expect_eq(rt, &found, &(came, run, true));
+    expect_eq(rt, found, (came, run, true));
 }
 
 #[test]
 fn a_loop_ends_as_its_host_says(rt: HostRuntime) {
-    let giver = |frames, then| Giver { frames, then };
-    expect_end(&rt, 9, giver(2, Then::Ends), Ok(()), 2);
-    expect_end(&rt, 2, giver(3, Then::Ends), Ok(()), 2);
-    let misfit = Err(LoopFault::Misfit);
-    expect_end(&rt, 9, giver(1, Then::PostsToNoType), misfit, 1);
-    expect_end(&rt, 9, giver(1, Then::HasNoMemory), Err(LoopFault::Host), 1);
+    for row in ROWS {
+        expect_end(&rt, row);
+    }
 }
 
 #[test]
 fn loop_faults_say_why(rt: HostRuntime) {
-    let misfit = "a post is to a type that the world hasn't got";
-    expect_text(&rt, &LoopFault::Misfit, misfit);
-    let host = "want of memory for the next frame";
-    expect_text(&rt, &LoopFault::Host, host);
-    let run = LoopFault::Run(RunFault::Spoiled);
-    expect_text(&rt, &run, "the engine is spoiled");
+    const WHY: &[(LoopFault, &str)] = &[
+        (
+            LoopFault::Misfit,
+            "a post is to a type that the world hasn't got",
+        ),
+        (LoopFault::Host, "want of memory for the next frame"),
+        (LoopFault::Run(RunFault::Spoiled), "the engine is spoiled"),
+    ];
+    for (fault, why) in WHY {
+        expect_text(&rt, fault, why);
+    }
 }

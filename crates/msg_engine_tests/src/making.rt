@@ -12,50 +12,63 @@ use msg_world::{MAX_RESOURCES, MAX_TYPES, TypeNo, Value, World};
 use std::alloc::Global;
 use std::panic::Expect;
 use std::process::Abort;
-use std::slice;
 use std::thread::Threads;
 
 /// How many workers the worked runs are run on.
 pub const NUMBERS: [u32; 4] = [1, 2, 7, 64];
 
-fn add_copies<V: Value>(
-    alloc: Global,
-    copies: &mut Vec<Op<V>>,
-    ops: &[Op<V>],
-) -> Result<(), NoMemory> {
-    for op in ops {
-        copies.push(op.copy(alloc)?)?;
-    }
-    Ok(())
+/// What a script does to a type by its one op.
+#[derive(Clone, Copy)]
+pub enum Does {
+    Reads,
+    /// Reads at most so many messages.
+    ReadsAtMost(u64),
+    Writes(i64),
+    /// Writes the values from the first one to below the second, as one batch.
+    WritesFrom(i64, i64),
+    /// Forwards to the type that it reads.
+    Forwards,
+    Drains,
 }
 
-/// A script of these ops.
-pub fn script<V: Value>(
-    rt: &impl Abort,
-    alloc: Global,
-    ops: &[Op<V>],
-    start: Start,
-) -> Result<Scripted<V>, NoMemory> {
-    let mut copies = Vec::new(alloc);
-    add_copies(alloc, &mut copies, ops)?;
-    let ops = Items::from_vec(copies);
-    assert!(rt; ops.as_slice().len() <= MAX_OPS);
+/// The number of a type, and what is done to it.
+pub type Act = (u32, Does);
+
+fn op_of(rt: &impl Abort, alloc: Global, act: Act) -> Result<Op, NoMemory> {
+    let t = TypeNo::new(act.0).expect(rt, "a type");
+    Ok(match act.1 {
+        Does::Reads => Op::Read(t, None),
+        Does::ReadsAtMost(most) => Op::Read(t, Some(most)),
+        Does::Writes(value) => Op::Write(t, value),
+        Does::WritesFrom(first, end) => {
+            Op::Batch(t, Items::from_vec((first..end).collect(alloc)?))
+        }
+        Does::Forwards => Op::Forward(t, t),
+        Does::Drains => Op::Drain(t),
+    })
+}
+
+/// A script of this act.
+fn script(rt: &impl Abort, alloc: Global, act: Act, start: Start) -> Result<Scripted, NoMemory> {
+    let ops = Items::from_vec(vec![in alloc; op_of(rt, alloc, act)?]?);
     Ok(Scripted::new(Program { ops, start }, 0))
 }
 
-/// A script of these ops, if there is memory for it.
-pub fn scripted<V: Value>(
-    rt: &impl Abort,
-    alloc: Global,
-    ops: &[Op<V>],
-    start: Start,
-) -> Scripted<V> {
-    script(rt, alloc, ops, start).expect(rt, "a script")
+/// A script of this act, if there is memory for it.
+pub fn acting(rt: &impl Abort, alloc: Global, act: Act, start: Start) -> Scripted {
+    script(rt, alloc, act, start).expect(rt, "a script")
+}
+
+/// A script of these ops.
+pub fn scripted<V: Value>(rt: &impl Abort, ops: Vec<Op<V>>, start: Start) -> Scripted<V> {
+    assert!(rt; ops.len() <= MAX_OPS);
+    let ops = Items::from_vec(ops);
+    Scripted::new(Program { ops, start }, 0)
 }
 
 /// A script that reads the first type.
 pub fn reader(rt: &impl Abort, alloc: Global, start: Start) -> Scripted {
-    scripted(rt, alloc, &[Op::Read(type_no(0), None)], start)
+    acting(rt, alloc, (0, Does::Reads), start)
 }
 
 /// Adds a system.
@@ -87,28 +100,33 @@ pub fn engine_over<V: Value, S: Numbered + SystemOf<Value = V>>(
     systems.build(world).expect(rt, "an engine")
 }
 
-/// Scripts of one op each, and these rules.
+/// Scripts of these acts, and these rules.
 pub fn scripts(
     rt: &impl Abort,
     alloc: Global,
-    ops: &[Op],
+    acts: &[Act],
     rules: &[Rule],
 ) -> Result<EngineBuilder<Scripted>, BuildError> {
     let mut systems = EngineBuilder::new(alloc);
-    add_scripts(rt, alloc, &mut systems, ops, rules)?;
-    Ok(systems)
+    match add_scripts(rt, alloc, &mut systems, acts, rules) {
+        Ok(()) => Ok(systems),
+        Err(error) => {
+            drop(systems);
+            Err(error)
+        }
+    }
 }
 
-/// Adds a script of each of these ops, and these rules.
+/// Adds a script of each of these acts, and these rules.
 fn add_scripts(
     rt: &impl Abort,
     alloc: Global,
     systems: &mut EngineBuilder<Scripted>,
-    ops: &[Op],
+    acts: &[Act],
     rules: &[Rule],
 ) -> Result<(), BuildError> {
-    for op in ops {
-        let script = script(rt, alloc, slice::from_ref(op), Start::Zero)?;
+    for act in acts {
+        let script = script(rt, alloc, *act, Start::Zero)?;
         systems.add_system(script, Vec::new(alloc), 1)?;
     }
     for rule in rules {
@@ -117,19 +135,18 @@ fn add_scripts(
     Ok(())
 }
 
-/// An engine of scripts of one op each, over types of these limits.
+/// An engine of scripts of these acts, over two types of this limit.
 pub fn engine_of(
     rt: &impl Abort,
     alloc: Global,
-    limits: &[u64],
-    ops: &[Op],
+    limit: u64,
+    acts: &[Act],
     rules: &[Rule],
 ) -> Result<EngineOf<Scripted>, BuildError>
     ensures engine { IfOk result (IsEngine i64_values ⟦<Scripted as SystemOf>⟧.meaning) }
 {
-    assert!(rt; limits.len() <= MAX_TYPES);
-    let world = World::new(alloc, limits, &[])?;
-    match scripts(rt, alloc, ops, rules) {
+    let world = World::new(alloc, &[limit; 2], &[])?;
+    match scripts(rt, alloc, acts, rules) {
         Ok(systems) => systems.build(world),
         Err(error) => {
             drop(world);
@@ -142,13 +159,13 @@ pub fn engine_of(
 pub fn scripted_engine(
     rt: &impl Abort,
     alloc: Global,
-    limits: &[u64],
-    ops: &[Op],
+    limit: u64,
+    acts: &[Act],
     rules: &[Rule],
 ) -> EngineOf<Scripted>
     ensures engine { IsEngine i64_values ⟦<Scripted as SystemOf>⟧.meaning result }
 {
-    engine_of(rt, alloc, limits, ops, rules).expect(rt, "an engine")
+    engine_of(rt, alloc, limit, acts, rules).expect(rt, "an engine")
 }
 
 /// An engine of `number` readers of one type.
@@ -163,11 +180,14 @@ pub fn readers(rt: &impl Abort, alloc: Global, number: u32) -> EngineOf<Scripted
     engine_over(rt, alloc, systems, &[10], &[])
 }
 
-/// A frame with these posts.
-pub fn frame_of<V: Value>(rt: &impl Abort, alloc: Global, posts: &[(TypeNo, V)]) -> Frame<V> {
-    Frame {
-        posts: Items::from_vec(Vec::from_slice(alloc, posts).expect(rt, "posts")),
+/// A frame with posts of these values to the first type.
+pub fn frame_of<V: Value>(rt: &impl Abort, alloc: Global, posts: &[V]) -> Frame<V> {
+    let mut all = Vec::new(alloc);
+    for value in posts {
+        all.push((type_no(0), *value)).expect(rt, "a post");
     }
+    let posts = Items::from_vec(all);
+    Frame { posts }
 }
 
 /// A frame without posts.
@@ -175,6 +195,15 @@ pub fn quiet(alloc: Global) -> Frame {
     Frame {
         posts: Items::from_vec(Vec::new(alloc)),
     }
+}
+
+/// So many frames without posts.
+pub fn quiet_frames(rt: &impl Abort, alloc: Global, number: u32) -> Vec<Frame> {
+    let mut frames = Vec::new(alloc);
+    for _frame in 0..number {
+        frames.push(quiet(alloc)).expect(rt, "a frame");
+    }
+    frames
 }
 
 /// `number` workers.
@@ -191,7 +220,7 @@ pub fn try_frame<
 >(
     rt: &R,
     engine: &mut EngineOf<S, V>,
-    posts: &[(TypeNo, V)],
+    posts: &[V],
     number: u32,
     gate: &G,
 ) -> Result<Log<V>, RunFault>
@@ -200,7 +229,9 @@ pub fn try_frame<
 {
     let frame = frame_of(rt, rt.alloc(), posts);
     assert!(rt; engine.fits(&frame));
-    engine.run_frame(rt, &frame, workers(rt, number), gate)
+    let log = engine.run_frame(rt, &frame, workers(rt, number), gate);
+    drop(frame);
+    log
 }
 
 /// Such a frame, for which there is memory.
@@ -209,7 +240,7 @@ pub fn run_frame<
     V: Value + Send + Sync,
     S: SystemOf<Value = V> + Send,
     G: Gate,
->(rt: &R, engine: &mut EngineOf<S, V>, posts: &[(TypeNo, V)], number: u32, gate: &G) -> Log<V>
+>(rt: &R, engine: &mut EngineOf<S, V>, posts: &[V], number: u32, gate: &G) -> Log<V>
     requires engine { IsEngine V.values S.meaning engine.old }
     ensures engine { IsEngine V.values S.meaning engine.new }
 {
@@ -255,7 +286,7 @@ pub fn run_two_quiet<R: Threads + Sync + Abort + AllocGlobal, S: SystemOf<Value 
 pub fn replay<V: Value, S: SystemOf<Value = V>>(
     rt: &(impl Abort + AllocGlobal),
     engine: &mut EngineOf<S, V>,
-    posts: &[(TypeNo, V)],
+    posts: &[V],
     order: &[u32],
 ) -> Result<Log<V>, RunFault>
     requires engine { IsEngine V.values S.meaning engine.old }
@@ -263,5 +294,7 @@ pub fn replay<V: Value, S: SystemOf<Value = V>>(
 {
     let frame = frame_of(rt, rt.alloc(), posts);
     assert!(rt; engine.fits(&frame));
-    engine.replay_frame(&frame, order)
+    let log = engine.replay_frame(&frame, order);
+    drop(frame);
+    log
 }

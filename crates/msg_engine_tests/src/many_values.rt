@@ -3,26 +3,26 @@
 ghost use Rattle.std.specs.Prelude.{◌≡◌, length};
 ghost use Rattle.msg_exec.specs.Prelude.{IsEngine};
 
-use crate::equal::expect_eq;
+use crate::expecting::{Told, expect_frames, expect_replay};
 use crate::game_values::{Blow, Force};
-use crate::making::{NUMBERS, add, engine_over, replay, run_frame, scripted};
-use msg_exec::{EngineBuilder, EngineOf, Log, NoGate, Outcome};
+use crate::making::{NUMBERS, add, engine_over, scripted};
+use msg_exec::{EngineBuilder, EngineOf};
 use msg_part_tests::numbers::{res_no, type_no};
-use msg_system::{Condition, Op, Probe, Reply, Scripted, Start, SystemOf, Took};
-use msg_world::{HOST, Record, ResNo, Value};
+use msg_system::{Condition, Op, Probe, Scripted, Start, SystemOf};
+use msg_world::{ResNo, Value};
 use std::alloc::Global;
 use std::fmt::Debug;
 use std::panic::Expect;
 use std::process::Abort;
 use std::thread::Threads;
 
-/// What a run is made of, and what its resource comes to in each of three frames.
-#[derive(Drop)]
-struct Run<V> {
+/// What a run is made of, and what three frames of it tell; and what they tell if they are replayed
+/// in these orders. In the third the late system runs before the others that read.
+struct Run<V: 'static> {
     resource: V,
-    posted: V,
     written: V,
-    sums: (V, V, V),
+    frames: &'static [Told<'static, V>],
+    replays: &'static [(&'static [u32], Told<'static, V>)],
 }
 
 /// A list of one.
@@ -48,8 +48,7 @@ fn add_script<V: Value>(
     } else {
         Start::Current
     };
-    let ops = only(rt, alloc, op);
-    let script = scripted(rt, alloc, &ops, start);
+    let script = scripted(rt, only(rt, alloc, op), start);
     add(rt, systems, script, conditions, join);
 }
 
@@ -77,187 +76,147 @@ fn while_it_is<V: Value>(rt: &impl Abort, alloc: Global, r: ResNo, value: V) -> 
     only(rt, alloc, Condition { nots: 0, probe })
 }
 
-/// The replies of this system in the log; None if it was skipped.
-fn replies_of<'a, V: Value>(
-    rt: &impl Abort,
-    log: &'a Log<V>,
-    system: u32,
-) -> Option<&'a [Reply<V>]> {
-    for turn in log.turns.as_slice() {
-        if turn.system == system {
-            return match &turn.outcome {
-                Outcome::Ran(replies) => Some(replies.as_slice()),
-                Outcome::Skipped => None,
-            };
-        }
-    }
-    panic!(rt; "no turn of {system}")
-}
-
-/// It took the message that was posted in this frame, and the one that was written.
-fn expect_took<V: Value + Debug + PartialEq>(
-    rt: &impl Abort,
-    run: &Run<V>,
-    frame: u64,
-    took: &Took<V>,
-) {
-    let posted = Record {
-        writer: HOST,
-        value: run.posted,
-    };
-    let written = Record {
-        writer: 0,
-        value: run.written,
-    };
-    let items = took.items.as_slice();
-    let found = (took.missed, took.first, items.len());
-    expect_eq(rt, &found, &(0, 2u64.saturating_mul(frame), 2));
-    expect_eq(
-        rt,
-        &(items.first(), items.get(1)),
-        &(Some(&posted), Some(&written)),
-    );
-}
-
-/// The resource came to this sum.
-fn expect_sum<V: Value + Debug + PartialEq>(
-    rt: &impl Abort,
-    run: &Run<V>,
-    frame: u64,
-    sum: V,
-    log: &Log<V>,
-) {
-    let Some([Reply::Summed { took, value }]) = replies_of(rt, log, 2) else {
-        panic!(rt; "a sum")
-    };
-    expect_took(rt, run, frame, took);
-    expect_eq(rt, value, &sum);
-}
-
-/// The reader ran in the first frame alone, since then the resource was another one.
-fn expect_read<V: Value + Debug + PartialEq>(
-    rt: &impl Abort,
-    run: &Run<V>,
-    frame: u64,
-    log: &Log<V>,
-) {
-    match replies_of(rt, log, 1) {
-        Some([Reply::Read(took)]) if frame == 0 => expect_took(rt, run, frame, took),
-        Some(_) => panic!(rt; "it read in frame {frame}"),
-        None => expect_eq(rt, &(frame > 0), &true),
-    }
-}
-
-/// The system that joined late took what came in its frame, and wrote it again.
-fn expect_forward<V: Value + Debug + PartialEq>(rt: &impl Abort, run: &Run<V>, log: &Log<V>) {
-    let Some([Reply::Forwarded { took, wrote }]) = replies_of(rt, log, 3) else {
-        panic!(rt; "a forward")
-    };
-    expect_took(rt, run, 2, took);
-    expect_eq(
-        rt,
-        &wrote.map(|wrote| (wrote.first, wrote.n)),
-        &Some((0, 2)),
-    );
-}
-
-fn expect_log<V: Value + Debug + PartialEq>(
-    rt: &impl Abort,
-    run: &Run<V>,
-    frame: u64,
-    log: &Log<V>,
-) {
-    let sum = match frame {
-        0 => run.sums.0,
-        1 => run.sums.1,
-        _ => run.sums.2,
-    };
-    expect_sum(rt, run, frame, sum, log);
-    expect_read(rt, run, frame, log);
-    if frame == 2 {
-        expect_forward(rt, run, log);
-    }
-}
-
-/// Runs the next frame on `number` workers.
-fn expect_frame<
-    R: Threads + Sync + Abort + AllocGlobal,
-    V: Value + Send + Sync + Debug + PartialEq,
->(rt: &R, engine: &mut EngineOf<Scripted<V>, V>, run: &Run<V>, frame: u64, number: u32)
-    requires engine { IsEngine V.values ⟦<Scripted<V> as SystemOf>⟧.meaning engine.old }
-    ensures engine { IsEngine V.values ⟦<Scripted<V> as SystemOf>⟧.meaning engine.new }
-{
-    let posts = only(rt, rt.alloc(), (type_no(0), run.posted));
-    let log = run_frame(rt, engine, &posts, number, &NoGate);
-    expect_log(rt, run, frame, &log);
-    drop((posts, log));
-}
-
-/// Replays the next frame in this order.
-fn expect_replay<V: Value + Debug + PartialEq>(
+/// Replays three frames, and drops the engine.
+fn expect_replays<V: Value + Debug, S: SystemOf<Value = V>>(
     rt: &(impl Abort + AllocGlobal),
-    engine: &mut EngineOf<Scripted<V>, V>,
+    mut engine: EngineOf<S, V>,
     run: &Run<V>,
-    frame: u64,
-    order: &[u32],
 )
-    requires engine { IsEngine V.values ⟦<Scripted<V> as SystemOf>⟧.meaning engine.old }
-    ensures engine { IsEngine V.values ⟦<Scripted<V> as SystemOf>⟧.meaning engine.new }
+    requires engine { IsEngine V.values S.meaning engine }
 {
-    let posts = only(rt, rt.alloc(), (type_no(0), run.posted));
-    let log = replay(rt, engine, &posts, order);
-    let log = log.expect(rt, "a replay");
-    expect_log(rt, run, frame, &log);
-    drop((posts, log));
+    for row in run.replays {
+        expect_replay(rt, &mut engine, row.0, &row.1);
+    }
+    drop(engine);
 }
 
-/// Runs three frames on each number of workers, and replays them; in the third the late system runs
-/// before the others that read.
-fn expect_runs<R: Threads + Sync + Abort + AllocGlobal, V: Value + Send + Sync + Debug + PartialEq>(
+/// Runs three frames on each number of workers, and replays them.
+fn expect_runs<R: Threads + Sync + Abort + AllocGlobal, V: Value + Send + Sync + Debug>(
     rt: &R,
     run: &Run<V>,
 ) {
     for number in NUMBERS {
-        let mut engine = engine_of(rt, rt.alloc(), run);
-        expect_frame(rt, &mut engine, run, 0, number);
-        expect_frame(rt, &mut engine, run, 1, number);
-        expect_frame(rt, &mut engine, run, 2, number);
-        drop(engine);
+        expect_frames(rt, engine_of(rt, rt.alloc(), run), number, run.frames);
     }
-    let mut engine = engine_of(rt, rt.alloc(), run);
-    expect_replay(rt, &mut engine, run, 0, &[0, 1, 2]);
-    expect_replay(rt, &mut engine, run, 1, &[0, 1, 2]);
-    expect_replay(rt, &mut engine, run, 2, &[0, 3, 1, 2]);
-    drop(engine);
+    expect_replays(rt, engine_of(rt, rt.alloc(), run), run);
 }
+
+const POSTED_FORCE: &[Force] = &[Force {
+    x: 10,
+    y: 20,
+    z: 30,
+}];
+
+const FIRST_FORCES: Told<'static, Force> = (
+    POSTED_FORCE,
+    " wrote 1 from 0[0 wrote 1 from 1]\
+     [1 read from 0: host=Force { x: 10, y: 20, z: 30 } \
+     0=Force { x: 100, y: 0, z: 9223372036854775807 }]\
+     [2 read from 0: host=Force { x: 10, y: 20, z: 30 } \
+     0=Force { x: 100, y: 0, z: 9223372036854775807 }, \
+     sum Force { x: 111, y: 18, z: 9223372036854775807 }]",
+);
+
+const SECOND_FORCES: Told<'static, Force> = (
+    POSTED_FORCE,
+    " wrote 1 from 2[0 wrote 1 from 3][1 was skipped]\
+     [2 read from 2: host=Force { x: 10, y: 20, z: 30 } \
+     0=Force { x: 100, y: 0, z: 9223372036854775807 }, \
+     sum Force { x: 221, y: 38, z: 9223372036854775807 }]",
+);
+
+const THIRD_FORCES: Told<'static, Force> = (
+    POSTED_FORCE,
+    " wrote 1 from 4[0 wrote 1 from 5][1 was skipped]\
+     [3 read from 4: host=Force { x: 10, y: 20, z: 30 } \
+     0=Force { x: 100, y: 0, z: 9223372036854775807 }, \
+     Some(Written { first: 0, n: 2 })]\
+     [2 read from 4: host=Force { x: 10, y: 20, z: 30 } \
+     0=Force { x: 100, y: 0, z: 9223372036854775807 }, \
+     sum Force { x: 331, y: 58, z: 9223372036854775807 }]",
+);
+
+const REPLAYED_FORCES: Told<'static, Force> = (
+    POSTED_FORCE,
+    " wrote 1 from 4[0 wrote 1 from 5]\
+     [3 read from 4: host=Force { x: 10, y: 20, z: 30 } \
+     0=Force { x: 100, y: 0, z: 9223372036854775807 }, \
+     Some(Written { first: 0, n: 2 })]\
+     [1 was skipped]\
+     [2 read from 4: host=Force { x: 10, y: 20, z: 30 } \
+     0=Force { x: 100, y: 0, z: 9223372036854775807 }, \
+     sum Force { x: 331, y: 58, z: 9223372036854775807 }]",
+);
 
 #[test]
 fn forces(rt: HostRuntime) {
-    let force = |x, y, z| Force { x, y, z };
-    let run = Run {
-        resource: force(1, -2, 3),
-        posted: force(10, 20, 30),
-        written: force(100, 0, i64::MAX),
-        sums: (
-            force(111, 18, i64::MAX),
-            force(221, 38, i64::MAX),
-            force(331, 58, i64::MAX),
-        ),
+    const RUN: &Run<Force> = &Run {
+        resource: Force { x: 1, y: -2, z: 3 },
+        written: Force {
+            x: 100,
+            y: 0,
+            z: i64::MAX,
+        },
+        frames: &[FIRST_FORCES, SECOND_FORCES, THIRD_FORCES],
+        replays: &[
+            (&[0, 1, 2], FIRST_FORCES),
+            (&[0, 1, 2], SECOND_FORCES),
+            (&[0, 3, 1, 2], REPLAYED_FORCES),
+        ],
     };
-    expect_runs(&rt, &run);
+    expect_runs(&rt, RUN);
 }
+
+const POSTED_BLOW: &[Blow] = &[Blow::Moved(2, -5)];
+
+const FIRST_BLOWS: Told<'static, Blow> = (
+    POSTED_BLOW,
+    " wrote 1 from 0[0 wrote 1 from 1]\
+     [1 read from 0: host=Moved(2, -5) 0=Hit { entity: 7, amount: -3 }]\
+     [2 read from 0: host=Moved(2, -5) 0=Hit { entity: 7, amount: -3 }, \
+     sum Hit { entity: 7, amount: -3 }]",
+);
+
+const SECOND_BLOWS: Told<'static, Blow> = (
+    POSTED_BLOW,
+    " wrote 1 from 2[0 wrote 1 from 3][1 was skipped]\
+     [2 read from 2: host=Moved(2, -5) 0=Hit { entity: 7, amount: -3 }, \
+     sum Hit { entity: 7, amount: -3 }]",
+);
+
+const THIRD_BLOWS: Told<'static, Blow> = (
+    POSTED_BLOW,
+    " wrote 1 from 4[0 wrote 1 from 5][1 was skipped]\
+     [3 read from 4: host=Moved(2, -5) 0=Hit { entity: 7, amount: -3 }, \
+     Some(Written { first: 0, n: 2 })]\
+     [2 read from 4: host=Moved(2, -5) 0=Hit { entity: 7, amount: -3 }, \
+     sum Hit { entity: 7, amount: -3 }]",
+);
+
+const REPLAYED_BLOWS: Told<'static, Blow> = (
+    POSTED_BLOW,
+    " wrote 1 from 4[0 wrote 1 from 5]\
+     [3 read from 4: host=Moved(2, -5) 0=Hit { entity: 7, amount: -3 }, \
+     Some(Written { first: 0, n: 2 })]\
+     [1 was skipped]\
+     [2 read from 4: host=Moved(2, -5) 0=Hit { entity: 7, amount: -3 }, \
+     sum Hit { entity: 7, amount: -3 }]",
+);
 
 #[test]
 fn blows(rt: HostRuntime) {
-    let hit = Blow::Hit {
-        entity: 7,
-        amount: -3,
-    };
-    let run = Run {
+    const RUN: &Run<Blow> = &Run {
         resource: Blow::Nothing,
-        posted: Blow::Moved(2, -5),
-        written: hit,
-        sums: (hit, hit, hit),
+        written: Blow::Hit {
+            entity: 7,
+            amount: -3,
+        },
+        frames: &[FIRST_BLOWS, SECOND_BLOWS, THIRD_BLOWS],
+        replays: &[
+            (&[0, 1, 2], FIRST_BLOWS),
+            (&[0, 1, 2], SECOND_BLOWS),
+            (&[0, 3, 1, 2], REPLAYED_BLOWS),
+        ],
     };
-    expect_runs(&rt, &run);
+    expect_runs(&rt, RUN);
 }

@@ -5,16 +5,16 @@ ghost use Rattle.msg_world.specs.Prelude.{i64_values};
 ghost use Rattle.msg_exec.specs.Prelude.{IsEngine};
 
 use crate::equal::expect_eq;
-use crate::expecting::{by, expect_log, expect_unlawful, read, wrote};
-use crate::making::{engine_of, replay, run_two_quiet, scripts};
+use crate::expecting::{Case, Told, expect_unlawful};
+use crate::making::{Act, Does, engine_of, replay, run_two_quiet, scripts};
 use crate::spoiled::expect_spoiled;
+use crate::told::{expect_accounts, expect_log};
 use msg_exec::{
     Account, BuildError, BuildRefusal, EngineBuilder, EngineOf, Log, NoMemory, RunFault,
 };
 use msg_order::Rule;
-use msg_part_tests::numbers::type_no;
 use msg_part_tests::outcome::tell;
-use msg_system::{Op, Scripted, SystemOf};
+use msg_system::{Scripted, SystemOf};
 use msg_world::World;
 use std::alloc::Global;
 use std::io::Print;
@@ -35,19 +35,53 @@ fn made<T: Drop>(rt: &impl Abort, made: Result<T, BuildError>) -> Result<T, NoMe
 }
 
 /// A reader, and after it a writer: what is written is read a frame later.
-fn lagging(rt: &impl Abort, alloc: Global) -> Result<EngineOf<Scripted>, NoMemory>
+const LAG: &Case<'static> = &Case {
+    limit: 10,
+    acts: &[(0, Does::Reads), (0, Does::Writes(5))],
+    rules: &[Rule {
+        earlier: 0,
+        later: 1,
+    }],
+    frames: &[
+        (&[], "[0 read from 0:][1 wrote 1 from 0]"),
+        (&[], "[0 read from 0: 1=5][1 wrote 1 from 1]"),
+    ],
+};
+
+/// A writer, and two readers that may run side by side: on two workers they draw from a board. In
+/// each frame both readers are given what was written in it.
+const BOARD: &Case<'static> = &Case {
+    limit: 10,
+    acts: &[(0, Does::Writes(5)), (0, Does::Reads), (0, Does::Reads)],
+    rules: &[],
+    frames: &[
+        (
+            &[],
+            "[0 wrote 1 from 0][1 read from 0: 0=5][2 read from 0: 0=5]",
+        ),
+        (
+            &[],
+            "[0 wrote 1 from 1][1 read from 1: 0=5][2 read from 1: 0=5]",
+        ),
+    ],
+};
+
+/// The engine of a case.
+fn engine_for(
+    rt: &impl Abort,
+    alloc: Global,
+    case: &Case<'_>,
+) -> Result<EngineOf<Scripted>, NoMemory>
     ensures engine { IfOk result (IsEngine i64_values ⟦<Scripted as SystemOf>⟧.meaning) }
 {
-    let t = type_no(0);
-    let ops = [Op::Read(t, None), Op::Write(t, 5)];
-    made(rt, engine_of(rt, alloc, &[10], &ops, &[Rule::before(0, 1)]))
+    made(rt, engine_of(rt, alloc, case.limit, case.acts, case.rules))
 }
 
-/// The log of the frame of this number, 0 or 1, of the lagging engine.
-fn expect_lag(rt: &impl Abort, log: &Log, frame: usize) {
-    let five = [by(1, 5)];
-    let steps = [read(0, 0, &five[..frame.min(1)]), wrote(1, frame as u64)];
-    expect_log(rt, log, &[], &steps);
+/// These are the logs of the first frames.
+fn expect_logs(rt: &impl Abort, logs: &[Log], frames: &[Told<'_>]) {
+    for (log, frame) in logs.iter().zip(frames) {
+        expect_log(rt, log, frame.1);
+    }
 }
 
 /// Whether a call was refused memory. If it was, the engine is spoiled after `frames_run`
@@ -61,128 +95,123 @@ fn is_refused<R: Threads + Sync + Abort + AllocGlobal>(
     requires engine { IsEngine i64_values ⟦<Scripted as SystemOf>⟧.meaning engine.old }
 {
     let Err(fault) = came else {
-        expect_eq(rt, &engine.frames_run(), &frames_run);
+        expect_eq(rt, engine.frames_run(), frames_run);
         return false;
     };
-    expect_eq(rt, &fault, &RunFault::NoMemory);
+    expect_eq(rt, fault, RunFault::NoMemory);
     expect_spoiled(rt, engine, frames_run);
     true
 }
 
-/// Runs two frames on `number` workers. Gives the logs of the whole ones, and whether memory was
-/// refused.
+/// Runs two frames on `number` workers. Gives whether memory was refused.
 fn run_two<R: Threads + Sync + Abort + AllocGlobal>(
     rt: &R,
     mut engine: EngineOf<Scripted>,
     number: u32,
-) -> (Vec<Log>, bool)
+    frames: &[Told<'_>],
+) -> bool
     requires engine { IsEngine i64_values ⟦<Scripted as SystemOf>⟧.meaning engine }
 {
     let mut logs = Vec::new(rt.alloc());
     let ran = run_two_quiet(rt, &mut engine, number, &mut logs);
     let whole = engine.frames_run();
-    expect_eq(rt, &logs.len(), &(whole as usize));
-    expect_eq(rt, &(ran.is_err() || whole == 2), &true);
+    expect_eq(rt, logs.len(), whole as usize);
+    expect_eq(rt, ran.is_err() || whole == 2, true);
+    expect_logs(rt, &logs, frames);
+    drop(logs);
     let is_refused = is_refused(rt, &mut engine, whole, ran);
     drop(engine);
-    (logs, is_refused)
+    is_refused
 }
 
-/// Runs two frames of the lagging engine.
-fn tell_lag<R: Threads + Sync + Abort + AllocGlobal + Print>(
+/// Runs two frames of the case on `number` workers, and tells whether memory was refused.
+fn tell_two<R: Threads + Sync + Abort + AllocGlobal + Print>(
     rt: &R,
+    case: &Case<'_>,
     number: u32,
 ) -> Result<(), Fail> {
-    let (logs, is_refused) = run_two(rt, lagging(rt, rt.alloc())?, number);
-    for (frame, log) in logs.iter().enumerate() {
-        expect_lag(rt, log, frame);
-    }
-    drop(logs);
-    tell(rt, is_refused)
+    let engine = engine_for(rt, rt.alloc(), case)?;
+    tell(rt, run_two(rt, engine, number, case.frames))
 }
 
 #[test]
 fn frames_on_one_worker(rt: HostRuntime) -> Result<(), Fail> {
-    tell_lag(&rt, 1)
+    tell_two(&rt, LAG, 1)
 }
 
 #[test]
 fn frames_on_two_workers(rt: HostRuntime) -> Result<(), Fail> {
-    tell_lag(&rt, 2)
-}
-
-/// A writer, and two readers that may run side by side: on two workers they draw from a board.
-fn readers_beside(rt: &impl Abort, alloc: Global) -> Result<EngineOf<Scripted>, NoMemory>
-    ensures engine { IfOk result (IsEngine i64_values ⟦<Scripted as SystemOf>⟧.meaning) }
-{
-    let t = type_no(0);
-    let ops = [Op::Write(t, 5), Op::Read(t, None), Op::Read(t, None)];
-    made(rt, engine_of(rt, alloc, &[10], &ops, &[]))
-}
-
-/// In the frame of this number, from 0, both readers were given what was written in it.
-fn expect_both(rt: &impl Abort, log: &Log, frame: u64) {
-    let five = [by(0, 5)];
-    let steps = [
-        wrote(0, frame),
-        read(1, frame, &five),
-        read(2, frame, &five),
-    ];
-    expect_log(rt, log, &[], &steps);
+    tell_two(&rt, LAG, 2)
 }
 
 #[test]
 fn a_board_on_two_workers(rt: HostRuntime) -> Result<(), Fail> {
-    let (logs, is_refused) = run_two(&rt, readers_beside(&rt, rt.alloc())?, 2);
-    for (frame, log) in logs.iter().enumerate() {
-        expect_both(&rt, log, frame as u64);
-    }
-    drop(logs);
-    tell(&rt, is_refused)
+    tell_two(&rt, BOARD, 2)
+}
+
+/// Replays a frame in this order. Its log tells this.
+fn replay_as<S: SystemOf<Value = i64>>(
+    rt: &(impl Abort + AllocGlobal),
+    engine: &mut EngineOf<S>,
+    order: &[u32],
+    told: &str,
+) -> Result<(), RunFault>
+    requires engine { IsEngine i64_values S.meaning engine.old }
+    ensures engine { IsEngine i64_values S.meaning engine.new }
+{
+    let log = replay(rt, engine, &[], order)?;
+    expect_log(rt, &log, told);
+    drop(log);
+    Ok(())
 }
 
 /// Replays two frames of the lagging engine, up to the first fault, and counts those that were
 /// replayed.
-fn replay_two(
+fn replay_two<S: SystemOf<Value = i64>>(
     rt: &(impl Abort + AllocGlobal),
-    engine: &mut EngineOf<Scripted>,
+    engine: &mut EngineOf<S>,
     replayed: &mut u32,
 ) -> Result<(), RunFault>
-    requires engine { IsEngine i64_values ⟦<Scripted as SystemOf>⟧.meaning engine.old }
-    ensures engine { IsEngine i64_values ⟦<Scripted as SystemOf>⟧.meaning engine.new }
+    requires engine { IsEngine i64_values S.meaning engine.old }
+    ensures engine { IsEngine i64_values S.meaning engine.new }
 {
-    let first = replay(rt, engine, &[], &[0, 1])?;
-    expect_lag(rt, &first, 0);
-    drop(first);
-    *replayed = 1;
-    let second = replay(rt, engine, &[], &[0, 1])?;
-    expect_lag(rt, &second, 1);
-    drop(second);
-    *replayed = 2;
+    for frame in LAG.frames {
+        replay_as(rt, engine, &[0, 1], frame.1)?;
+        *replayed = replayed.saturating_add(1);
+    }
     Ok(())
 }
 
 #[test]
 fn a_replayed_frame(rt: HostRuntime) -> Result<(), Fail> {
-    let mut engine = lagging(&rt, rt.alloc())?;
+    let rt = &rt;
+    let mut engine = engine_for(rt, rt.alloc(), LAG)?;
     let mut replayed = 0;
-    let came = replay_two(&rt, &mut engine, &mut replayed);
-    let is_refused = is_refused(&rt, &mut engine, replayed, came);
+    let came = replay_two(rt, &mut engine, &mut replayed);
+    let is_refused = is_refused(rt, &mut engine, replayed, came);
     drop(engine);
-    tell(&rt, is_refused)
+    tell(rt, is_refused)
 }
 
 /// What is to be an engine whose rules are against the order of addition.
 fn contradictory(rt: &impl Abort, alloc: Global) -> Result<EngineBuilder<Scripted>, NoMemory> {
-    let (t, u) = (type_no(0), type_no(1));
-    let ops = [
-        Op::Write(t, 1),
-        Op::Write(u, 2),
-        Op::Read(u, None),
-        Op::Read(t, None),
+    const ACTS: &[Act] = &[
+        (0, Does::Writes(1)),
+        (1, Does::Writes(2)),
+        (1, Does::Reads),
+        (0, Does::Reads),
     ];
-    let rules = [Rule::before(3, 1), Rule::before(2, 0)];
-    made(rt, scripts(rt, alloc, &ops, &rules))
+    const RULES: &[Rule] = &[
+        Rule {
+            earlier: 3,
+            later: 1,
+        },
+        Rule {
+            earlier: 2,
+            later: 0,
+        },
+    ];
+    made(rt, scripts(rt, alloc, ACTS, RULES))
 }
 
 /// It takes the one lawful order, and no other.
@@ -192,13 +221,9 @@ fn expect_settled(
 ) -> Result<(), RunFault>
     requires engine { IsEngine i64_values ⟦<Scripted as SystemOf>⟧.meaning engine.old }
 {
-    let one = [by(0, 1)];
+    let told = "[2 read from 0:][0 wrote 1 from 0][3 read from 0: 0=1][1 wrote 1 from 0]";
     expect_unlawful(rt, engine, &[], &[0, 1, 2, 3]);
-    let log = replay(rt, engine, &[], &[2, 0, 3, 1])?;
-    let steps = [read(2, 0, &[]), wrote(0, 0), read(3, 0, &one), wrote(1, 0)];
-    expect_log(rt, &log, &[], &steps);
-    drop(log);
-    Ok(())
+    replay_as(rt, engine, &[2, 0, 3, 1], told)
 }
 
 /// What came of frames that aren't tested here: they were run, unless there was no memory.
@@ -213,32 +238,33 @@ fn ran(rt: &impl Abort, came: Result<(), RunFault>) -> Result<(), NoMemory> {
 /// If there is no memory for an engine there is none.
 #[test]
 fn a_new_engine(rt: HostRuntime) -> Result<(), Fail> {
-    let systems = contradictory(&rt, rt.alloc())?;
+    let rt = &rt;
+    let systems = contradictory(rt, rt.alloc())?;
     let world = World::new(rt.alloc(), &[10, 10], &[])?;
-    let Ok(mut engine) = made(&rt, systems.build(world)) else {
-        return tell(&rt, true);
+    let Ok(mut engine) = made(rt, systems.build(world)) else {
+        return tell(rt, true);
     };
-    let came = expect_settled(&rt, &mut engine);
+    let came = expect_settled(rt, &mut engine);
     drop(engine);
-    ran(&rt, came)?;
-    tell(&rt, false)
+    ran(rt, came)?;
+    tell(rt, false)
 }
 
-/// What the reader of the lagging engine was given in two frames.
-fn expect_given(rt: &impl Abort, accounts: Vec<Account>) {
-    let want = Account {
-        system: 0,
-        of_type: type_no(0),
-        start: Some(0),
-        got: 1,
-        missed: 0,
-        cleared: 0,
-        place: 1,
-    };
-    expect_eq(rt, &accounts.as_slice(), &[want].as_slice());
+/// What the readers were given, and whether that was refused memory. A second call gives it then.
+fn accounts_of<S: SystemOf<Value = i64>>(
+    rt: &impl Abort,
+    engine: &EngineOf<S>,
+) -> (Vec<Account>, bool) {
+    match engine.accounts() {
+        Ok(accounts) => (accounts, false),
+        Err(fault) => {
+            expect_eq(rt, fault, RunFault::NoMemory);
+            (engine.accounts().expect(rt, "accounts"), true)
+        }
+    }
 }
 
-/// Whether the accounts after two frames were refused memory. A second call gives them then.
+/// Whether the accounts after two frames of the lagging engine were refused memory.
 fn are_accounts_refused(
     rt: &(impl Abort + AllocGlobal),
     engine: &mut EngineOf<Scripted>,
@@ -246,27 +272,21 @@ fn are_accounts_refused(
     requires engine { IsEngine i64_values ⟦<Scripted as SystemOf>⟧.meaning engine.old }
 {
     ran(rt, replay_two(rt, engine, &mut 0))?;
-    let is_refused = match engine.accounts() {
-        Ok(accounts) => {
-            expect_given(rt, accounts);
-            false
-        }
-        Err(fault) => {
-            expect_eq(rt, &fault, &RunFault::NoMemory);
-            expect_given(rt, engine.accounts().expect(rt, "accounts"));
-            true
-        }
-    };
+    let (accounts, is_refused) = accounts_of(rt, engine);
+    let told = "[0 of 0: start Some(0) got 1 missed 0 cleared 0 place 1]";
+    expect_accounts(rt, &accounts, told);
+    drop(accounts);
     let left = (engine.frames_run(), engine.world().is_some());
-    expect_eq(rt, &left, &(2, true));
+    expect_eq(rt, left, (2, true));
     Ok(is_refused)
 }
 
 /// If there is no memory for the accounts nothing has changed: a second call gives them.
 #[test]
 fn accounts(rt: HostRuntime) -> Result<(), Fail> {
-    let mut engine = lagging(&rt, rt.alloc())?;
-    let is_refused = are_accounts_refused(&rt, &mut engine);
+    let rt = &rt;
+    let mut engine = engine_for(rt, rt.alloc(), LAG)?;
+    let is_refused = are_accounts_refused(rt, &mut engine);
     drop(engine);
-    tell(&rt, is_refused?)
+    tell(rt, is_refused?)
 }

@@ -191,44 +191,53 @@ mod tests {
     use super::{run_both, run_life, run_waking};
     use crate::equal::expect_eq;
     use crate::expecting::replies_of;
-    use crate::making::quiet;
-    use msg_exec::Workers;
+    use crate::making::{quiet, quiet_frames, workers};
+    use crate::told::expect_accounts;
+    use msg_exec::Log;
     use std::panic::Expect;
+    use std::process::Abort;
 
     #[test]
     fn two_engines(rt: HostRuntime) {
-        let alloc = rt.alloc();
-        let frames = [quiet(alloc), quiet(alloc), quiet(alloc)];
-        let workers = (Workers::new(1).unwrap(), Workers::new(7).unwrap());
-        let logs = run_both(&rt, alloc, &frames, workers).expect(&rt, "logs");
-        expect_eq(&rt, &logs.0.len(), &3);
-        expect_eq(&rt, &logs.0, &logs.1);
+        let rt = &rt;
+        let frames = quiet_frames(rt, rt.alloc(), 3);
+        let workers = (workers(rt, 1), workers(rt, 7));
+        let logs = run_both(rt, rt.alloc(), &frames, workers).expect(rt, "logs");
+        expect_eq(rt, logs.0.len(), 3);
+        expect_eq(rt, &logs.0, &logs.1);
+        drop((frames, logs));
     }
 
-    #[test]
-    fn a_reader_that_waits(rt: HostRuntime) {
-        let alloc = rt.alloc();
-        let frames = [quiet(alloc), quiet(alloc), quiet(alloc)];
-        let workers = Workers::new(2).unwrap();
-        let logs = run_waking(&rt, alloc, &frames, workers).expect(&rt, "logs");
-        expect_eq(&rt, &logs.len(), &3);
-        for log in logs.as_slice() {
-            expect_eq(&rt, &log.turns.as_slice().len(), &2);
-            replies_of(&rt, log, 1);
+    /// There are three logs of two turns, and in each the reader ran.
+    fn expect_three(rt: &impl Abort, logs: &[Log]) {
+        expect_eq(rt, logs.len(), 3);
+        for log in logs {
+            expect_eq(rt, log.turns.as_slice().len(), 2);
+            replies_of(rt, log, 1);
         }
     }
 
     #[test]
+    fn a_reader_that_waits(rt: HostRuntime) {
+        let rt = &rt;
+        let frames = quiet_frames(rt, rt.alloc(), 3);
+        let logs = run_waking(rt, rt.alloc(), &frames, workers(rt, 2)).expect(rt, "logs");
+        expect_three(rt, &logs);
+        drop((frames, logs));
+    }
+
+    #[test]
     fn a_life(rt: HostRuntime) {
-        let alloc = rt.alloc();
-        let frames = [quiet(alloc), quiet(alloc)];
-        let workers = Workers::new(2).unwrap();
-        let life = run_life(&rt, alloc, &frames, &quiet(alloc), workers);
-        let (accounts, engine) = life.expect(&rt, "a life");
-        expect_eq(&rt, &engine.frames_run(), &3);
+        let rt = &rt;
+        let frames = quiet_frames(rt, rt.alloc(), 2);
+        let last = quiet(rt.alloc());
+        let life = run_life(rt, rt.alloc(), &frames, &last, workers(rt, 2));
+        drop((frames, last));
+        let (accounts, engine) = life.expect(rt, "a life");
+        expect_eq(rt, engine.frames_run(), 3);
         drop(engine);
-        let first = accounts.first().expect(&rt, "an account");
-        let found = (accounts.len(), first.got, first.missed);
-        expect_eq(&rt, &found, &(1, 3, 0));
+        let told = "[1 of 0: start Some(0) got 3 missed 0 cleared 0 place 3]";
+        expect_accounts(rt, &accounts, told);
+        drop(accounts);
     }
 }

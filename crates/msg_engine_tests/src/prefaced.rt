@@ -2,14 +2,13 @@
 ghost use Rattle.msg_exec.specs.Prelude.{IsEngine};
 ghost use Rattle.msg_world.specs.Prelude.{i64_values};
 
-use crate::making::{add, engine_over, reader, scripted};
+use crate::making::{Act, acting, add, engine_over, reader};
 use msg_exec::{EngineBuilder, EngineOf};
-use msg_system::{Access, NoMemory, Numbered, Op, Reply, Scripted, Start, SystemOf};
+use msg_system::{Access, NoMemory, Numbered, Reply, Scripted, Start, SystemOf};
 use msg_world::{Counts, Lent, Taken, TypeNo};
 use std::alloc::Global;
 use std::panic::Expect;
 use std::process::Abort;
-use std::slice;
 use std::sync::Arc;
 use std::sync::atomic::{AtomicU64, Ordering};
 
@@ -130,37 +129,37 @@ pub fn add_counts(rt: &impl Abort, all: &mut Vec<Before>, number: u32, runs: &Ar
     }
 }
 
-/// A script that notes its runs by this digit.
+/// A script of this act that notes its runs by this digit.
 fn noting(
     rt: &impl Abort,
-    system: Scripted,
+    alloc: Global,
+    (act, start_at): (Act, Start),
     digit: u64,
     noted: &Arc<AtomicU64>,
 ) -> Prefaced<Scripted> {
     let noted = Arc::try_clone(noted).expect(rt, "a number");
     Prefaced {
-        system,
+        system: acting(rt, alloc, act, start_at),
         before: Before::Note { digit, noted },
     }
 }
 
-/// An engine of noting scripts that join with this frame, each with one op, over a world of one
+/// An engine of noting scripts that join with this frame, each with one act, over a world of one
 /// type. System i notes i + 1, if there are at most nine.
 pub fn noting_engine(
     rt: &impl Abort,
     alloc: Global,
     join: u32,
-    ops: &[(Op, Start)],
+    acts: &[(Act, Start)],
     noted: &Arc<AtomicU64>,
 ) -> EngineOf<Prefaced<Scripted>>
     ensures engine { IsEngine i64_values ⟦<Prefaced<Scripted> as SystemOf>⟧.meaning result }
 {
     let mut systems = EngineBuilder::new(alloc);
     let mut digit = 0;
-    for (op, start_at) in ops {
+    for act in acts {
         digit = digit % 9 + 1;
-        let system = scripted(rt, alloc, slice::from_ref(op), *start_at);
-        let noting = noting(rt, system, digit, noted);
+        let noting = noting(rt, alloc, *act, digit, noted);
         add(rt, &mut systems, noting, Vec::new(alloc), join);
     }
     engine_over(rt, alloc, systems, &[10], &[])

@@ -3,7 +3,7 @@ ghost use Rattle.msg_exec.specs.Prelude.{IsEngine};
 ghost use Rattle.msg_world.specs.Prelude.{i64_values};
 
 use crate::equal::expect_eq;
-use crate::expecting::{expect_fault, expect_frame, read};
+use crate::expecting::{Told, expect_fault, expect_frame};
 use crate::gates::HoldGate;
 use crate::making::{replay, run_two_quiet, try_frame};
 use crate::prefaced::{Before, Prefaced, add_counts, prefaced_readers, shared_number};
@@ -16,6 +16,25 @@ use std::sync::Arc;
 use std::sync::atomic::{AtomicU64, Ordering};
 use std::thread::Threads;
 
+/// Each call that runs a frame answers `Spoiled`.
+fn expect_none_runs<R: Threads + Sync + Abort + AllocGlobal, S: SystemOf<Value = i64> + Send>(
+    rt: &R,
+    engine: &mut EngineOf<S>,
+)
+    requires engine { IsEngine i64_values S.meaning engine.old }
+    ensures engine { IsEngine i64_values S.meaning engine.new }
+{
+    let one = try_frame(rt, engine, &[], 1, &NoGate);
+    expect_fault(rt, one, RunFault::Spoiled);
+    let mut logs = Vec::new(rt.alloc());
+    let two = run_two_quiet(rt, engine, 1, &mut logs);
+    expect_fault(rt, two, RunFault::Spoiled);
+    expect_eq(rt, logs.len(), 0);
+    drop(logs);
+    let replayed = replay(rt, engine, &[], &[0, 1]);
+    expect_fault(rt, replayed, RunFault::Spoiled);
+}
+
 /// The engine was spoiled after `frames_run` frames: each call that runs a frame answers `Spoiled`,
 /// and so does `accounts`; and there is no world.
 pub fn expect_spoiled<R: Threads + Sync + Abort + AllocGlobal, S: SystemOf<Value = i64> + Send>(
@@ -25,16 +44,10 @@ pub fn expect_spoiled<R: Threads + Sync + Abort + AllocGlobal, S: SystemOf<Value
 )
     requires engine { IsEngine i64_values S.meaning engine.old }
 {
-    let one = try_frame(rt, engine, &[], 1, &NoGate);
-    expect_fault(rt, one, RunFault::Spoiled);
-    let mut logs = Vec::new(rt.alloc());
-    let two = run_two_quiet(rt, engine, 1, &mut logs);
-    expect_fault(rt, two, RunFault::Spoiled);
-    let replayed = replay(rt, engine, &[], &[0, 1]);
-    expect_fault(rt, replayed, RunFault::Spoiled);
+    expect_none_runs(rt, engine);
     expect_fault(rt, engine.accounts(), RunFault::Spoiled);
-    let left = (logs.len(), engine.world().is_none(), engine.frames_run());
-    expect_eq(rt, &left, &(0, true, frames_run));
+    let left = (engine.world().is_none(), engine.frames_run());
+    expect_eq(rt, left, (true, frames_run));
 }
 
 /// An engine of readers of one type. The first of them has memory for `first_runs` runs; the runs
@@ -55,19 +68,26 @@ fn failing_engine(
 
 /// Two readers side by side. In the second frame one of them has no memory, and that spoils the
 /// engine.
+fn expect_second_fails<R: Threads + Sync + Abort + AllocGlobal>(rt: &R, workers: u32) {
+    const FIRST: &Told<'static> = &(&[], "[0 read from 0:][1 read from 0:]");
+    let runs = shared_number(rt, rt.alloc());
+    let mut engine = failing_engine(rt, rt.alloc(), 2, 1, &runs);
+    expect_frame(rt, &mut engine, workers, FIRST);
+    let second = try_frame(rt, &mut engine, &[], workers, &NoGate);
+    expect_fault(rt, second, RunFault::NoMemory);
+    expect_spoiled(rt, &mut engine, 1);
+    drop(engine);
+}
+
 #[test]
 fn a_second_run_without_memory(rt: HostRuntime) {
     for workers in [1, 2] {
-        let runs = shared_number(&rt, rt.alloc());
-        let mut engine = failing_engine(&rt, rt.alloc(), 2, 1, &runs);
-        let steps = [read(0, 0, &[]), read(1, 0, &[])];
-        expect_frame(&rt, &mut engine, workers, &[], &[], &steps);
-        let second = try_frame(&rt, &mut engine, &[], workers, &NoGate);
-        expect_fault(&rt, second, RunFault::NoMemory);
-        expect_spoiled(&rt, &mut engine, 1);
-        drop(engine);
+        expect_second_fails(&rt, workers);
     }
 }
+
+/// How many readers and workers there are, and how many of the others are run.
+const ROWS: &[(u32, u32, u32)] = &[(2, 1, 0), (2, 2, 1), (5, 2, 4), (5, 64, 4)];
 
 /// If one job has no memory, `run` others of its batch are run.
 fn expect_run_of_others<R: Threads + Sync + Abort + AllocGlobal>(
@@ -85,14 +105,14 @@ fn expect_run_of_others<R: Threads + Sync + Abort + AllocGlobal>(
     drop(engine);
     gate.expect_met(rt, run as u64 + 1);
     let ran = runs.load(Ordering::SeqCst);
-    expect_eq(rt, &(workers, ran), &(workers, run as u64));
+    expect_eq(rt, (workers, ran), (workers, run as u64));
 }
 
 /// The other workers run the other jobs of the batch; if the job was the only worker's, no job
 /// runs after it.
 #[test]
 fn the_others_run_where_one_has_no_memory(rt: HostRuntime) {
-    for (readers, workers, run) in [(2, 1, 0), (2, 2, 1), (5, 2, 4), (5, 64, 4)] {
-        expect_run_of_others(&rt, readers, workers, run);
+    for (readers, workers, run) in ROWS {
+        expect_run_of_others(&rt, *readers, *workers, *run);
     }
 }
