@@ -15,21 +15,23 @@ use std::panic::Expect;
 use std::process::Abort;
 use std::thread::Threads;
 
+/// A reader, and after it a writer: what is written is read a frame later.
+pub const LAG: &Case<'static> = &Case {
+    limit: 20,
+    acts: &[(0, Does::Reads), (0, Does::Writes(5))],
+    rules: &[Rule {
+        earlier: 0,
+        later: 1,
+    }],
+    frames: &[
+        (&[], "[0 read from 0:][1 wrote 1 from 0]"),
+        (&[], "[0 read from 0: 1=5][1 wrote 1 from 1]"),
+    ],
+};
+
 #[test]
 fn one_frames_lag(rt: HostRuntime) {
-    const CASE: &Case<'static> = &Case {
-        limit: 20,
-        acts: &[(0, Does::Reads), (0, Does::Writes(5))],
-        rules: &[Rule {
-            earlier: 0,
-            later: 1,
-        }],
-        frames: &[
-            (&[], "[0 read from 0:][1 wrote 1 from 0]"),
-            (&[], "[0 read from 0: 1=5][1 wrote 1 from 1]"),
-        ],
-    };
-    expect_case(&rt, CASE);
+    expect_case(&rt, LAG);
 }
 
 /// In each frame the host posts, both writers write after it, and all four messages are read.

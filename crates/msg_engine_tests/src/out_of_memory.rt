@@ -4,6 +4,7 @@ ghost use Rattle.std.specs.Prelude.{◌≡◌, IfOk, Ok};
 ghost use Rattle.msg_world.specs.Prelude.{i64_values};
 ghost use Rattle.msg_exec.specs.Prelude.{IsEngine};
 
+use crate::cases::LAG;
 use crate::equal::expect_eq;
 use crate::expecting::{Case, Told, expect_unlawful};
 use crate::making::{Act, Does, engine_of, replay, run_two_quiet, scripts};
@@ -33,20 +34,6 @@ fn made<T: Drop>(rt: &impl Abort, made: Result<T, BuildError>) -> Result<T, NoMe
         Err(_other) => panic!(rt; "the engine can be built"),
     }
 }
-
-/// A reader, and after it a writer: what is written is read a frame later.
-const LAG: &Case<'static> = &Case {
-    limit: 10,
-    acts: &[(0, Does::Reads), (0, Does::Writes(5))],
-    rules: &[Rule {
-        earlier: 0,
-        later: 1,
-    }],
-    frames: &[
-        (&[], "[0 read from 0:][1 wrote 1 from 0]"),
-        (&[], "[0 read from 0: 1=5][1 wrote 1 from 1]"),
-    ],
-};
 
 /// A writer, and two readers that may run side by side: on two workers they draw from a board. In
 /// each frame both readers are given what was written in it.
