@@ -6,6 +6,7 @@ use Rattle.std.proofs.lemmas.{Slice.Eq.bytes_eq-Decides, Bool.and_parts}
 use Rattle.clap.specs.{Words.Rule, Words.Shape, Words.Text, Words.takes, Lexer.long_of, Simple.built, Simple.entered, Simple.names_of, Simple.rows_at, Walk.Held, Walk.Names, Walk.Outcome, Walk.Step, Walk.Waiting, Walk.Walk, Walk.after_flag, Walk.after_step, Walk.long_or_other, Walk.nothing_held, Walk.stop_after, Walk.subcommand, Walk.subcommand_met, Walk.subcommand_or_other, Walk.trailing, Walk.value, Walk.walk_from, Walk.walked, Walk.walked_from, Walk.word_met, Takes.entered_passes, Takes.level_passes, Takes.other_passes, Takes.step_passes, Takes.turn_passes, Takes.walk_passes, Takes.word_passes}
 use Rattle.clap.proofs.OnLiterals.{clap_on_literals}
 use Rattle.msg_command.specs.Prelude.{AsksForNone, asked, msgrun_app, number_in}
+use Rattle.msg_command.specs.declared.limits.TheConstants.{LAST_FRAME, MAX_WORKERS}
 use Rattle.msg_command.proofs.ClapFillsRows.{file_given, plan_given, plan_shape, run_given, run_shape}
 
 -- ---- a flag is no subcommand
@@ -106,7 +107,7 @@ run_asks words rest sub passes =
     let rows = (rows_at run_shape rest).1 in
     let file = given.0.0 in
     let text = given.1.0 in
-    elim (number_in 64 text) as (λ o. number_in 64 text ≡ o → Asks words) [
+    elim (number_in MAX_WORKERS text) as (λ o. number_in MAX_WORKERS text ≡ o → Asks words) [
       | Some n ↦ λ is. inl (rw (sub, given.0.1, given.1.1, is) refl)
       | None ↦ λ is. inr (inl (rows, text, sub, given.1.1, is))
     ] refl
@@ -119,7 +120,7 @@ plan_asks words rest sub passes =
     let given = plan_given rest passes in
     let rows = (rows_at plan_shape rest).1 in
     let text = given.1.0 in
-    elim (number_in 10000 text) as (λ o. number_in 10000 text ≡ o → Asks words) [
+    elim (number_in LAST_FRAME text) as (λ o. number_in LAST_FRAME text ≡ o → Asks words) [
       | Some n ↦ λ is. inl (rw (sub, given.0.1, given.1.1, is) refl)
       | None ↦ λ is. inr (inr (rows, text, sub, given.1.1, is))
     ] refl

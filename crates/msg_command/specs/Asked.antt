@@ -4,6 +4,7 @@ use Rattle.std.specs.{Char.digit_value, List.list_all, Option.option_map_or, Str
 use Rattle.clap.specs.{Words.IsAmong, Words.Kinds, Words.Row, Words.Text, Words.first_of, Words.subcommand_of, declared.error.ErrorKind.ErrorKind}
 use Rattle.clap.specs.declared.error.ErrorKind.TheVariants as kind
 use Rattle.msg_command.specs.{CommandLine.msgrun_app, declared.words.Action.Action, declared.words.Action.TheVariants.Buffer, declared.words.Action.TheVariants.Run, declared.words.Action.TheVariants.Check, declared.words.Action.TheVariants.Plan, declared.words.WordFault.WordFault}
+use Rattle.msg_command.specs.declared.limits.TheConstants.{LAST_FRAME, MAX_WORKERS}
 use Rattle.msg_command.specs.declared.words.WordFault.TheVariants as word
 
 -- a request: to answer the calls file of a name, or of standard input; to run the scenario file of
@@ -36,11 +37,11 @@ number_in most text =
 
 -- the number of workers that is asked for
 abbrev pub workers_asked : List Row → Option ℕ
-workers_asked rows = option_and_then (number_in 64) (first_of (codes "workers") rows)
+workers_asked rows = option_and_then (number_in MAX_WORKERS) (first_of (codes "workers") rows)
 
--- the frame that is asked for; no system joins after frame 10,000
+-- the frame that is asked for; no system joins after `LAST_FRAME`
 abbrev pub frame_asked : List Row → Option ℕ
-frame_asked rows = option_and_then (number_in 10000) (first_of (codes "frame") rows)
+frame_asked rows = option_and_then (number_in LAST_FRAME) (first_of (codes "frame") rows)
 
 -- whether --dot is among the words
 abbrev pub dot_asked : List Row → Bool
@@ -84,8 +85,8 @@ HasNoNumber name id most words = (rows : List Row) × (text : Text)
 
 -- the words ask for a run on workers, or for a plan of a frame, that there can't be
 abbrev pub AsksForNone : List Text → Type 0
-AsksForNone words = HasNoNumber (codes "run") (codes "workers") 64 words
-    ⊎ HasNoNumber (codes "plan") (codes "frame") 10000 words
+AsksForNone words = HasNoNumber (codes "run") (codes "workers") MAX_WORKERS words
+    ⊎ HasNoNumber (codes "plan") (codes "frame") LAST_FRAME words
 
 -- clap tells by this kind that help or the version is asked for
 abbrev pub IsShown : ErrorKind → Type 0
@@ -100,9 +101,9 @@ IsToldOf kinds word.Bad = (kinds ≡ [])
     ⊎ ((k : ErrorKind) × IsAmong k kinds × ¬ IsShown k)
 IsToldOf kinds word.NoMemory = Unit {0}
 
--- a run is on 1 to 64 workers, a plan of a frame from 1 to 10,000
+-- a run is on 1 to `MAX_WORKERS` workers, a plan of a frame from 1 to `LAST_FRAME`
 abbrev pub IsInRange : Action → Type 0
 IsInRange (Buffer file) = Unit {0}
-IsInRange (Run file workers) = (0 < workers) × (workers ≤ 64)
+IsInRange (Run file workers) = (0 < workers) × (workers ≤ MAX_WORKERS)
 IsInRange (Check file) = Unit {0}
-IsInRange (Plan file frame dot) = (0 < frame) × (frame ≤ 10000)
+IsInRange (Plan file frame dot) = (0 < frame) × (frame ≤ LAST_FRAME)

@@ -3,6 +3,7 @@
 
 mod fault;
 mod input;
+mod limits;
 mod words;
 
 pub use fault::{MainFault, print_fault, refusal_line};

@@ -2,13 +2,14 @@
 use Rattle.std.specs.Prelude.{ℕ, ◌&&◌, ◌||◌, ◌==◌, not, nat_le, Bool, length, codes}
 use Rattle.std.specs.{List.list_all, Str.bytes_eq}
 use Rattle.msg_text.specs.Prelude.{Text}
+use Rattle.msg_scenario_data.specs.declared.limits.TheConstants.{MAX_NAME}
 
 -- `a` to `z`, `0` to `9`, or `_`
 abbrev pub is_name_character : ℕ → Bool
 is_name_character c = (nat_le 97 c && nat_le c 122) || (nat_le 48 c && nat_le c 57) || c == 95
 
--- 1 to 32 such characters, and not the host's name
+-- 1 to `MAX_NAME` such characters, and not the host's name
 abbrev pub is_name : Text → Bool
 is_name t =
-    nat_le 1 (length t) && nat_le (length t) 32 && list_all is_name_character t
+    nat_le 1 (length t) && nat_le (length t) MAX_NAME && list_all is_name_character t
     && not (bytes_eq t (codes "host"))

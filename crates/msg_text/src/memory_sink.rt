@@ -12,7 +12,7 @@ pub const CAPACITY: usize = 65536;
 /// is full, a put of one byte or more fails.
 #[derive(Drop)]
 pub struct MemorySink {
-    bytes: [u8; 65536],
+    bytes: [u8; CAPACITY],
     len: usize,
     failed: u64,
 }
@@ -20,12 +20,13 @@ pub struct MemorySink {
 impl Model for MemorySink {
     ghost use Rattle.std.specs.Prelude.{◌≤◌, take};
     ghost use Rattle.msg_text.specs.Sinks.{InMemory};
+    ghost use Rattle.msg_text.specs.declared.memory_sink.TheConstants.{CAPACITY};
 
     ghost Value = { InMemory };
 
     ghost view = { λ s. record { contents = take s.len s.bytes; failures = s.failed } };
 
-    ghost invariant = { λ s. s.len ≤ 65536 };
+    ghost invariant = { λ s. s.len ≤ CAPACITY };
 }
 
 impl MemorySink {
@@ -35,7 +36,7 @@ impl MemorySink {
         ensures quiet { result.failures ≡ 0 }
     {
         MemorySink {
-            bytes: [0; 65536],
+            bytes: [0; CAPACITY],
             len: 0,
             failed: 0,
         }

@@ -53,7 +53,7 @@ pub fn add_pair(text: &mut Vec<u8>, number: u128, value: i64) -> Result<(), NoMe
 /// Writes a value at the end of a pair, and returns where it starts.
 #[tactic(auto, using(crate::proofs::Digits::digits))]
 fn write_value(value: i64, pair: &mut [u8; LONGEST]) -> usize
-    ensures short { (41 ≤ result) × (result ≤ 61) }
+    ensures short { (41 ≤ result) × (result ≤ LONGEST) }
     ensures written { drop result pair.new ≡ signed_decimal value }
 {
     let start = write_digits(value.unsigned_abs(), pair, LONGEST);
@@ -69,7 +69,7 @@ fn write_value(value: i64, pair: &mut [u8; LONGEST]) -> usize
 #[tactic(auto, using(crate::proofs::Digits::wide_steps))]
 fn write_number(number: u128, pair: &mut [u8; LONGEST], end: usize) -> usize
     requires room { 40 ≤ end }
-    requires within { end ≤ 61 }
+    requires within { end ≤ LONGEST }
     ensures start { result + length (decimal number) ≡ end }
     ensures short { 1 ≤ result }
     ensures written { drop result pair.new ≡ decimal number ++ drop end pair.old }

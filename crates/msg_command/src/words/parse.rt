@@ -2,6 +2,7 @@ ghost use Rattle.std.specs.Prelude.{◌≡◌, ◌<◌, ◌≤◌, ◌⊎◌, []
 ghost use Rattle.clap.specs.Words.{fault_of, takes, first_of, rows_of, found_of, subcommand_rows_of};
 ghost use Rattle.msg_command.specs.Prelude.{AsksForNone, IsInRange, IsToldOf, asked, asked_by, dot_asked, frame_asked, msgrun_app, number_in, request_of, texts_of, workers_asked};
 
+use crate::limits::{LAST_FRAME, MAX_WORKERS};
 use crate::words::command::matches;
 use crate::words::{Action, WordFault};
 use clap::ArgMatches;
@@ -74,24 +75,24 @@ fn file_of(alloc: Global, inner: &ArgMatches<'_>) -> Result<String, WordFault>
 fn workers_of(inner: &ArgMatches<'_>) -> Result<u32, WordFault>
     ensures number { IfOk result (λ n. workers_asked (rows_of (found_of inner.now)) ≡ Some n) }
     ensures some { IfOk result (λ n. 0 < n) }
-    ensures at_most { IfOk result (λ n. n ≤ 64) }
+    ensures at_most { IfOk result (λ n. n ≤ MAX_WORKERS) }
     ensures refused { IfErr result (λ e. (e ≡ WordFault.Bad)
         × (workers_asked (rows_of (found_of inner.now)) ≡ None)) }
 {
     let text = inner.get_str("workers").ok_or(WordFault::Bad)?;
-    number_in(text, 64).ok_or(WordFault::Bad)
+    number_in(text, MAX_WORKERS).ok_or(WordFault::Bad)
 }
 
 #[tactic(auto, using(crate::proofs::RowValues::row_value))]
 fn frame_of(inner: &ArgMatches<'_>) -> Result<u32, WordFault>
     ensures number { IfOk result (λ n. frame_asked (rows_of (found_of inner.now)) ≡ Some n) }
     ensures some { IfOk result (λ n. 0 < n) }
-    ensures at_most { IfOk result (λ n. n ≤ 10000) }
+    ensures at_most { IfOk result (λ n. n ≤ LAST_FRAME) }
     ensures refused { IfErr result (λ e. (e ≡ WordFault.Bad)
         × (frame_asked (rows_of (found_of inner.now)) ≡ None)) }
 {
     let text = inner.get_str("frame").ok_or(WordFault::Bad)?;
-    number_in(text, 10_000).ok_or(WordFault::Bad)
+    number_in(text, LAST_FRAME).ok_or(WordFault::Bad)
 }
 
 #[tactic(auto, using(crate::proofs::RowValues::row_value))]
