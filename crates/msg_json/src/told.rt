@@ -52,7 +52,7 @@ fn add_place(
     add_path(text, location)?;
     text.extend_from_slice(b": ")?;
     add_there(alloc, text, location, file)?;
-    add_system(alloc, text, location, file)?;
+    add_system_name(alloc, text, location, file)?;
     text.extend_from_slice(b"\n")
 }
 
@@ -87,7 +87,7 @@ fn add_there(
 }
 
 /// Adds the name of the system in which a location lies.
-fn add_system(
+fn add_system_name(
     alloc: Global,
     text: &mut Vec<u8>,
     location: Location,

@@ -5,7 +5,7 @@ ghost use Rattle.msg_plans.specs.inner.Tables.{IsTableOf};
 
 use crate::planned::{Form, Planned};
 use msg_scenario_data::Scenario;
-use msg_scenario_data::names::add_system;
+use msg_scenario_data::names::add_system_name;
 use msg_text::numerals::add_count;
 use msg_world::NoMemory;
 use std::alloc::Global;
@@ -20,7 +20,7 @@ pub(crate) fn add_quoted(
         (text.new.items ≡ text.old.items ++ Spec.quoted scenario.now system) }
 {
     text.extend_from_slice(b"\"")?;
-    add_system(text, scenario, system)?;
+    add_system_name(text, scenario, system)?;
     text.extend_from_slice(b"\"")
 }
 
@@ -36,7 +36,7 @@ fn add_member(
 {
     text.extend_from_slice(b" ")?;
     match form {
-        Form::Lines => add_system(text, scenario, system),
+        Form::Lines => add_system_name(text, scenario, system),
         Form::Dot => {
             add_quoted(text, scenario, system)?;
             text.extend_from_slice(b";")

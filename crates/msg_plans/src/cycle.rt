@@ -4,7 +4,7 @@ ghost use Rattle.msg_plans.specs.Unfit as Spec;
 
 use msg_order::Rule;
 use msg_scenario_data::Scenario;
-use msg_scenario_data::names::add_system;
+use msg_scenario_data::names::add_system_name;
 use msg_text::numerals::add_count;
 use msg_world::NoMemory;
 use std::alloc::Global;
@@ -150,8 +150,8 @@ fn add_names(text: &mut Vec<u8>, scenario: &Scenario, rule: &Rule) -> Result<(),
         (text.new.items ≡ text.old.items ++ Spec.rule_names scenario.now rule.now) }
 {
     text.extend_from_slice(b"]: ")?;
-    add_system(text, scenario, rule.earlier)?;
+    add_system_name(text, scenario, rule.earlier)?;
     text.extend_from_slice(b" before ")?;
-    add_system(text, scenario, rule.later)?;
+    add_system_name(text, scenario, rule.later)?;
     text.extend_from_slice(b"\n")
 }

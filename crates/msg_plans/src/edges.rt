@@ -8,7 +8,7 @@ use crate::batches::add_quoted;
 use crate::cause::{add_causes, causes_of, has_rule};
 use crate::planned::{Form, Planned};
 use msg_scenario_data::Scenario;
-use msg_scenario_data::names::add_system;
+use msg_scenario_data::names::add_system_name;
 use msg_world::{MAX_RESOURCES, MAX_TYPES, NoMemory};
 
 fn add_line(
@@ -21,9 +21,9 @@ fn add_line(
     ensures appends { OnOk result
         (text.new.items ≡ text.old.items ++ edge_line scenario.now i j causes.now) }
 {
-    add_system(text, scenario, i)?;
+    add_system_name(text, scenario, i)?;
     text.extend_from_slice(b" before ")?;
-    add_system(text, scenario, j)?;
+    add_system_name(text, scenario, j)?;
     text.extend_from_slice(b": ")?;
     add_causes(text, scenario, causes)?;
     text.extend_from_slice(b"\n")

@@ -6,7 +6,7 @@ ghost use Rattle.msg_plans.specs.inner.Tables.{IsTableOf};
 
 use crate::planned::{Planned, Use, plan_frame};
 use msg_frames::{Frame, LAST_JOIN};
-use msg_scenario_data::names::{add_name, add_resource, add_system, add_type};
+use msg_scenario_data::names::{add_name, add_resource, add_system_name, add_type};
 use msg_scenario_data::{Scenario, SystemSpec};
 use msg_text::numerals::add_count;
 use msg_world::{MAX_RESOURCES, MAX_SYSTEMS, MAX_TYPES, NoMemory, ResNo, TypeNo};
@@ -274,7 +274,7 @@ fn add_before(
         ++ Spec.rule_text (Spec.rule_before scenario.now system later) ++ codes "\n")) }
 {
     text.extend_from_slice(head)?;
-    add_system(text, scenario, later)?;
+    add_system_name(text, scenario, later)?;
     add_rule(text, rule_before(scenario, system, later))?;
     text.extend_from_slice(b"\n")
 }
@@ -306,7 +306,7 @@ fn add_late_line(
         (text.new.items ≡ text.old.items ++ Spec.late_line scenario.now system t writer) }
 {
     text.extend_from_slice(b"remark: ")?;
-    add_system(text, scenario, system)?;
+    add_system_name(text, scenario, system)?;
     text.extend_from_slice(b" reads ")?;
     add_type(text, scenario, t)?;
     add_since(text, scenario, system, writer)

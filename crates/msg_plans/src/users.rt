@@ -5,7 +5,7 @@ ghost use Rattle.msg_plans.specs.inner.Tables.{IsTableOf};
 
 use crate::planned::{Planned, Use, User};
 use msg_scenario_data::Scenario;
-use msg_scenario_data::names::{add_system, add_type};
+use msg_scenario_data::names::{add_system_name, add_type};
 use msg_world::{MAX_TYPES, NoMemory, TypeNo};
 use std::alloc::Global;
 
@@ -55,7 +55,7 @@ fn users(
 fn add_user(text: &mut Vec<u8>, scenario: &Scenario, user: User) -> Result<(), NoMemory>
     ensures appends { OnOk result (text.new.items ≡ text.old.items ++ user_text scenario.now user) }
 {
-    add_system(text, scenario, user.system)?;
+    add_system_name(text, scenario, user.system)?;
     if user.is_late {
         text.extend_from_slice(b" (a frame late)")?;
     }

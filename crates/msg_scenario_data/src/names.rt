@@ -34,7 +34,7 @@ pub fn add_resource(text: &mut Vec<u8>, scenario: &Scenario, r: ResNo) -> Result
 }
 
 /// The name of a system; nothing if there is no such system.
-pub fn add_system(text: &mut Vec<u8>, scenario: &Scenario, system: u32) -> Result<(), NoMemory>
+pub fn add_system_name(text: &mut Vec<u8>, scenario: &Scenario, system: u32) -> Result<(), NoMemory>
     ensures appends { OnOk result
         (text.new.items ≡ text.old.items ++ system_name scenario.now system) }
 {

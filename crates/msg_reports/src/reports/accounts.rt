@@ -5,7 +5,7 @@ ghost use Rattle.msg_reports.specs.Prelude.{account_line, accounts_text, standin
 use msg_buffer::NoMemory;
 use msg_exec::Account;
 use msg_scenario_data::Scenario;
-use msg_scenario_data::names::{add_system, add_type};
+use msg_scenario_data::names::{add_system_name, add_type};
 use msg_text::numerals::add_count;
 
 /// A line for each reader.
@@ -28,7 +28,7 @@ fn add_account(text: &mut Vec<u8>, scenario: &Scenario, account: Account) -> Res
     ensures { OnOk result (text.new.items ≡ text.old.items ++ account_line scenario.now account) }
 {
     text.extend_from_slice(b"reader ")?;
-    add_system(text, scenario, account.system)?;
+    add_system_name(text, scenario, account.system)?;
     text.extend_from_slice(b" ")?;
     add_type(text, scenario, account.of_type)?;
     add_standing(text, account)?;

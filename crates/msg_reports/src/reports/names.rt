@@ -4,7 +4,7 @@ ghost use Rattle.msg_reports.specs.Prelude.{writer_name};
 
 use msg_buffer::NoMemory;
 use msg_scenario_data::Scenario;
-use msg_scenario_data::names::add_system;
+use msg_scenario_data::names::add_system_name;
 use msg_world::HOST;
 
 /// `@` and the name of a message's writer.
@@ -16,6 +16,6 @@ pub fn add_writer(text: &mut Vec<u8>, scenario: &Scenario, writer: u32) -> Resul
         text.extend_from_slice(b"@host")
     } else {
         text.extend_from_slice(b"@")?;
-        add_system(text, scenario, writer)
+        add_system_name(text, scenario, writer)
     }
 }
