@@ -6,13 +6,14 @@ use Rattle.msg_json.specs.declared.fault.Fault.{Fault}
 use Rattle.msg_json.proofs.WalksOverLists.{behind, behind_more}
 use Rattle.msg_files.specs.Prelude.{Call, call_of, calls_from, cursors_exist, made_by}
 use Rattle.msg_files.specs.inner.Cursors.{FitsCursors}
+use Rattle.msg_files.specs.declared.limits.TheConstants.{MAX_CURSORS}
 
 -- the calls so far were read, and those from i on are left
 pub record CallsLeft (items : List Value) (i : ℕ) (calls : List Call) (made : ℕ) : Type 0 where
   pub so_far : calls_from 1 0 (map view items)
       ≡ behind calls (calls_from made i (map view (drop i items)))
   pub cursors : (rest : List Call) → cursors_exist 1 (calls ++ rest) ≡ cursors_exist made rest
-  pub room : made ≤ 64
+  pub room : made ≤ MAX_CURSORS
 
 module _ (items : List Value) (i : ℕ) (calls : List Call) (made : ℕ) (left : CallsLeft items i calls made)
     (v : Value) (is : drop i items ≡ v ∷ drop (i + 1) items) where
