@@ -5,7 +5,8 @@ use Rattle.std.specs.Fmt.{signed_decimal}
 use Rattle.msg_buffer.specs.Prelude.{History, clear, count, current, empty, get, given, has_room, missed, next_place, oldest, present, read, unread, update, write}
 use Rattle.msg_buffer.specs.declared.Instance.{Instance}
 use Rattle.msg_text.specs.Text.{Text}
-use Rattle.msg_files.specs.{Cursors.CallsFile, declared.call.Call.Call, declared.call.Call.TheVariants.Write, declared.call.Call.TheVariants.Batch, declared.call.Call.TheVariants.Update, declared.call.Call.TheVariants.Read, declared.call.Call.TheVariants.Missed, declared.call.Call.TheVariants.Len, declared.call.Call.TheVariants.Clear, declared.call.Call.TheVariants.Cursor, declared.call.Call.TheVariants.CursorCurrent, declared.call.Call.TheVariants.Get, declared.call.Call.TheVariants.Current, declared.call.Call.TheVariants.Oldest, declared.call.Call.TheVariants.Count, declared.call.Call.TheVariants.Total, declared.call.Call.TheVariants.Drain, declared.call.Call.TheVariants.ClearAll}
+use Rattle.msg_files.specs.{Cursors.CallsFile, declared.call.Call.Call}
+use Rattle.msg_files.specs.declared.call.Call.TheVariants as call
 
 -- a history, and the place of each cursor in the order of their making
 pub record BufferState : Type 0 where
@@ -59,50 +60,50 @@ cursor_line s at =
 
 -- the line that a call prints in a state
 abbrev pub line : Call → BufferState → Text
-line (Write value) s = codes "write " ++ range_text s.history 1 ++ codes "\n"
-line (Batch values) s = codes "batch " ++ range_text s.history (length values) ++ codes "\n"
-line Update s = codes "update\n"
-line (Read c limit) s =
+line (call.Write value) s = codes "write " ++ range_text s.history 1 ++ codes "\n"
+line (call.Batch values) s = codes "batch " ++ range_text s.history (length values) ++ codes "\n"
+line call.Update s = codes "update\n"
+line (call.Read c limit) s =
     codes "read " ++ decimal c ++ codes " missed " ++ decimal (missed s.history (place s c))
     ++ codes ": " ++ pairs_text (given s.history (place s c) limit) ++ codes "\n"
-line (Missed c) s =
+line (call.Missed c) s =
     codes "missed " ++ decimal c ++ codes " " ++ decimal (missed s.history (place s c))
     ++ codes "\n"
-line (Len c) s =
+line (call.Len c) s =
     codes "len " ++ decimal c ++ codes " " ++ decimal (length (unread s.history (place s c)))
     ++ codes "\n"
-line (Clear c) s =
+line (call.Clear c) s =
     codes "clear " ++ decimal c ++ codes " missed " ++ decimal (missed s.history (place s c))
     ++ codes " cleared " ++ decimal (length (unread s.history (place s c))) ++ codes "\n"
-line Cursor s = cursor_line s 0
-line CursorCurrent s = cursor_line s (count s.history)
-line (Get n) s =
+line call.Cursor s = cursor_line s 0
+line call.CursorCurrent s = cursor_line s (count s.history)
+line (call.Get n) s =
     codes "get " ++ decimal n ++ codes " " ++ value_text (get s.history n) ++ codes "\n"
-line Current s = codes "current: " ++ pairs_text (current s.history) ++ codes "\n"
-line Oldest s = codes "oldest " ++ decimal (oldest s.history) ++ codes "\n"
-line Count s = codes "count " ++ decimal (count s.history) ++ codes "\n"
-line Total s = codes "total " ++ decimal (length (present s.history)) ++ codes "\n"
-line Drain s = codes "drain: " ++ pairs_text (present s.history) ++ codes "\n"
-line ClearAll s = codes "clear_all\n"
+line call.Current s = codes "current: " ++ pairs_text (current s.history) ++ codes "\n"
+line call.Oldest s = codes "oldest " ++ decimal (oldest s.history) ++ codes "\n"
+line call.Count s = codes "count " ++ decimal (count s.history) ++ codes "\n"
+line call.Total s = codes "total " ++ decimal (length (present s.history)) ++ codes "\n"
+line call.Drain s = codes "drain: " ++ pairs_text (present s.history) ++ codes "\n"
+line call.ClearAll s = codes "clear_all\n"
 
 -- the state after a call
 abbrev pub after : Call → BufferState → BufferState
-after (Write value) s = record s { history = write (value ∷ []) s.history }
-after (Batch values) s = record s { history = write values s.history }
-after Update s = record s { history = update s.history }
-after (Read c limit) s = with_cursor_at s c (next_place (read s.history (place s c) limit))
-after (Missed c) s = s
-after (Len c) s = s
-after (Clear c) s = with_cursor_at s c (count s.history)
-after Cursor s = with_cursor s 0
-after CursorCurrent s = with_cursor s (count s.history)
-after (Get n) s = s
-after Current s = s
-after Oldest s = s
-after Count s = s
-after Total s = s
-after Drain s = record s { history = clear s.history }
-after ClearAll s = record s { history = clear s.history }
+after (call.Write value) s = record s { history = write (value ∷ []) s.history }
+after (call.Batch values) s = record s { history = write values s.history }
+after call.Update s = record s { history = update s.history }
+after (call.Read c limit) s = with_cursor_at s c (next_place (read s.history (place s c) limit))
+after (call.Missed c) s = s
+after (call.Len c) s = s
+after (call.Clear c) s = with_cursor_at s c (count s.history)
+after call.Cursor s = with_cursor s 0
+after call.CursorCurrent s = with_cursor s (count s.history)
+after (call.Get n) s = s
+after call.Current s = s
+after call.Oldest s = s
+after call.Count s = s
+after call.Total s = s
+after call.Drain s = record s { history = clear s.history }
+after call.ClearAll s = record s { history = clear s.history }
 
 -- ---- the text of a file
 

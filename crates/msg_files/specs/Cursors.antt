@@ -1,6 +1,7 @@
 -- A calls file: a limit, and calls whose cursors exist.
 use Rattle.std.specs.Prelude.{ℕ, ◌+◌, ◌&&◌, nat_lt, Bool, true, List, [], ◌∷◌}
-use Rattle.msg_files.specs.{declared.call.Call.Call, declared.call.Call.TheVariants.Read, declared.call.Call.TheVariants.Missed, declared.call.Call.TheVariants.Len, declared.call.Call.TheVariants.Clear, declared.call.Call.TheVariants.Cursor, declared.call.Call.TheVariants.CursorCurrent}
+use Rattle.msg_files.specs.declared.call.Call.{Call}
+use Rattle.msg_files.specs.declared.call.Call.TheVariants as call
 
 -- a buffer's limit, and the calls to be made on it
 pub record CallsFile : Type 0 where
@@ -9,16 +10,16 @@ pub record CallsFile : Type 0 where
 
 -- how many cursors a call makes
 abbrev pub made_by : Call → ℕ
-made_by Cursor = 1
-made_by CursorCurrent = 1
+made_by call.Cursor = 1
+made_by call.CursorCurrent = 1
 made_by _ = 0
 
 -- the cursor that a call works on, if any, is one of the first `made`
 abbrev pub has_cursor : ℕ → Call → Bool
-has_cursor made (Read cursor limit) = nat_lt cursor made
-has_cursor made (Missed cursor) = nat_lt cursor made
-has_cursor made (Len cursor) = nat_lt cursor made
-has_cursor made (Clear cursor) = nat_lt cursor made
+has_cursor made (call.Read cursor limit) = nat_lt cursor made
+has_cursor made (call.Missed cursor) = nat_lt cursor made
+has_cursor made (call.Len cursor) = nat_lt cursor made
+has_cursor made (call.Clear cursor) = nat_lt cursor made
 has_cursor made _ = true
 
 -- each call works on a cursor that was there before it

@@ -3,4 +3,3 @@ pub use Rattle.msg_files.specs.CallsFormat.{call_of, calls_from, calls_of, file_
 pub use Rattle.msg_files.specs.CallsText.{BufferState, after, calls_text, pair_text, pairs_text, line, more_pairs, text_of, value_text, range_text}
 pub use Rattle.msg_files.specs.Cursors.{cursors_exist, has_cursor, made_by}
 pub use Rattle.msg_files.specs.declared.call.Call.{Call}
-pub use Rattle.msg_files.specs.declared.call.Call.TheVariants.{Batch, Clear, ClearAll, Count, Current, Cursor, CursorCurrent, Drain, Get, Len, Missed, Oldest, Read, Total, Update, Write}
