@@ -87,8 +87,6 @@ pub fn add_system<S: SystemOf<Value = i64>>(
     ensures so_far { OnOk result (EachIs (IsSystemAt S.meaning specs.now) systems.new.items) }
     ensures one_more { OnOk result (length systems.new.items ≡ length systems.old.items + 1) }
 {
-    let _ = specs;
-    let _ = spec;
     systems.push(system)?;
     Ok(())
 }

@@ -1,12 +1,12 @@
 -- Names of types, resources and systems.
 use Rattle.std.specs.Prelude.{ℕ, ◌&&◌, ◌||◌, ◌==◌, not, nat_le, Bool, length, codes}
-use Rattle.std.specs.{List.list_all, Str.bytes_eq}
+use Rattle.std.specs.{Char.is_ascii_digit, Char.is_ascii_lowercase, List.list_all, Str.bytes_eq}
 use Rattle.msg_text.specs.Prelude.{Text}
 use Rattle.msg_scenario_data.specs.declared.limits.TheConstants.{MAX_NAME}
 
 -- `a` to `z`, `0` to `9`, or `_`
 abbrev pub is_name_character : ℕ → Bool
-is_name_character c = (nat_le 97 c && nat_le c 122) || (nat_le 48 c && nat_le c 57) || c == 95
+is_name_character c = is_ascii_lowercase c || is_ascii_digit c || c == 95
 
 -- 1 to `MAX_NAME` such characters, and not the host's name
 abbrev pub is_name : Text → Bool

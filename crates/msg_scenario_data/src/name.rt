@@ -69,5 +69,5 @@ fn are_name_characters(bytes: &[u8]) -> bool
 fn is_name_character(byte: u8) -> bool
     ensures { result ≡ is_name_character byte }
 {
-    97 <= byte && byte <= 122 || 48 <= byte && byte <= 57 || byte == 95
+    matches!(byte, b'a'..=b'z' | b'0'..=b'9' | b'_')
 }

@@ -39,13 +39,13 @@ pub fn read_sections(alloc: Global, file: &Value) -> Result<Scenario, Fault>
     };
     let mut names = Declarations::new(alloc);
     let scenario = read_in_turn(alloc, &mut names, sections, file);
-    // (by one call: a proof follows what goes out of scope through all of its parts)
+    // Proof: what goes out of scope is followed through all its parts, and a call of `drop` isn't.
     drop(names);
     scenario
 }
 
-/// The sections of a file whose keys are known. (The names are lent to it, since a proof goes
-/// through all that is dropped if a section is refused.)
+/// The sections of a file whose keys are known.
+// Proof: owned names would be dropped at each `?`, and followed each time, so they are lent.
 fn read_in_turn(
     alloc: Global,
     names: &mut Declarations,
