@@ -17,42 +17,16 @@ import sys
 import tempfile
 from pathlib import Path
 
-ROOT = Path(__file__).resolve().parent.parent
+sys.dont_write_bytecode = True
+sys.path.insert(0, str(Path(__file__).resolve().parent.parent / ".ci"))
+from edits import ROOT, below, blocks, changed, crates_txt  # noqa: E402
 
-
-def blocks():
-    """Each wrong definition: its name, how it is told, the crate, the function, and its changes by file."""
-    text = (ROOT / "bench/wrong_definitions.txt").read_text(encoding="utf-8")
-    for block in text.strip().split("\n\n"):
-        name, by, *rest = [line for line in block.split("\n") if not line.startswith("#")]
-        how, crate, function = by.split()
-        changes, file, old = [], None, None
-        for line in rest:
-            key, _, value = line.partition(": ")
-            if key == "file":
-                file = value
-            elif key == "old":
-                old = value
-            else:
-                changes.append((file, old, value))
-        yield name, how, crate, function, changes
-
-
-def below():
-    """What each crate of this repository stands on, near and far."""
-    lines = [line.split("#")[0] for line in (ROOT / "crates.txt").read_text(encoding="utf-8").split("\n")]
-    named = {head.split()[0]: rest.split() for head, colon, rest in (line.partition(":") for line in lines) if colon}
-
-    def all_below(name):
-        near = [other for other in named[name] if other in named]
-        return {*near}.union(*map(all_below, near))
-
-    return {name: all_below(name) for name in named}
+NAMED = crates_txt()
 
 
 def copied(crate, changes, room):
     """A repository of this crate and of those that it stands on, with what was proved of them."""
-    names = {crate, *below()[crate]}
+    names = {crate, *below(NAMED, crate)}
     lines = [line for line in (ROOT / "crates.txt").read_text(encoding="utf-8").split("\n")
              if line.split(":")[0].split(" ")[0] in names]
     (room / "crates.txt").write_text("\n".join(lines) + "\n", encoding="utf-8")
@@ -64,17 +38,6 @@ def copied(crate, changes, room):
         shutil.copytree(old, new, ignore=shutil.ignore_patterns("out", "must-fail"))
         left = shutil.ignore_patterns() if name in worked_on else shutil.ignore_patterns("incremental")
         shutil.copytree(old / "out", new / "out", copy_function=os.link, ignore=left)
-
-
-def changed(crates, changes):
-    """Makes the changes; says which one can't be made."""
-    for file, old, new in changes:
-        path = crates / file
-        text = path.read_text(encoding="utf-8")
-        if text.count(old) != 1:
-            return f"{file} has {text.count(old)} times: {old}"
-        path.write_text(text.replace(old, new), encoding="utf-8")
-    return None
 
 
 def tried(crate, function, changes):
@@ -97,7 +60,8 @@ def tried(crate, function, changes):
 def main():
     words = sys.argv[1:]
     passed = failed = 0
-    for name, how, crate, function, changes in blocks():
+    for name, words_of, changes in blocks(ROOT / "bench/wrong_definitions.txt"):
+        how, crate, function = words_of.split()
         if words and not any(word in name for word in words):
             continue
         refused, said = tried(crate, function, changes)
