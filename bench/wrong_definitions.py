@@ -4,11 +4,11 @@ whether the proof of the function beside it, or the worked run, is refused.
 
   wrong_definitions.py [WORD..]     those whose name has one of the words, or all
 
-A wrong definition is a block of lines. The first is its name. `law CRATE FUNCTION` names a law that is false of it, and
-`row CRATE NAME` a worked run of specs/Rows.antt; `code CRATE FUNCTION` names a function whose body isn't what it says:
-only the code tells it from the right one. Then come `file:`, `old:` and `new:`, as in a crate's must-fail edits, but
-with the path below crates/. The crates have to be proved in this clone (`rt all check`). A line tells what came of
-each, and the last line counts: `N passed, M failed`.
+A wrong definition is a block of lines. The first is its name. `law CRATE FUNCTION` names a law whose proof it breaks,
+and `row CRATE NAME` a worked run of specs/Rows.antt that it makes false; `code CRATE FUNCTION` names a function whose
+body isn't what it says: only the code tells it from the right one. Then come `file:`, `old:` and `new:`, as in a
+crate's must-fail edits, but with the path below crates/. The crates have to be proved in this clone (`rt all check`). A
+line tells what came of each, and the last line counts: `N passed, M failed`.
 """
 import os
 import shutil
