@@ -4,11 +4,12 @@ whether the proof of the function beside it, or the worked run, is refused.
 
   wrong_definitions.py [WORD..]     those whose name has one of the words, or all
 
-A wrong definition is a block of lines. The first is its name. `law CRATE FUNCTION` names a law whose proof it breaks,
-and `row CRATE NAME` a worked run of specs/Rows.antt that it makes false; `code CRATE FUNCTION` names a function whose
-body isn't what it says: only the code tells it from the right one. Then come `file:`, `old:` and `new:`, as in a
-crate's must-fail edits, but with the path below crates/. The crates have to be proved in this clone (`rt all check`). A
-line tells what came of each, and the last line counts: `N passed, M failed`.
+A wrong definition is a block of lines. The first is its name. `law CRATE FUNCTION` names a law whose proof it breaks.
+`row CRATE NAME` names a worked run (of specs/Rows.antt of msg_laws) that it makes false; the rows are then read as
+specs of CRATE, since no crate above one that isn't proved is read. `code CRATE FUNCTION` names a function whose body
+isn't what it says: only the code tells it from the right one. Then come `file:`, `old:` and `new:`, as in a crate's
+must-fail edits, but with the path below crates/. The crates have to be proved in this clone (`rt all check`). A line
+tells what came of each, and the last line counts: `N passed, M failed`.
 """
 import os
 import shutil
@@ -85,6 +86,11 @@ def tried(how, crate, function, changes):
         if lost:
             return False, lost
         words = ["rt", "check", "--jobs", "1"] + ([] if how == "row" else ["--only", function])
+        if how == "row":
+            specs = Path(room) / "crates" / crate / "specs"
+            shutil.copy(ROOT / "crates/msg_laws/specs/Rows.antt", specs)
+            with (specs / "Lib.antt").open("a", encoding="utf-8") as lib:
+                lib.write("\npub mod Rows\n")
         ran = subprocess.run(words, cwd=Path(room) / "crates" / crate, stdout=subprocess.PIPE, stderr=subprocess.STDOUT, text=True)
         lines = ran.stdout.strip().split("\n")
         errors = [line for line in lines if ": error: " in line]
