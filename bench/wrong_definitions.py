@@ -1,14 +1,15 @@
 #!/usr/bin/env python3
 """Puts each wrong definition of wrong_definitions.txt in place of the right one, in a copy of its crate, and looks
-whether the proof of the function beside it is refused.
+whether the proof of the function beside it, or the worked run, is refused.
 
   wrong_definitions.py [WORD..]     those whose name has one of the words, or all
 
-A wrong definition is a block of lines. The first is its name. `law CRATE FUNCTION` names a law or a worked run that is
-false of it; `code CRATE FUNCTION` names a function whose body isn't what it says: only the code tells it from the right
-one. Then come `file:`, `old:` and `new:`, as in a crate's must-fail edits, but with the path below crates/. The crates
-have to be proved in this clone (`rt all check`). A line tells what came of each, and the last line counts: `N passed,
-M failed`.
+A wrong definition is a block of lines. The first is its name. `law CRATE FUNCTION` names a law whose proof it breaks.
+`row CRATE NAME` names a worked run (of specs/Rows.antt of msg_laws) that it makes false; the rows are then read as
+specs of CRATE, since no crate above one that isn't proved is read. `code CRATE FUNCTION` names a function whose body
+isn't what it says: only the code tells it from the right one. Then come `file:`, `old:` and `new:`, as in a crate's
+must-fail edits, but with the path below crates/. The crates have to be proved in this clone (`rt all check`). A line
+tells what came of each, and the last line counts: `N passed, M failed`.
 """
 import os
 import shutil
@@ -40,19 +41,28 @@ def copied(crate, changes, room):
         shutil.copytree(old / "out", new / "out", copy_function=os.link, ignore=left)
 
 
-def tried(crate, function, changes):
-    """Whether the function's proof is refused, and what was said."""
+def tried(how, crate, function, changes):
+    """Whether the function's proof, or the worked run, is refused, and what was said."""
     with tempfile.TemporaryDirectory(prefix="wrong-") as room:
         copied(crate, changes, Path(room))
         lost = changed(Path(room) / "crates", changes)
         if lost:
             return False, lost
-        words = ["rt", "check", "--jobs", "1", "--only", function]
+        words = ["rt", "check", "--jobs", "1"] + ([] if how == "row" else ["--only", function])
+        if how == "row":
+            specs = Path(room) / "crates" / crate / "specs"
+            shutil.copy(ROOT / "crates/msg_laws/specs/Rows.antt", specs)
+            with (specs / "Lib.antt").open("a", encoding="utf-8") as lib:
+                lib.write("\npub mod Rows\n")
         ran = subprocess.run(words, cwd=Path(room) / "crates" / crate, stdout=subprocess.PIPE, stderr=subprocess.STDOUT, text=True)
         lines = ran.stdout.strip().split("\n")
         errors = [line for line in lines if ": error: " in line]
         unread = [line for line in errors if any(f"/{line}".startswith(f"/./{file.partition('/')[2]}:") for file, _, _ in changes)]
-        refused = any(line.startswith(f"fn {crate}::{function}: ") and not line.endswith(": proved") for line in lines)
+        if how == "row":
+            errors = [line for line in errors if line.startswith("./specs/Rows.antt:") and f": error: `{function}`:" in line]
+            refused = bool(errors)
+        else:
+            refused = any(line.startswith(f"fn {crate}::{function}: ") and not line.endswith(": proved") for line in lines)
         said = (unread or errors or lines[-3:])[0][:160]
         return refused and not unread, said
 
@@ -64,7 +74,7 @@ def main():
         how, crate, function = words_of.split()
         if words and not any(word in name for word in words):
             continue
-        refused, said = tried(crate, function, changes)
+        refused, said = tried(how, crate, function, changes)
         passed, failed = passed + refused, failed + (not refused)
         told = f"refused by the {how}" if refused else "NOT REFUSED by the " + how
         print(f"{name}: {told} {crate}::{function}: {said}", flush=True)
