@@ -9,7 +9,7 @@ use Rattle.msg_system.specs.Prelude.{IsAccessOf, Meaning, Needs, needs_any, new_
 use Rattle.msg_order.specs.Prelude.{IsAcyclic, IsPlanOf, NameSystemsBelow, access_of, edges_of, plan_of, rules_among}
 use Rattle.msg_order.specs.declared.rule.Rule.{Rule}
 use Rattle.msg_order.proofs.{PlanViews.plan_paths, SetPaths.all_rules, SettledOrders.fewer_make_none}
-use Rattle.msg_frames.specs.Prelude.{AreAccessesOf, SameSystems, State, UsesParts, before_joining, has_begun, join_flags, member_needs, default_system, default_place, waiting_member}
+use Rattle.msg_frames.specs.Prelude.{AreAccessesOf, SameSystems, State, UsesParts, before_joining, join_flags, member_needs, default_system, default_place, waiting_member}
 use Rattle.msg_frames.specs.Prelude.{SameMember}
 use Rattle.msg_frames.specs.Frames.{Member}
 use Rattle.msg_frames.specs.declared.place.Place.{Place}
