@@ -34,7 +34,7 @@ module _ {V : Type 0} {values : Values V} where
   pub joined_by_frame : (js : List ℕ) (s : State values) (frame : ℕ) → AreJoins js s → max 1 s.frames ≡ frame
       → map (λ j. nat_le j frame) js ≡ join_flags s
   joined_by_frame js s frame are is =
-      fill_by_all (has_begun s) (map (λ j. nat_le j frame) js) s.systems false
+      fill_by_all (λ i. nat_le (s.members i).join (max 1 s.frames)) (map (λ j. nat_le j frame) js) s.systems false
       (length-map js (λ j. nat_le j frame) ∙ are.as_many) (λ k lt. grind (arith, are.each k lt, get_or-map))
 
   -- if none joins with the next frame, the same have joined by it
@@ -42,9 +42,9 @@ module _ {V : Type 0} {values : Values V} where
   nobody_more s none =
       joined_stay (one_frame_more s) (one_frame_more (after_joining s)) (grind (arith, joining_keeps))
       (ap suc (joining_makes_no_frame s))
-      ∙ fill_by_all (has_begun s) (join_flags (one_frame_more s)) s.systems false
-      (length-map-range_with_len (has_begun (one_frame_more s)) 0 s.systems) (λ k lt.
-      get_or-map-range_with_len (has_begun (one_frame_more s)) 0 s.systems k k false lt (omega arith)
+      ∙ fill_by_all (λ i. nat_le (s.members i).join (max 1 s.frames)) (join_flags (one_frame_more s)) s.systems false
+      (length-map-range_with_len _ 0 s.systems) (λ k lt.
+      get_or-map-range_with_len _ 0 s.systems k k false lt (omega arith)
       ∙ grind (arith, nat_tests, none k lt))
 
 -- ---- the frame begins

@@ -60,13 +60,12 @@ module _ {V : Type 0} {values : Values V} where
       grind (arith, All-cons, none, turns_ran i js (after_turn_of j s) next)
 
   -- each that has joined has a turn
-  pub has_turn : (b : State values) (i : ℕ) → NoCycle b → i < b.systems → IsTrue (has_joined (join_flags b) i) → Contains (turn_order b) i
-  has_turn b i free there has =
-      let joins = get_or-map-range_with_len (has_begun b) 0 b.systems i i false there in
-      ((order_is b free).of_joined i).1 (grind (arith, joins, has))
+  pub has_turn : (b : State values) (i : ℕ) → NoCycle b → IsTrue (has_joined (join_flags b) i) → Contains (turn_order b) i
+  has_turn b i free has =
+      ((order_is b free).of_joined i).1 has
 
   pub programs_read_all : IsInOrder values → WhoseProgramReadsAll values
-  programs_read_all in_order f s i t program writer places free there has was few reads =
+  programs_read_all in_order f s i t program writer places free has was few reads =
       let b : State values = before_turns f.posts s in
       let prep : Prepares s b = prepares f.posts s in
       let begun : IsTrue (has_joined (join_flags b) i) = grind (arith, false≢true, prep.arrival i) in
@@ -74,7 +73,7 @@ module _ {V : Type 0} {values : Values V} where
       let stays : IsProgram in_order program writer few ((frame f s).state.members i).job =
       frame_stays in_order program writer few f s i (places, grind (arith, was)) in (
         record {
-          has_turn = has_turn b i (no_cycle_stays s b prep.same free) (rw (prep.same.systems) there) begun;
+          has_turn = has_turn b i (no_cycle_stays s b prep.same free) begun;
           ran = ran.0;
           read_all = rw (stays.1) reads;
         },

@@ -1,5 +1,5 @@
 -- What follows of readers from the laws of frames.
-use Rattle.msg_frames.proofs.ReaderOverRun.{run_follows, runs_are_complete}
+use Rattle.msg_frames.proofs.{ReaderOverRun.run_follows, ReaderOverRun.runs_are_complete, SystemsStay.joined_is}
 use Rattle.msg_order.specs.Prelude.{has_joined}
 use Rattle.msg_frames.specs.{Prelude.State, Prelude.first_state, Prelude.join_flags, Prelude.reader_place, Prelude.totals_from}
 use Rattle.msg_laws.specs.Prelude.{AccountsBeginAtTheStart, ReadersTile}
@@ -19,5 +19,5 @@ module _ {V : Type 0} {values : Values V} where
       let s : State values = first_state systems places rules types world in
       let served = (runs_are_complete frames s sound).served i t below has in
       let new : IsTrue (has_joined (join_flags s) i) → (s.members i).totals t ≡ totals_from (reader_place s i t) = λ here.
-      grind (arith, cases_Bool, eqb_tells, nat_tests, sound.joins i, here) in
+      grind (arith, cases_Bool, eqb_tells, nat_tests, sound.joins i, here, joined_is s i) in
       grind (arith, cases_Bool, served.totals, new)

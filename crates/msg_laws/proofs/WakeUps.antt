@@ -139,19 +139,19 @@ module _ {V : Type 0} {values : Values V} (f : Frame V) (s : State values) (i t 
 
 module _ {V : Type 0} {values : Values V} where
   -- one that has joined has its turn
-  turn_cut : (f : Frame V) (s : State values) (i : ℕ) → IsSoundState s → i < s.systems → IsTrue (has_joined (join_flags s) i)
+  turn_cut : (f : Frame V) (s : State values) (i : ℕ) → IsSoundState s → IsTrue (has_joined (join_flags s) i)
       → Cut (turn_order (before_turns f.posts s)) i
-  turn_cut f s i sound there has =
+  turn_cut f s i sound has =
       let prep = prepares f.posts s in
-      cut _ _ (has_turn (before_turns f.posts s) i (no_cycle_stays s _ prep.same sound.no_cycle) (rw (prep.same.systems) there)
+      cut _ _ (has_turn (before_turns f.posts s) i (no_cycle_stays s _ prep.same sound.no_cycle)
       (grind (arith, false≢true, prep.arrival i)))
 
   pub who_sleeps : WhoSleepsHasNothingUnread values
   who_sleeps f s i t sound below has woken skipped earlier later is = sleeps f s i t sound below has woken earlier later is skipped
 
   pub woken_stays : WhoIsWokenStaysSo values
-  woken_stays f s i t sound below there has woken reads =
-      let c = turn_cut f s i sound there has in
+  woken_stays f s i t sound below has woken reads =
+      let c = turn_cut f s i sound has in
       stays_woken f s i t sound below has woken c.before c.rest c.is reads
 
   -- what is so after the run, and that the moments of the run miss nothing
@@ -160,19 +160,18 @@ module _ {V : Type 0} {values : Values V} where
     woken : IsWokenBy t i (run frames s).state
     up : IsUpToDate (run frames s).state i t
 
-  runs_keep : (frames : List (Frame V)) (s : State values) (i t : ℕ) → IsSoundState s → t < s.types → i < s.systems
+  runs_keep : (frames : List (Frame V)) (s : State values) (i t : ℕ) → IsSoundState s → t < s.types
       → IsTrue (has_joined (join_flags s) i) → IsWokenBy t i s → IsUpToDate s i t → ReadsAllWhenWoken i t frames s
       → NothingDrained t s (run frames s).state → Kept frames s i t
-  runs_keep [] s i t sound below there has woken up reads drained =
+  runs_keep [] s i t sound below has woken up reads drained =
       record { none = All-nil (λ m. m.entry.stretch.missed ≡ 0); woken = woken; up = up }
-  runs_keep (f ∷ fs) s i t sound below there has woken up reads drained =
+  runs_keep (f ∷ fs) s i t sound below has woken up reads drained =
       let m : State values = (frame f s).state in
-      let c = turn_cut f s i sound there has in
+      let c = turn_cut f s i sound has in
       let mid : Between t s m (run fs m).state = between f fs s t sound below drained in
       let order : List ℕ = turn_order (before_turns f.posts s) in
-      let keeps = frame_keeps order f s in
       let joined = joined_by_turn f s i t sound below (rw (c.is) (Contains-append_right c.before (i ∷ c.rest) i (Contains-head i c.rest))) in
-      let rest = runs_keep fs m i t mid.sound mid.below (rw (keeps.systems) there) joined
+      let rest = runs_keep fs m i t mid.sound mid.below joined
       (stays_woken f s i t sound below has woken c.before c.rest c.is reads.0)
       (stays_up_to_date f s i t sound below has woken c.before c.rest c.is reads.0 up mid.first) reads.1 mid.rest in
       record {
@@ -183,6 +182,6 @@ module _ {V : Type 0} {values : Values V} where
       }
 
   pub no_wake_up : NoWakeUpIsLost values
-  no_wake_up frames s i t sound below there has woken up reads drained =
-      let kept = runs_keep frames s i t sound below there has woken up reads drained in
+  no_wake_up frames s i t sound below has woken up reads drained =
+      let kept = runs_keep frames s i t sound below has woken up reads drained in
       (All-map (λ e. e.stretch.missed ≡ 0) _ _ kept.none, kept.woken, kept.up)

@@ -86,7 +86,7 @@ WhoReadsEachFrameMissesNothing {V} values = (f : Frame V) (frames : List (Frame 
 abbrev pub WhoseProgramReadsAll : {V : Type 0} → Values V → Type 0
 WhoseProgramReadsAll {V} values = (f : Frame V) (s : State values) (i t : ℕ)
     (program : Program V) (writer : ℕ) (places : ℕ → ℕ)
-    → NoCycle s → i < s.systems → IsTrue (has_joined (join_flags s) i)
+    → NoCycle s → IsTrue (has_joined (join_flags s) i)
     → (s.members i).job ≡ record { system = of_program program writer places; conditions = [] }
     → length program.ops ≤ MAX_OPS → IsTrue (list_any (reads_all t) program.ops)
     → ReadsAll i t f s × ((later : ℕ → ℕ) × (((frame f s).state.members i).job

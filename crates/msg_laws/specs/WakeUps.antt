@@ -50,14 +50,14 @@ WhoSleepsHasNothingUnread {V} values = (f : Frame V) (s : State values) (i t : �
 -- Who is woken by a type and then reads all of it is woken by it after each frame too.
 abbrev pub WhoIsWokenStaysSo : {V : Type 0} → Values V → Type 0
 WhoIsWokenStaysSo {V} values = (f : Frame V) (s : State values) (i t : ℕ)
-    → IsSoundState s → t < s.types → i < s.systems → IsTrue (has_joined (join_flags s) i) → IsWokenBy t i s
+    → IsSoundState s → t < s.types → IsTrue (has_joined (join_flags s) i) → IsWokenBy t i s
     → ReadsAllIfWoken i t f s → IsWokenBy t i (frame f s).state
 
 -- Who is woken by a type, then reads all of it, and is up to date, misses nothing of it, unless it
 -- is drained; and so it goes on after the run.
 abbrev pub NoWakeUpIsLost : {V : Type 0} → Values V → Type 0
 NoWakeUpIsLost {V} values = (frames : List (Frame V)) (s : State values) (i t : ℕ)
-    → IsSoundState s → t < s.types → i < s.systems → IsTrue (has_joined (join_flags s) i)
+    → IsSoundState s → t < s.types → IsTrue (has_joined (join_flags s) i)
     → IsWokenBy t i s → IsUpToDate s i t → ReadsAllWhenWoken i t frames s
     → NothingDrained t s (run frames s).state
     → MissesNothing i t frames s × IsWokenBy t i (run frames s).state

@@ -142,7 +142,7 @@ module _ (s : Scenario) where
 
     flags : joined_by s.systems k ≡ join_flags (state_in s k)
     flags =
-        fill_by_all (has_begun (state_in s k)) (joined_by s.systems k) (length (meanings_of s)) false
+        fill_by_all (λ i. nat_le ((state_in s k).members i).join (max 1 (state_in s k).frames)) (joined_by s.systems k) (length (meanings_of s)) false
         (length-map s.systems (λ x. nat_le x.place.join k) ∙ sym as_many)
         (λ i lt. flags_from k s.systems i (omega (arith, as_many, lt)) ∙ grind (arith, joined.members i))
 
