@@ -1,7 +1,7 @@
 -- A frame begins, takes its turns, and leaves a core that stands for the state after it.
 use Rattle.std.proofs.Common.{◌≡◌, ℕ, suc, ◌<◌, Bool, false, List, map, max, ap, ◌∙◌, arith, All, IsTrue, ◌↔◌, nat_le, refl}
 use Rattle.std.specs.List.{concat}
-use Rattle.std.proofs.lemmas.{Bool.lt-leb, Bool.Decides.nat_tests, List.FromFn.fill_by_all, List.FromFn.get_or-map-range_with_len, List.FromFn.length-map-range_with_len, List.get_or-map, List.length-map}
+use Rattle.std.proofs.lemmas.{Bool.cases_Bool, Bool.Decides.nat_tests, List.FromFn.fill_by_all, List.FromFn.get_or-map-range_with_len, List.FromFn.length-map-range_with_len, List.get_or-map, List.length-map}
 use Rattle.msg_order.specs.{Prelude.IsLawfulOrder, Prelude.NoneConflict, Prelude.PlanView, Prelude.plan_of, Prelude.settled, declared.rule.Rule.Rule}
 use Rattle.msg_system.specs.declared.reply.Reply.{Reply}
 use Rattle.msg_system.specs.Prelude.{Meaning}
@@ -10,7 +10,7 @@ use Rattle.msg_frames.specs.{declared.frame.Frame.Frame}
 use Rattle.msg_exec.specs.{inner.FrameSteps.HasLeft, inner.FrameSteps.HasOpened, inner.FrameSteps.NobodyJoins, inner.FrameSteps.one_frame_more, inner.SystemsOut.HaveReadNothing, inner.FrameSteps.PlansNext}
 use Rattle.msg_frames.specs.Prelude.{FrameStaysSound, IsLawfulFor, IsSoundState, SameSystems, State, after_joining, are_in_conflict, before_turns, frame, join_flags}
 use Rattle.msg_frames.specs.Frames.{settled_order, turn_order}
-use Rattle.msg_frames.proofs.{Functions.batches_apart, Functions.plan_is, SystemsStay.accesses_stay, SystemsStay.before_keeps, SystemsStay.joined_stay, SystemsStay.joining_keeps, SystemsStay.joining_makes_no_frame, SystemsStay.no_cycle_stays, SystemsStay.turns_keep_systems, SystemsStay.turns_make_no_frame, SystemsStay.uses_stay}
+use Rattle.msg_frames.proofs.{Functions.batches_apart, Functions.plan_is, SystemsStay.accesses_stay, SystemsStay.before_keeps, SystemsStay.joined_is, SystemsStay.joined_stay, SystemsStay.joining_keeps, SystemsStay.joining_makes_no_frame, SystemsStay.no_cycle_stays, SystemsStay.turns_keep_systems, SystemsStay.turns_make_no_frame, SystemsStay.uses_stay}
 use Rattle.msg_world.specs.Prelude.{Values}
 
 -- ---- what no frame changes
@@ -52,7 +52,7 @@ module _ {V : Type 0} {values : Values V} where
 module _ {V : Type 0} {values : Values V} where
   -- those that are about to join were given nothing
   pub about_to_join : (s : State values) → IsSoundState s → 0 < s.frames → HaveReadNothing (suc s.frames) s
-  about_to_join s sound some i t joins = grind (arith, lt-leb, sound.waiting i t)
+  about_to_join s sound some i t joins = grind (arith, cases_Bool, nat_tests, joined_is s i, sound.waiting i t)
 
 -- ---- the frame opens, and its turns are taken
 
