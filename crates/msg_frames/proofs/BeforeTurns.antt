@@ -9,10 +9,12 @@ use Rattle.msg_world.specs.Prelude.{Values}
 
 -- Where system i stands among those that join: it had joined before, it joins now, or it still waits.
 pub data Arrival {V : Type 0} {values : Values V} (s b : State values) (i : ℕ) : Type 0 where
-  stood : IsTrue (has_joined (join_flags s) i) → IsTrue (has_joined (join_flags b) i) → b.members i ≡ s.members i → Arrival s b i
-  comes : IsFalse (has_joined (join_flags s) i) → IsTrue (has_joined (join_flags b) i) → b.members i ≡ joined_member (counts s) (s.members i)
+  stood : IsTrue (has_joined (join_flags s) i) → IsTrue (has_joined (join_flags b) i) → b.members i ≡ s.members i
       → Arrival s b i
-  waits : IsFalse (has_joined (join_flags s) i) → IsFalse (has_joined (join_flags b) i) → b.members i ≡ s.members i → Arrival s b i
+  comes : IsFalse (has_joined (join_flags s) i) → IsTrue (has_joined (join_flags b) i)
+      → b.members i ≡ joined_member (counts s) (s.members i) → Arrival s b i
+  waits : IsFalse (has_joined (join_flags s) i) → IsFalse (has_joined (join_flags b) i) → b.members i ≡ s.members i
+      → Arrival s b i
 
 -- The steps before the turns lead from s to b: the systems stay, each history goes on, and some systems join.
 pub record Prepares {V : Type 0} {values : Values V} (s b : State values) : Type 0 where

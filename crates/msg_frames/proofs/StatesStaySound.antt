@@ -24,7 +24,8 @@ module _ {V : Type 0} {values : Values V} where
   unfolding turn_order
   has_one_turn b = turns_differ (settled_order b) (join_flags b)
 
-  pub begun_alike : (b u : State values) (i : ℕ) → SameSystems b u × (u.frames ≡ b.frames) → has_joined (join_flags u) i ≡ has_joined (join_flags b) i
+  pub begun_alike : (b u : State values) (i : ℕ) → SameSystems b u × (u.frames ≡ b.frames)
+      → has_joined (join_flags u) i ≡ has_joined (join_flags b) i
   begun_alike b u i keep = ap (λ flags. has_joined flags i) (joined_stay b u keep.0 keep.1)
 
 module _ {V : Type 0} where

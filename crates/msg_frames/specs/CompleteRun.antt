@@ -45,8 +45,8 @@ pub record IsServed {V : Type 0} {values : Values V} (i t : ℕ) (frames : List 
   pub true : All (IsTrueEntry ((run frames s).state.world.histories t)) (moments i t frames s)
   -- and its totals count what they tell, from those that it had, or new ones if it joined then
   pub totals : ((run frames s).state.members i).totals t
-      ≡ with_entries (entries_in_run i t frames s) (if has_joined (join_flags s) i then (s.members i).totals t
-      else totals_from (found_at s (run frames s).state i t))
+      ≡ with_entries (entries_in_run i t frames s) (if has_joined (join_flags s) i
+      then (s.members i).totals t else totals_from (found_at s (run frames s).state i t))
 
 -- What a run comes to.
 pub record IsCompleteRun {V : Type 0} {values : Values V} (frames : List (Frame V))

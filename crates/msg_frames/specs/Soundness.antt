@@ -31,7 +31,7 @@ pub record IsSoundState {V : Type 0} {values : Values V} (s : State values) : Ty
   pub joins : (i : ℕ) → 1 ≤ (s.members i).join
   -- it writes as its number
   pub writers : (i : ℕ) → i < s.systems → (s.members i).job.system.writer ≡ i
-  -- before it joins it was given nothing
+  -- who hasn't joined was given nothing, nor was a number that is no system's
   pub waiting : (i t : ℕ) → IsFalse (has_joined (join_flags s) i) → (reader_place s i t ≡ 0)
       × ((s.members i).totals t ≡ no_totals)
   pub balanced : (i t : ℕ) → t < s.types → IsTrue (has_joined (join_flags s) i)

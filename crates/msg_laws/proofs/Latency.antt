@@ -72,7 +72,8 @@ module _ {V : Type 0} {values : Values V} where
       ]
 
   module _ (f : Frame V) (fs : List (Frame V)) (s : State values) (j t n : ℕ) (sound : IsSoundState s) (below : t < s.types)
-      (has : IsTrue (has_joined (join_flags (frame f s).state) j)) (still : IsTrue (has_joined (join_flags (run (f ∷ fs) s).state) j)) where
+      (has : IsTrue (has_joined (join_flags (frame f s).state) j))
+      (still : IsTrue (has_joined (join_flags (run (f ∷ fs) s).state) j)) where
     abbrev u : State values
     u = (run (f ∷ fs) s).state
 

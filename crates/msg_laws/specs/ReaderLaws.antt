@@ -30,7 +30,8 @@ AccountsBeginAtTheStart {V} values = (systems : List (Meaning V)) (places : List
     (rules : List Rule) (types : ℕ) (world : WorldState values) (frames : List (Frame V))
     → let s : State values = first_state systems places rules types world in
     let u : State values = (run frames s).state in
-    (i t : ℕ) → IsSoundState s → t < types → IsTrue (has_joined (join_flags u) i) → (u.members i).totals t
+    (i t : ℕ) → IsSoundState s → t < types → IsTrue (has_joined (join_flags u) i)
+    → (u.members i).totals t
     ≡ with_entries (entries_in_run i t frames s) (totals_from (found_at s u i t))
 
 -- The start of a reader that has joined, with all that it got, missed and cleared since, leads to
@@ -42,5 +43,6 @@ AccountsBalance values = (s : State values) (i t : ℕ) → IsSoundState s → t
 
 -- A reader that hasn't joined has no totals, and stands at 0.
 abbrev pub NoneBeforeJoining : {V : Type 0} → Values V → Type 0
-NoneBeforeJoining values = (s : State values) (i t : ℕ) → IsSoundState s → IsFalse (has_joined (join_flags s) i)
+NoneBeforeJoining values = (s : State values) (i t : ℕ) → IsSoundState s
+    → IsFalse (has_joined (join_flags s) i)
     → ((s.members i).totals t ≡ no_totals) × (reader_place s i t ≡ 0)

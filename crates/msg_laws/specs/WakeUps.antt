@@ -43,7 +43,8 @@ module _ {V : Type 0} {values : Values V} where
 -- Who is woken by a type and was skipped had nothing of it unread when its turn came.
 abbrev pub WhoSleepsHasNothingUnread : {V : Type 0} → Values V → Type 0
 WhoSleepsHasNothingUnread {V} values = (f : Frame V) (s : State values) (i t : ℕ)
-    → IsSoundState s → t < s.types → IsTrue (has_joined (join_flags s) i) → IsWokenBy t i s → IsSkipped i f s
+    → IsSoundState s → t < s.types → IsTrue (has_joined (join_flags s) i) → IsWokenBy t i s
+    → IsSkipped i f s
     → (earlier later : List ℕ) → turn_order (before_turns f.posts s) ≡ earlier ++ i ∷ later
     → NothingUnread i t (after_turns_of earlier (before_turns f.posts s)).state
 

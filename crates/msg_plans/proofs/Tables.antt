@@ -1,5 +1,5 @@
 -- The table of a frame.
-use Rattle.std.proofs.Common.{◌≡◌, ℕ, zero, suc, ◌+◌, ◌<◌, Bool, true, false, List, [], ◌∷◌, ◌++◌, length, map, nat_le, get_or, take, refl, subst, sym, ap, ◌∙◌, IsTrue, All, slice_index_or, arith, replicate, le_refl, ℤ}
+use Rattle.std.proofs.Common.{◌≡◌, ℕ, zero, suc, ◌+◌, ◌<◌, Bool, true, false, List, [], ◌∷◌, ◌++◌, length, map, nat_le, get_or, take, refl, subst, sym, ap, ◌∙◌, IsTrue, All, slice_index_or, arith, replicate, le_refl, ℤ, max}
 use Rattle.std.specs.List.{concat, enumerate_from}
 use Rattle.std.proofs.lemmas.{Bool.cases_lt, Bool.false≢true, List.take_more, List.get_or_past, List.length-map, List.get_or-take, List.get_or-replicate, List.Elements.All-tail, List.FromFn.fill_by_all, List.FromFn.length-enumerate_from, Nat.Bits.bit_at-zero, Simd.map-map}
 use Rattle.std.proofs.lemmas.List.{map-id}
@@ -142,7 +142,8 @@ module _ (s : Scenario) where
 
     flags : joined_by s.systems k ≡ join_flags (state_in s k)
     flags =
-        fill_by_all (λ i. nat_le ((state_in s k).members i).join (max 1 (state_in s k).frames)) (joined_by s.systems k) (length (meanings_of s)) false
+        let u = state_in s k in
+        fill_by_all (λ i. nat_le (u.members i).join (max 1 u.frames)) (joined_by s.systems k) (length (meanings_of s)) false
         (length-map s.systems (λ x. nat_le x.place.join k) ∙ sym as_many)
         (λ i lt. flags_from k s.systems i (omega (arith, as_many, lt)) ∙ grind (arith, joined.members i))
 
