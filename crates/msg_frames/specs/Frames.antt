@@ -25,7 +25,7 @@ pub record State {V : Type 0} (values : Values V) : Type 0 where
   pub frames : ℕ
 
 module _ {V : Type 0} {values : Values V} where
-  -- Of each system, whether it has joined: its frame isn't above the number of frames run, or is 1.
+  -- Of each system, whether it has joined: its frame is at most the number of frames run, or is 1.
   abbrev pub join_flags : State values → List Bool
   join_flags s =
       map (λ i. nat_le (s.members i).join (max 1 s.frames)) (range_with_len 0 s.systems)

@@ -1,7 +1,7 @@
 -- A system whose program reads all of a type reads all when it runs; without conditions, in each frame.
-use Rattle.std.proofs.Common.{All, Contains, IsTrue, List, [], ap, arith, false, length, ℕ, ◌<◌, ◌∷◌, ◌≡◌, ◌≢◌, ◌≤◌}
+use Rattle.std.proofs.Common.{All, Contains, IsTrue, List, [], ap, arith, length, ℕ, ◌∷◌, ◌≡◌, ◌≢◌, ◌≤◌}
 use Rattle.msg_order.specs.Prelude.{has_joined}
-use Rattle.std.proofs.lemmas.{Bool.cases_Bool, Bool.false≢true, List.Elements.All-cons, List.Elements.All-nil, List.FromFn.get_or-map-range_with_len}
+use Rattle.std.proofs.lemmas.{Bool.cases_Bool, Bool.false≢true, List.Elements.All-cons, List.Elements.All-nil}
 use Rattle.std.specs.List.{list_any}
 use Rattle.msg_world.specs.Prelude.{Values, WorldState}
 use Rattle.msg_system.specs.{Prelude.IsInOrder, Prelude.Job, Prelude.after_job, Prelude.after_start, Prelude.of_program, Prelude.program_needs, Prelude.started_places, declared.limits.TheConstants.MAX_OPS, declared.program.Program.Program}
