@@ -1,14 +1,15 @@
 #!/usr/bin/env python3
 """Puts each wrong definition of wrong_definitions.txt in place of the right one, in a copy of its crate, and looks
-whether the proof of the function beside it is refused.
+whether the proof of the function beside it, or the worked run, is refused.
 
   wrong_definitions.py [WORD..]     those whose name has one of the words, or all
 
-A wrong definition is a block of lines. The first is its name. `law CRATE FUNCTION` names a law or a worked run that is
-false of it; `code CRATE FUNCTION` names a function whose body isn't what it says: only the code tells it from the right
-one. Then come `file:`, `old:` and `new:`, as in a crate's must-fail edits, but with the path below crates/. The crates
-have to be proved in this clone (`rt all check`). A line tells what came of each, and the last line counts: `N passed,
-M failed`.
+A wrong definition is a block of lines. The first is its name. `law CRATE FUNCTION` names a law whose proof it breaks.
+`row CRATE NAME` names a worked run (of specs/Rows.antt of msg_laws) that it makes false; the rows are then read as
+specs of CRATE, since no crate above one that isn't proved is read. `code CRATE FUNCTION` names a function whose body
+isn't what it says: only the code tells it from the right one. Then come `file:`, `old:` and `new:`, as in a crate's
+must-fail edits, but with the path below crates/. The crates have to be proved in this clone (`rt all check`). A line
+tells what came of each, and the last line counts: `N passed, M failed`.
 """
 import os
 import shutil
@@ -17,42 +18,16 @@ import sys
 import tempfile
 from pathlib import Path
 
-ROOT = Path(__file__).resolve().parent.parent
+sys.dont_write_bytecode = True
+sys.path.insert(0, str(Path(__file__).resolve().parent.parent / ".ci"))
+from edits import ROOT, below, blocks, changed, crates_txt  # noqa: E402
 
-
-def blocks():
-    """Each wrong definition: its name, how it is told, the crate, the function, and its changes by file."""
-    text = (ROOT / "bench/wrong_definitions.txt").read_text(encoding="utf-8")
-    for block in text.strip().split("\n\n"):
-        name, by, *rest = [line for line in block.split("\n") if not line.startswith("#")]
-        how, crate, function = by.split()
-        changes, file, old = [], None, None
-        for line in rest:
-            key, _, value = line.partition(": ")
-            if key == "file":
-                file = value
-            elif key == "old":
-                old = value
-            else:
-                changes.append((file, old, value))
-        yield name, how, crate, function, changes
-
-
-def below():
-    """What each crate of this repository stands on, near and far."""
-    lines = [line.split("#")[0] for line in (ROOT / "crates.txt").read_text(encoding="utf-8").split("\n")]
-    named = {head.split()[0]: rest.split() for head, colon, rest in (line.partition(":") for line in lines) if colon}
-
-    def all_below(name):
-        near = [other for other in named[name] if other in named]
-        return {*near}.union(*map(all_below, near))
-
-    return {name: all_below(name) for name in named}
+NAMED = crates_txt()
 
 
 def copied(crate, changes, room):
     """A repository of this crate and of those that it stands on, with what was proved of them."""
-    names = {crate, *below()[crate]}
+    names = {crate, *below(NAMED, crate)}
     lines = [line for line in (ROOT / "crates.txt").read_text(encoding="utf-8").split("\n")
              if line.split(":")[0].split(" ")[0] in names]
     (room / "crates.txt").write_text("\n".join(lines) + "\n", encoding="utf-8")
@@ -66,30 +41,28 @@ def copied(crate, changes, room):
         shutil.copytree(old / "out", new / "out", copy_function=os.link, ignore=left)
 
 
-def changed(crates, changes):
-    """Makes the changes; says which one can't be made."""
-    for file, old, new in changes:
-        path = crates / file
-        text = path.read_text(encoding="utf-8")
-        if text.count(old) != 1:
-            return f"{file} has {text.count(old)} times: {old}"
-        path.write_text(text.replace(old, new), encoding="utf-8")
-    return None
-
-
-def tried(crate, function, changes):
-    """Whether the function's proof is refused, and what was said."""
+def tried(how, crate, function, changes):
+    """Whether the function's proof, or the worked run, is refused, and what was said."""
     with tempfile.TemporaryDirectory(prefix="wrong-") as room:
         copied(crate, changes, Path(room))
         lost = changed(Path(room) / "crates", changes)
         if lost:
             return False, lost
-        words = ["rt", "check", "--jobs", "1", "--only", function]
+        words = ["rt", "check", "--jobs", "1"] + ([] if how == "row" else ["--only", function])
+        if how == "row":
+            specs = Path(room) / "crates" / crate / "specs"
+            shutil.copy(ROOT / "crates/msg_laws/specs/Rows.antt", specs)
+            with (specs / "Lib.antt").open("a", encoding="utf-8") as lib:
+                lib.write("\npub mod Rows\n")
         ran = subprocess.run(words, cwd=Path(room) / "crates" / crate, stdout=subprocess.PIPE, stderr=subprocess.STDOUT, text=True)
         lines = ran.stdout.strip().split("\n")
         errors = [line for line in lines if ": error: " in line]
         unread = [line for line in errors if any(f"/{line}".startswith(f"/./{file.partition('/')[2]}:") for file, _, _ in changes)]
-        refused = any(line.startswith(f"fn {crate}::{function}: ") and not line.endswith(": proved") for line in lines)
+        if how == "row":
+            errors = [line for line in errors if line.startswith("./specs/Rows.antt:") and f": error: `{function}`:" in line]
+            refused = bool(errors)
+        else:
+            refused = any(line.startswith(f"fn {crate}::{function}: ") and not line.endswith(": proved") for line in lines)
         said = (unread or errors or lines[-3:])[0][:160]
         return refused and not unread, said
 
@@ -97,10 +70,11 @@ def tried(crate, function, changes):
 def main():
     words = sys.argv[1:]
     passed = failed = 0
-    for name, how, crate, function, changes in blocks():
+    for name, words_of, changes in blocks(ROOT / "bench/wrong_definitions.txt"):
+        how, crate, function = words_of.split()
         if words and not any(word in name for word in words):
             continue
-        refused, said = tried(crate, function, changes)
+        refused, said = tried(how, crate, function, changes)
         passed, failed = passed + refused, failed + (not refused)
         told = f"refused by the {how}" if refused else "NOT REFUSED by the " + how
         print(f"{name}: {told} {crate}::{function}: {said}", flush=True)

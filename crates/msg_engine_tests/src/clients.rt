@@ -1,10 +1,10 @@
 //! What a client shows by the engine's clauses alone.
 ghost use Rattle.std.specs.Prelude.{◌≡◌, ◌<◌, ◌∷◌, [], ℕ, ℤ, All, Contains, IfOk, IsTrue, flat_map};
 ghost use Rattle.msg_exec.specs.Prelude.{IsEngine, PostsFit, EngineStands};
-ghost use Rattle.msg_frames.specs.Prelude.{State, before_turns, has_begun, numbers_told};
+ghost use Rattle.msg_frames.specs.Prelude.{State, before_turns, join_flags, numbers_told};
 ghost use Rattle.msg_frames.specs.Frames.{frame as frame_of, settled_order};
 ghost use Rattle.msg_laws.specs.Prelude.{Meets, ReadsAll, given, log_entries, told_to};
-ghost use Rattle.msg_order.specs.Prelude.{Path};
+ghost use Rattle.msg_order.specs.Prelude.{Path, has_joined};
 ghost use Rattle.msg_world.specs.{declared.record.Record.Record as RecordView, Prelude.i64_values};
 
 use msg_exec::engine_laws::engines_stand;
@@ -27,7 +27,7 @@ pub fn run_once<R: Threads + Sync, S: SystemOf<Value = i64> + Send>(
     ensures never_twice { IfOk result
         (λ logs. (s : State i64_values) → EngineStands S.meaning engine.old s
         → (u : State i64_values) × EngineStands S.meaning engine.new u
-        × ((i t n j k : ℕ) → t < s.types → IsTrue (has_begun u i)
+        × ((i t n j k : ℕ) → t < s.types → IsTrue (has_joined (join_flags u) i)
         → Meets (log_entries i t (s.members i).job.system logs.items) n j given
         → Meets (log_entries i t (s.members i).job.system logs.items) n k given → j ≡ k)) }
 {

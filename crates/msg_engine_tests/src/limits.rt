@@ -1,7 +1,7 @@
 // Each limit, met by a frame that succeeds: all types and all resources, each written; all ops of a
 // turn; all systems, of which the last writes; 1,024 rules; 8 conditions, each with 16 nots; 1,024
-// values in a batch, 1,024 posts and 100,000; frames up to the last that a system may join with, and
-// a million; all workers; an order longer than there can be systems; and a read of the greatest
+// values in a batch, 1,024 posts and 100,000; frames up to the last that a system may join with,
+// and a million; all workers; an order longer than there can be systems; and a read of the greatest
 // limit.
 ghost use Rattle.std.specs.Prelude.{◌<◌};
 ghost use Rattle.msg_exec.specs.Prelude.{IsEngine};

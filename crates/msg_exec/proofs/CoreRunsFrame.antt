@@ -1,16 +1,16 @@
 -- A frame begins, takes its turns, and leaves a core that stands for the state after it.
 use Rattle.std.proofs.Common.{◌≡◌, ℕ, suc, ◌<◌, Bool, false, List, map, max, ap, ◌∙◌, arith, All, IsTrue, ◌↔◌, nat_le, refl}
 use Rattle.std.specs.List.{concat}
-use Rattle.std.proofs.lemmas.{Bool.lt-leb, Bool.Decides.nat_tests, List.FromFn.fill_by_all, List.FromFn.get_or-map-range_with_len, List.FromFn.length-map-range_with_len, List.get_or-map, List.length-map}
+use Rattle.std.proofs.lemmas.{Bool.cases_Bool, Bool.Decides.nat_tests, List.FromFn.fill_by_all, List.FromFn.get_or-map-range_with_len, List.FromFn.length-map-range_with_len, List.get_or-map, List.length-map}
 use Rattle.msg_order.specs.{Prelude.IsLawfulOrder, Prelude.NoneConflict, Prelude.PlanView, Prelude.plan_of, Prelude.settled, declared.rule.Rule.Rule}
 use Rattle.msg_system.specs.declared.reply.Reply.{Reply}
 use Rattle.msg_system.specs.Prelude.{Meaning}
 use Rattle.msg_exec.specs.Prelude.{AreJoins, Core, CoreStands, Lender, LenderStands, FixedParts}
 use Rattle.msg_frames.specs.{declared.frame.Frame.Frame}
 use Rattle.msg_exec.specs.{inner.FrameSteps.HasLeft, inner.FrameSteps.HasOpened, inner.FrameSteps.NobodyJoins, inner.FrameSteps.one_frame_more, inner.SystemsOut.HaveReadNothing, inner.FrameSteps.PlansNext}
-use Rattle.msg_frames.specs.Prelude.{FrameStaysSound, IsLawfulFor, IsSoundState, SameSystems, State, after_joining, are_in_conflict, before_turns, frame, has_begun, join_flags}
+use Rattle.msg_frames.specs.Prelude.{FrameStaysSound, IsLawfulFor, IsSoundState, SameSystems, State, after_joining, are_in_conflict, before_turns, frame, join_flags}
 use Rattle.msg_frames.specs.Frames.{settled_order, turn_order}
-use Rattle.msg_frames.proofs.{Functions.batches_apart, Functions.plan_is, SystemsStay.accesses_stay, SystemsStay.before_keeps, SystemsStay.joined_stay, SystemsStay.joining_keeps, SystemsStay.joining_makes_no_frame, SystemsStay.no_cycle_stays, SystemsStay.turns_keep_systems, SystemsStay.turns_make_no_frame, SystemsStay.uses_stay}
+use Rattle.msg_frames.proofs.{Functions.batches_apart, Functions.plan_is, SystemsStay.accesses_stay, SystemsStay.before_keeps, SystemsStay.joined_is, SystemsStay.joined_stay, SystemsStay.joining_keeps, SystemsStay.joining_makes_no_frame, SystemsStay.no_cycle_stays, SystemsStay.turns_keep_systems, SystemsStay.turns_make_no_frame, SystemsStay.uses_stay}
 use Rattle.msg_world.specs.Prelude.{Values}
 
 -- ---- what no frame changes
@@ -34,7 +34,7 @@ module _ {V : Type 0} {values : Values V} where
   pub joined_by_frame : (js : List ℕ) (s : State values) (frame : ℕ) → AreJoins js s → max 1 s.frames ≡ frame
       → map (λ j. nat_le j frame) js ≡ join_flags s
   joined_by_frame js s frame are is =
-      fill_by_all (has_begun s) (map (λ j. nat_le j frame) js) s.systems false
+      fill_by_all (λ i. nat_le (s.members i).join (max 1 s.frames)) (map (λ j. nat_le j frame) js) s.systems false
       (length-map js (λ j. nat_le j frame) ∙ are.as_many) (λ k lt. grind (arith, are.each k lt, get_or-map))
 
   -- if none joins with the next frame, the same have joined by it
@@ -42,9 +42,9 @@ module _ {V : Type 0} {values : Values V} where
   nobody_more s none =
       joined_stay (one_frame_more s) (one_frame_more (after_joining s)) (grind (arith, joining_keeps))
       (ap suc (joining_makes_no_frame s))
-      ∙ fill_by_all (has_begun s) (join_flags (one_frame_more s)) s.systems false
-      (length-map-range_with_len (has_begun (one_frame_more s)) 0 s.systems) (λ k lt.
-      get_or-map-range_with_len (has_begun (one_frame_more s)) 0 s.systems k k false lt (omega arith)
+      ∙ fill_by_all (λ i. nat_le (s.members i).join (max 1 s.frames)) (join_flags (one_frame_more s)) s.systems false
+      (length-map-range_with_len _ 0 s.systems) (λ k lt.
+      get_or-map-range_with_len _ 0 s.systems k k false lt (omega arith)
       ∙ grind (arith, nat_tests, none k lt))
 
 -- ---- the frame begins
@@ -52,7 +52,7 @@ module _ {V : Type 0} {values : Values V} where
 module _ {V : Type 0} {values : Values V} where
   -- those that are about to join were given nothing
   pub about_to_join : (s : State values) → IsSoundState s → 0 < s.frames → HaveReadNothing (suc s.frames) s
-  about_to_join s sound some i t joins = grind (arith, lt-leb, sound.waiting i t)
+  about_to_join s sound some i t joins = grind (arith, cases_Bool, nat_tests, joined_is s i, sound.waiting i t)
 
 -- ---- the frame opens, and its turns are taken
 

@@ -289,6 +289,10 @@ impl<V: Value + Send + Sync, S: SystemOf<Value = V> + Send> EngineOf<S, V> {
     /// Runs one frame: those that join do so, the types are updated, the host's posts are written,
     /// and all that have joined take their turns.
     ///
+    /// A `for` in which each round runs a frame needs an invariant of one line: in
+    /// `crates/msg_engine_tests` `expect_frames` (`src/expecting.rt`) is such a loop, and
+    /// `proofs/expecting/expect_frames/Invariants.antt` has its line.
+    ///
     /// # Errors
     ///
     /// `Spoiled`, and then nothing has changed; `NoMemory`, and then the engine is spoiled.

@@ -5,7 +5,7 @@ use Rattle.msg_order.specs.declared.rule.Rule.{Rule}
 use Rattle.msg_world.specs.Prelude.{Values, WorldState}
 use Rattle.msg_system.specs.Prelude.{Meaning}
 use Rattle.msg_frames.specs.Prelude.{AreNew, IsSoundState, NoCycle, Place, State, UsesParts, before_joining, counts, first_state}
-use Rattle.msg_frames.proofs.{BeforeTurns.begun_within, StatesStaySound.balanced_start, SystemsStay.joining_on_keeps, SystemsStay.no_cycle_stays, SystemsStay.uses_stay}
+use Rattle.msg_frames.proofs.{BeforeTurns.begun_within, StatesStaySound.balanced_start, SystemsStay.joined_is, SystemsStay.joining_on_keeps, SystemsStay.no_cycle_stays, SystemsStay.uses_stay}
 
 module _ {V : Type 0} {values : Values V} (systems : List (Meaning V)) (places : List (Place V)) (rules : List Rule) (types : ℕ) (world : WorldState values)
     (new : AreNew systems places rules types world) where
@@ -19,4 +19,5 @@ module _ {V : Type 0} {values : Values V} (systems : List (Meaning V)) (places :
       uses_stay all_wait _ (joining_on_keeps 1 all_wait) new.uses in
       let free : NoCycle (first_state systems places rules types world) =
       no_cycle_stays all_wait _ (joining_on_keeps 1 all_wait) new.no_cycle in
-      grind (arith, uses, free, new, get_or_past, begun_within all_wait, eqb_tells, nat_tests, began)
+      let joined = joined_is (first_state systems places rules types world) in
+      grind (arith, uses, free, new, joined, get_or_past, begun_within all_wait, eqb_tells, nat_tests, began)

@@ -6,7 +6,7 @@ use Rattle.msg_world.specs.{Prelude.Conflict, Prelude.HasPart, Prelude.Values, P
 use Rattle.msg_order.specs.Prelude.{IsAcyclic, IsAmong, IsPlanOf, IsSettledOrder, IsTurnOrder, NoneConflict, PlanView, TellsConflicts, batches, plan_of}
 use Rattle.msg_order.proofs.{Elements.Contains-head, Elements.Contains-list_any, Elements.Contains-map, Elements.Contains-range, Elements.list_any-Contains, Functions.batches_are, Functions.settled_among, Functions.settled_no_cycle, Functions.turns_are, TurnOrders.none_conflict}
 use Rattle.msg_system.specs.Prelude.{IsAccessOf, Needs, needs_any}
-use Rattle.msg_frames.specs.{Frames.parts, Frames.settled_order, Frames.turn_order, Prelude.AfterRun, Prelude.AreAccessesOf, Prelude.Frame, Prelude.Log, Prelude.NoCycle, Prelude.SameSystems, Prelude.State, Prelude.UsesParts, Prelude.are_in_conflict, Prelude.before_turns, Prelude.frame, Prelude.has_begun, Prelude.join_flags, Prelude.needs_conflict, Prelude.run}
+use Rattle.msg_frames.specs.{Frames.parts, Frames.settled_order, Frames.turn_order, Prelude.AfterRun, Prelude.AreAccessesOf, Prelude.Frame, Prelude.Log, Prelude.NoCycle, Prelude.SameSystems, Prelude.State, Prelude.UsesParts, Prelude.are_in_conflict, Prelude.before_turns, Prelude.frame, Prelude.join_flags, Prelude.needs_conflict, Prelude.run}
 use Rattle.msg_frames.proofs.SystemsStay.{frame_keeps, joined_below}
 
 -- ---- conflicts
@@ -72,7 +72,7 @@ module _ {V : Type 0} {values : Values V} where
   pub order_free : (s : State values) → NoCycle s → IsAcyclic (settled_order s)
   unfolding settled_order
   order_free s free = settled_no_cycle s.rules (join_flags s) (are_in_conflict s)
-      (free (join_flags s) (length-map-range_with_len (has_begun s) 0 s.systems))
+      (free (join_flags s) (length-map-range_with_len _ 0 s.systems))
 
   -- it is the turn order, if the rules make no cycle
   pub order_is : (s : State values) → NoCycle s → IsTurnOrder (settled_order s) (join_flags s) (turn_order s)

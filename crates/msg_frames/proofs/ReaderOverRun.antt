@@ -1,11 +1,12 @@
 -- What a reader goes past over a run of frames.
 use Rattle.std.proofs.Common.{IsTrue, List, [], arith, if◌then◌else◌, refl, ℕ, ◌++◌, ◌<◌, ◌∙◌, ◌∷◌, ◌≡◌}
+use Rattle.msg_order.specs.Prelude.{has_joined}
 use Rattle.std.proofs.lemmas.{Bool.cases_Bool, Grind.flat_map-append}
 use Rattle.msg_buffer.specs.Prelude.{GoesOn, History}
 use Rattle.msg_system.specs.Prelude.{Step}
 use Rattle.msg_world.specs.{Prelude.Values, Prelude.WorldState, Prelude.after_update, declared.record.Record.Record}
-use Rattle.msg_frames.specs.{Frames.turn_order, Prelude.Frame, Prelude.IsSoundState, Prelude.Moment, Prelude.RunsAreComplete, Prelude.State, Prelude.Totals, Prelude.after_posts, Prelude.before_turns, Prelude.found_at, Prelude.frame, Prelude.has_begun, Prelude.moments, Prelude.moments_at, Prelude.post_steps, Prelude.reader_place, Prelude.run, Prelude.totals_from, Prelude.turns_steps}
-use Rattle.msg_frames.proofs.{BeforeTurns.Prepares, BeforeTurns.comes, BeforeTurns.prepares, BeforeTurns.stood, BeforeTurns.waits, EntriesAddUp.with_entries-none, HistoriesGrow.goes_further, HistoriesGrow.stays, ReaderOverJob.moments_of, ReaderOverJob.passes_nothing, ReaderOverJob.steps_of, ReaderOverTurns.ReadsFrom, ReaderOverTurns.reads_further, ReaderOverTurns.steps_of-append, ReaderOverTurns.turns_moments, ReaderOverTurns.turns_read, ReaderOverTurns.turns_skip, StatesStaySound.begun_alike, StatesStaySound.frame_sound, StatesStaySound.has_no_turn, StatesStaySound.prepared_sound, SystemsStay.turns_keep, TellsEachOnce.are_true, TellsEachOnce.tells_once, TellsEachOnce.tiles_rise, WrittenOnce.run_writes}
+use Rattle.msg_frames.specs.{Frames.turn_order, Prelude.Frame, Prelude.IsSoundState, Prelude.Moment, Prelude.RunsAreComplete, Prelude.State, Prelude.Totals, Prelude.after_posts, Prelude.before_turns, Prelude.found_at, Prelude.frame, Prelude.join_flags, Prelude.moments, Prelude.moments_at, Prelude.post_steps, Prelude.reader_place, Prelude.run, Prelude.totals_from, Prelude.turns_steps}
+use Rattle.msg_frames.proofs.{BeforeTurns.Prepares, BeforeTurns.comes, BeforeTurns.prepares, BeforeTurns.stood, BeforeTurns.waits, EntriesAddUp.with_entries-none, HistoriesGrow.goes_further, HistoriesGrow.stays, ReaderOverJob.moments_of, ReaderOverJob.passes_nothing, ReaderOverJob.steps_of, ReaderOverTurns.ReadsFrom, ReaderOverTurns.reads_further, ReaderOverTurns.steps_of-append, ReaderOverTurns.turns_moments, ReaderOverTurns.turns_read, ReaderOverTurns.turns_skip, StatesStaySound.joined_alike, StatesStaySound.frame_sound, StatesStaySound.has_no_turn, StatesStaySound.prepared_sound, SystemsStay.turns_keep, TellsEachOnce.are_true, TellsEachOnce.tells_once, TellsEachOnce.tiles_rise, WrittenOnce.run_writes}
 
 module _ {V : Type 0} {values : Values V} where
   -- what the host posts goes past nothing
@@ -41,12 +42,12 @@ module _ {V : Type 0} {values : Values V} where
   -- new ones if it joins.
   abbrev pub Follows : ℕ → ℕ → State values → List (Moment V) → State values → Type 0
   Follows i t s ms u =
-      let had = if has_begun s i then (s.members i).totals t else totals_from (found_at s u i t) in
+      let had = if has_joined (join_flags s) i then (s.members i).totals t else totals_from (found_at s u i t) in
       ReadsFrom i t (found_at s u i t) had (s.world.histories t) ms u
 
 module _ {V : Type 0} {values : Values V} (i t : ℕ) where
   pub run_follows : (frames : List (Frame V)) (s : State values) → IsSoundState s → t < s.types
-      → IsTrue (has_begun (run frames s).state i) → Follows i t s (moments i t frames s) (run frames s).state
+      → IsTrue (has_joined (join_flags (run frames s).state) i) → Follows i t s (moments i t frames s) (run frames s).state
   run_follows [] s sound below has = grind (arith, passes_nothing, stays, with_entries-none V)
   run_follows (f ∷ fs) s sound below has =
       let b : State values = before_turns f.posts s in
@@ -62,17 +63,17 @@ module _ {V : Type 0} {values : Values V} (i t : ℕ) where
       let here = turns_read i t order b (ready.histories t under) (ready.places i t under) in
       let goes : GoesOn (s.world.histories t) (b.world.histories t) = prep.world t (sound.histories t below) in
       let later : Follows i t m rest u = run_follows fs m (frame_sound f s sound) (rw (keep.0.types) under) has in
-      let all : IsTrue (has_begun b i) → ReadsFrom i t (reader_place b i t) ((b.members i).totals t)
+      let all : IsTrue (has_joined (join_flags b) i) → ReadsFrom i t (reader_place b i t) ((b.members i).totals t)
       (s.world.histories t) (ms ++ rest) u =
       λ now. reads_since i t _ _ _ _ (ms ++ rest) u goes
-      (reads_further i t b ms m rest u here (rw (begun_alike b m i keep ∙ now) at later)) in
+      (reads_further i t b ms m rest u here (rw (joined_alike b m i keep ∙ now) at later)) in
       rw (run_further i t f fs s) (elim (prep.arrival i) [
         | stood was now same ↦ rw was (rw (reader_place, same) at (all now))
         | comes was now new ↦ let after = rw (reader_place, new) at (all now) in rw (was, after.totals) after
         | waits was now same ↦
             rw (was, (turns_skip i t order b (has_no_turn b i now)).1)
             (reads_since i t _ _ _ _ rest u (goes_further _ _ _ goes here.passes.goes_on)
-            (rw (begun_alike b m i keep ∙ now) at later))
+            (rw (joined_alike b m i keep ∙ now) at later))
       ])
 
 module _ {V : Type 0} {values : Values V} where

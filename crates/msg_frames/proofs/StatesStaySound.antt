@@ -1,18 +1,18 @@
 -- Frames keep states sound.
-use Rattle.std.proofs.Common.{AllPairs, Contains, IsFalse, List, [], ap, ap₂, arith, length, map, max, nat_le, ℕ, ◌-◌, ◌<◌, ◌∷◌, ◌≡◌, ◌≢◌}
-use Rattle.std.proofs.lemmas.{Bool.false≢true, List.FromFn.get_or-map-range_with_len, List.FromFn.length-range_with_len}
-use Rattle.msg_frames.specs.{Frames.settled_order, Frames.turn_order, Prelude.FrameStaysSound, Prelude.IsBalanced, Prelude.IsSoundState, Prelude.Member, Prelude.Moment, Prelude.RunStaysSound, Prelude.SameSystems, Prelude.State, Prelude.after_turns_of, Prelude.before_turns, Prelude.counts, Prelude.frame, Prelude.has_begun, Prelude.join_flags, Prelude.joined_member, Prelude.reader_place}
+use Rattle.std.proofs.Common.{AllPairs, Contains, IsFalse, List, [], ap, arith, length, map, ℕ, ◌-◌, ◌<◌, ◌∷◌, ◌≡◌, ◌≢◌}
+use Rattle.msg_order.specs.Prelude.{has_joined}
+use Rattle.std.proofs.lemmas.{Bool.false≢true, List.FromFn.length-range_with_len}
+use Rattle.msg_frames.specs.{Frames.settled_order, Frames.turn_order, Prelude.FrameStaysSound, Prelude.IsBalanced, Prelude.IsSoundState, Prelude.Member, Prelude.Moment, Prelude.RunStaysSound, Prelude.SameSystems, Prelude.State, Prelude.after_turns_of, Prelude.before_turns, Prelude.counts, Prelude.frame, Prelude.join_flags, Prelude.joined_member, Prelude.reader_place}
 use Rattle.msg_order.proofs.Functions.{turns_differ, turns_joined}
-use Rattle.msg_frames.proofs.{BeforeTurns.Prepares, BeforeTurns.begun_within, BeforeTurns.comes, BeforeTurns.prepares, BeforeTurns.stood, BeforeTurns.waits, EntriesAddUp.all_told, HistoriesGrow.counts_more, ReaderOverTurns.Reads, ReaderOverTurns.turns_moments, ReaderOverTurns.turns_read, ReaderOverTurns.turns_skip, SystemsStay.joined_below, SystemsStay.no_cycle_stays, SystemsStay.turns_keep, SystemsStay.uses_stay, TellsEachOnce.tells_once, TellsEachOnce.tiles_rise}
+use Rattle.msg_frames.proofs.{BeforeTurns.Prepares, BeforeTurns.begun_within, BeforeTurns.comes, BeforeTurns.prepares, BeforeTurns.stood, BeforeTurns.waits, EntriesAddUp.all_told, HistoriesGrow.counts_more, ReaderOverTurns.Reads, ReaderOverTurns.turns_moments, ReaderOverTurns.turns_read, ReaderOverTurns.turns_skip, SystemsStay.joined_below, SystemsStay.joined_stay, SystemsStay.no_cycle_stays, SystemsStay.turns_keep, SystemsStay.uses_stay, TellsEachOnce.tells_once, TellsEachOnce.tiles_rise}
 use Rattle.msg_world.specs.Prelude.{Values}
 
 module _ {V : Type 0} {values : Values V} where
   -- one that waits has no turn
-  pub has_no_turn : (b : State values) (i : ℕ) → IsFalse (has_begun b i) → ¬ Contains (turn_order b) i
+  pub has_no_turn : (b : State values) (i : ℕ) → IsFalse (has_joined (join_flags b) i) → ¬ Contains (turn_order b) i
   unfolding turn_order
   has_no_turn b i isnt at =
-      let joined = turns_joined (settled_order b) (join_flags b) i at in
-      grind (arith, false≢true, get_or-map-range_with_len, joined_below b i joined)
+      grind (arith, false≢true, turns_joined (settled_order b) (join_flags b) i at)
 
   -- who has a turn is one of the systems
   pub turn_below : (b : State values) (i : ℕ) → Contains (turn_order b) i → i < b.systems
@@ -24,8 +24,9 @@ module _ {V : Type 0} {values : Values V} where
   unfolding turn_order
   has_one_turn b = turns_differ (settled_order b) (join_flags b)
 
-  pub begun_alike : (b u : State values) (i : ℕ) → SameSystems b u × (u.frames ≡ b.frames) → has_begun u i ≡ has_begun b i
-  begun_alike b u i keep = ap₂ (λ j n. nat_le j (max 1 n)) (keep.0.members i).join keep.1
+  pub joined_alike : (b u : State values) (i : ℕ) → SameSystems b u × (u.frames ≡ b.frames)
+      → has_joined (join_flags u) i ≡ has_joined (join_flags b) i
+  joined_alike b u i keep = ap (λ flags. has_joined flags i) (joined_stay b u keep.0 keep.1)
 
 module _ {V : Type 0} where
   pub balanced_start : (m : Member V) (counts : List ℕ) (t : ℕ)
@@ -60,7 +61,7 @@ module _ {V : Type 0} {values : Values V} where
         writers = λ i below. grind (arith, keep.0.members i, keep.0.systems, sound.writers i);
         waiting = λ i t isnt.
             let out = has_no_turn b i in
-            grind (arith, begun_alike b _ i keep, out, isnt, turns_skip i t order b, sound.waiting i t);
+            grind (arith, joined_alike b _ i keep, out, isnt, turns_skip i t order b, sound.waiting i t);
         balanced = λ i t below has.
             let ms : List (Moment V) = turns_moments i t order b in
             let read = reads i t below in
@@ -68,7 +69,7 @@ module _ {V : Type 0} {values : Values V} where
             let up = tiles_rise (reader_place b i t) ms (reader_place u i t) read.passes.tile in
             let number = length-range_with_len (reader_place b i t) (reader_place u i t - reader_place b i t) in
             let more = all_told (map (λ m. m.entry) ms) in
-            grind (arith, read.totals, sound.balanced i t, begun_alike b u i keep, more, ap length once, number, up, keep.0.types);
+            grind (arith, read.totals, sound.balanced i t, joined_alike b u i keep, more, ap length once, number, up, keep.0.types);
       }
 
   pub run_sound : RunStaysSound values

@@ -1,7 +1,7 @@
 -- What turns and frames keep of the systems.
-use Rattle.std.proofs.Common.{IsTrue, List, [], arith, map, max, nat_le, refl, ℕ, ◌<◌, ◌∙◌, ◌∷◌, ◌≡◌}
+use Rattle.std.proofs.Common.{IsTrue, List, [], arith, map, max, nat_le, nat_lt, refl, ℕ, ◌<◌, ◌∙◌, ◌∷◌, ◌≡◌, ◌&&◌}
 use Rattle.std.specs.List.{range_with_len}
-use Rattle.std.proofs.lemmas.{Bool.cases_Bool, Bool.cases_lt, Bool.false≢true, Bool.Decides.eqb_tells, List.get_or_past, List.FromFn.length-map-range_with_len, Simd.map-map}
+use Rattle.std.proofs.lemmas.{Bool.cases_Bool, Bool.cases_lt, Bool.false≢true, Bool.Decides.eqb_tells, List.get_or_past, List.FromFn.get_or-map-range_with_len, List.FromFn.length-map-range_with_len, Simd.map-map}
 use Rattle.msg_world.specs.{Prelude.Values, declared.access.Access.Access}
 use Rattle.msg_order.specs.Prelude.{has_joined}
 use Rattle.msg_frames.specs.Prelude.{AreAccessesOf, Frame, FramesKeepSystems, NoCycle, SameSystems, State, UsesParts, after_joining, after_turn_of, after_turns_of, before_turns, frame_in, join_flags, with_joining}
@@ -57,6 +57,10 @@ module _ {V : Type 0} {values : Values V} where
 
   pub joined_stay : (s u : State values) → SameSystems s u → u.frames ≡ s.frames → join_flags u ≡ join_flags s
   joined_stay s u h e k = map (λ i. nat_le ((h.members i).join k) (max 1 (e k))) (range_with_len 0 (h.systems k))
+
+  pub joined_is : (s : State values) (i : ℕ) → has_joined (join_flags s) i
+      ≡ (nat_lt i s.systems && nat_le (s.members i).join (max 1 s.frames))
+  joined_is s i = grind (arith, cases_lt, get_or_past, get_or-map-range_with_len, length-map-range_with_len)
 
   -- one that has joined is one of the systems
   pub joined_below : (s : State values) (i : ℕ) → IsTrue (has_joined (join_flags s) i) → i < s.systems

@@ -1,9 +1,10 @@
 -- A run of frames with all that it comes to: for the lists of messages, and for each reader.
 use Rattle.std.specs.Prelude.{All, Contains, IfSome, IsTrue, List, Option, Some, flat_map, if◌then◌else◌, map, option_map, slice_get, ℕ, ◌+◌, ◌-◌, ◌<◌, ◌≡◌, ◌≤◌}
+use Rattle.msg_order.specs.Prelude.{has_joined}
 use Rattle.std.specs.List.{range_with_len}
 use Rattle.msg_buffer.specs.Prelude.{History, IsPresent, count}
 use Rattle.msg_world.specs.{Prelude.Values, declared.record.Record.Record}
-use Rattle.msg_frames.specs.{Entries.ReadEntry, Entries.numbers_missed, Entries.numbers_passed, Entries.numbers_told, Entries.totals_from, Entries.with_entries, Frames.State, Frames.has_begun, Frames.run, Moments.Moment, Moments.found_at, Moments.moments, Moments.reader_place, Steps.IsWrittenOnce, declared.frame.Frame.Frame}
+use Rattle.msg_frames.specs.{Entries.ReadEntry, Entries.numbers_missed, Entries.numbers_passed, Entries.numbers_told, Entries.totals_from, Entries.with_entries, Frames.State, Frames.join_flags, Frames.run, Moments.Moment, Moments.found_at, Moments.moments, Moments.reader_place, Steps.IsWrittenOnce, declared.frame.Frame.Frame}
 
 -- ---- what an entry says
 
@@ -44,8 +45,8 @@ pub record IsServed {V : Type 0} {values : Values V} (i t : ℕ) (frames : List 
   pub true : All (IsTrueEntry ((run frames s).state.world.histories t)) (moments i t frames s)
   -- and its totals count what they tell, from those that it had, or new ones if it joined then
   pub totals : ((run frames s).state.members i).totals t
-      ≡ with_entries (entries_in_run i t frames s) (if has_begun s i then (s.members i).totals t
-      else totals_from (found_at s (run frames s).state i t))
+      ≡ with_entries (entries_in_run i t frames s) (if has_joined (join_flags s) i
+      then (s.members i).totals t else totals_from (found_at s (run frames s).state i t))
 
 -- What a run comes to.
 pub record IsCompleteRun {V : Type 0} {values : Values V} (frames : List (Frame V))
@@ -53,5 +54,5 @@ pub record IsCompleteRun {V : Type 0} {values : Values V} (frames : List (Frame 
   -- each type's list grew by exactly what was written, each message once
   pub written : (t : ℕ) → IsWrittenOnce t s.world (run frames s).steps (run frames s).state.world
   -- and each reader was served that has joined by the end
-  pub served : (i t : ℕ) → t < s.types → IsTrue (has_begun (run frames s).state i)
+  pub served : (i t : ℕ) → t < s.types → IsTrue (has_joined (join_flags (run frames s).state) i)
       → IsServed i t frames s

@@ -1,5 +1,5 @@
 -- A frame, and frames one after the other.
-use Rattle.std.specs.Prelude.{Bool, IsTrue, List, None, Option, Some, [], if◌then◌else◌, length, map, max, nat_le, suc, ℕ, ◌&&◌, ◌++◌, ◌<◌, ◌==◌, ◌||◌, ◌∷◌, ◌≡◌}
+use Rattle.std.specs.Prelude.{Bool, IsTrue, List, None, Option, Some, [], if◌then◌else◌, length, map, max, nat_le, nat_lt, suc, ℕ, ◌&&◌, ◌++◌, ◌<◌, ◌==◌, ◌||◌, ◌∷◌, ◌≡◌}
 use Rattle.std.specs.List.{list_any, range_with_len}
 use Rattle.msg_buffer.specs.Prelude.{count, write}
 use Rattle.msg_world.specs.{Prelude.HasPart, Prelude.Values, Prelude.WorldState, Prelude.after_update, Prelude.by, Prelude.with_history, declared.access.Access.Access, declared.limits.TheConstants.MAX_RESOURCES, declared.limits.TheConstants.MAX_TYPES, declared.part.Part.Part, declared.part.Part.TheVariants.OfResource, declared.part.Part.TheVariants.OfType, declared.part.Part.TheVariants.Registry, declared.record.TheConstants.HOST}
@@ -25,13 +25,10 @@ pub record State {V : Type 0} (values : Values V) : Type 0 where
   pub frames : ℕ
 
 module _ {V : Type 0} {values : Values V} where
-  -- system i has joined
-  abbrev pub has_begun : State values → ℕ → Bool
-  has_begun s i = nat_le (s.members i).join (max 1 s.frames)
-
-  -- of each system, whether it has joined
+  -- Of each system, whether it has joined: its frame is at most the number of frames run, or is 1.
   abbrev pub join_flags : State values → List Bool
-  join_flags s = map (has_begun s) (range_with_len 0 s.systems)
+  join_flags s =
+      map (λ i. nat_le (s.members i).join (max 1 s.frames)) (range_with_len 0 s.systems)
 
 -- ---- joining
 
@@ -59,8 +56,8 @@ module _ {V : Type 0} {values : Values V} where
   -- those that join with frame k have joined
   abbrev pub with_joining : ℕ → State values → State values
   with_joining k s = record s {
-    members = λ i. if (s.members i).join == k then joined_member (counts s) (s.members i)
-        else s.members i;
+    members = λ i. if nat_lt i s.systems && ((s.members i).join == k)
+        then joined_member (counts s) (s.members i) else s.members i;
   }
 
   -- those that join with the next frame do so; those of frame 1 have joined before it

@@ -1,9 +1,10 @@
 -- What a reader was given over a run, moment by moment.
 use Rattle.std.specs.Prelude.{IfSome, List, drop, filter, flat_map, if◌then◌else◌, map, take, unwrap_or, ℕ, ◌==◌, ◌≡◌}
+use Rattle.msg_order.specs.Prelude.{has_joined}
 use Rattle.msg_buffer.specs.Prelude.{History, Stretch, instances, message_of}
 use Rattle.msg_world.specs.{Prelude.Values, declared.record.Record.Record}
 use Rattle.msg_system.specs.Prelude.{Step}
-use Rattle.msg_frames.specs.{Entries.ReadEntry, Entries.entry_for, Frames.State, Frames.has_begun, Frames.run, declared.frame.Frame.Frame}
+use Rattle.msg_frames.specs.{Entries.ReadEntry, Entries.entry_for, Frames.State, Frames.join_flags, Frames.run, declared.frame.Frame.Frame}
 
 -- ---- the moments of a run
 
@@ -43,5 +44,5 @@ module _ {V : Type 0} {values : Values V} where
 
   -- Where a run from s to u finds a reader: at its place, or where it starts as it joins.
   abbrev pub found_at : State values → State values → ℕ → ℕ → ℕ
-  found_at s u i t = if has_begun s i then reader_place s i t
+  found_at s u i t = if has_joined (join_flags s) i then reader_place s i t
       else unwrap_or ((u.members i).totals t).start 0

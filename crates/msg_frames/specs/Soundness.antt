@@ -1,8 +1,8 @@
 -- What holds of every state that frames make.
 use Rattle.std.specs.Prelude.{Bool, IsFalse, IsTrue, List, Some, length, ℕ, ◌+◌, ◌<◌, ◌≡◌, ◌≤◌}
 use Rattle.msg_buffer.specs.Prelude.{IsSound, count}
-use Rattle.msg_order.specs.Prelude.{IsAcyclic, rules_among}
-use Rattle.msg_frames.specs.{Entries.no_totals, Frames.State, Frames.UsesParts, Frames.has_begun, Moments.reader_place, declared.totals.Totals.Totals}
+use Rattle.msg_order.specs.Prelude.{IsAcyclic, rules_among, has_joined}
+use Rattle.msg_frames.specs.{Entries.no_totals, Frames.State, Frames.UsesParts, Frames.join_flags, Moments.reader_place, declared.totals.Totals.Totals}
 use Rattle.msg_world.specs.Prelude.{Values}
 
 -- The account begins at a start, and all that the reader got, missed and cleared since leads to its
@@ -31,8 +31,8 @@ pub record IsSoundState {V : Type 0} {values : Values V} (s : State values) : Ty
   pub joins : (i : ℕ) → 1 ≤ (s.members i).join
   -- it writes as its number
   pub writers : (i : ℕ) → i < s.systems → (s.members i).job.system.writer ≡ i
-  -- before it joins it was given nothing
-  pub waiting : (i t : ℕ) → IsFalse (has_begun s i) → (reader_place s i t ≡ 0)
+  -- who hasn't joined was given nothing, nor was a number that is no system's
+  pub waiting : (i t : ℕ) → IsFalse (has_joined (join_flags s) i) → (reader_place s i t ≡ 0)
       × ((s.members i).totals t ≡ no_totals)
-  pub balanced : (i t : ℕ) → t < s.types → IsTrue (has_begun s i)
+  pub balanced : (i t : ℕ) → t < s.types → IsTrue (has_joined (join_flags s) i)
       → IsBalanced ((s.members i).totals t) (reader_place s i t)

@@ -5,10 +5,10 @@ use Rattle.std.specs.List.{enumerate_from}
 use Rattle.msg_buffer.specs.Prelude.{GoesOn, count}
 use Rattle.msg_world.specs.{Prelude.Values, Prelude.WorldState, Prelude.after_update, declared.record.Record.Record}
 use Rattle.msg_system.specs.Prelude.{Step}
-use Rattle.msg_order.specs.Prelude.{Path}
+use Rattle.msg_order.specs.Prelude.{Path, has_joined}
 use Rattle.msg_order.proofs.Elements.{Contains-cases, Contains-flat_map, Contains-head, Contains-range, Contains-tail, filter-Contains, flat_map-Contains, map-Contains, not_in_none}
-use Rattle.msg_frames.proofs.{BeforeTurns.Prepares, BeforeTurns.begun_within, BeforeTurns.comes, BeforeTurns.prepares, BeforeTurns.stood, BeforeTurns.waits, ElementsAndPairs.Cut, ElementsAndPairs.cut, ElementsAndPairs.pairs_head, ElementsAndPairs.pairs_right, LawfulOrdersAgree.lawful_forward, ReaderOverRun.run_follows, ReaderOverRun.runs_are_complete, ReaderOverTurns.turns_read, StatesStaySound.begun_alike, StatesStaySound.frame_sound, StatesStaySound.prepared_sound, StatesStaySound.turn_below, SystemsStay.frame_keeps, SystemsStay.turns_keep, WrittenOnce.before_writes, WrittenOnce.run_writes, WrittenOnce.turns_write, WrittenOnce.written_further}
-use Rattle.msg_frames.specs.{Frames.settled_order, Frames.turn_order, Prelude.IsSoundState, Prelude.IsTrueEntry, Prelude.IsWrittenOnce, Prelude.Moment, Prelude.State, Prelude.after_turn_of, Prelude.after_turns_of, Prelude.before_turns, Prelude.entries_in_run, Prelude.found_at, Prelude.frame, Prelude.has_begun, Prelude.moments, Prelude.numbers_missed, Prelude.post_steps, Prelude.reader_place, Prelude.run, Prelude.told, Prelude.turn_of, Prelude.turns_steps, Prelude.wrote, declared.frame.Frame.Frame}
+use Rattle.msg_frames.proofs.{BeforeTurns.Prepares, BeforeTurns.begun_within, BeforeTurns.comes, BeforeTurns.prepares, BeforeTurns.stood, BeforeTurns.waits, ElementsAndPairs.Cut, ElementsAndPairs.cut, ElementsAndPairs.pairs_head, ElementsAndPairs.pairs_right, LawfulOrdersAgree.lawful_forward, ReaderOverRun.run_follows, ReaderOverRun.runs_are_complete, ReaderOverTurns.turns_read, StatesStaySound.joined_alike, StatesStaySound.frame_sound, StatesStaySound.prepared_sound, StatesStaySound.turn_below, SystemsStay.frame_keeps, SystemsStay.turns_keep, WrittenOnce.before_writes, WrittenOnce.run_writes, WrittenOnce.turns_write, WrittenOnce.written_further}
+use Rattle.msg_frames.specs.{Frames.settled_order, Frames.turn_order, Prelude.IsSoundState, Prelude.IsTrueEntry, Prelude.IsWrittenOnce, Prelude.Moment, Prelude.State, Prelude.after_turn_of, Prelude.after_turns_of, Prelude.before_turns, Prelude.entries_in_run, Prelude.found_at, Prelude.frame, Prelude.join_flags, Prelude.moments, Prelude.numbers_missed, Prelude.post_steps, Prelude.reader_place, Prelude.run, Prelude.told, Prelude.turn_of, Prelude.turns_steps, Prelude.wrote, declared.frame.Frame.Frame}
 use Rattle.msg_laws.proofs.{OrderOfTurns.are_ordered, ReadersStayUpToDate.caught_up, ReadersStayUpToDate.frame_recent, ReadersStayUpToDate.has_frame_before, ReadersStayUpToDate.is_there, ReadersStayUpToDate.joined_by_turn, ReadersStayUpToDate.new_recent, StampsStayRecent.AreRecent, StampsStayRecent.earlier_recent, WritersInOrder.below_count}
 use Rattle.msg_laws.specs.Prelude.{AllReadersHaveItNext, HasTaken, LaterReadersHaveItAtOnce, NothingDrained, told_to}
 
@@ -54,7 +54,7 @@ module _ {V : Type 0} {values : Values V} (t n : ℕ) (m : Record V) where
 module _ {V : Type 0} {values : Values V} where
   -- who has joined by the end of the first frame was found no further on than that frame's messages
   found_within : (f : Frame V) (fs : List (Frame V)) (s : State values) (j t : ℕ) → IsSoundState s → t < s.types
-      → IsTrue (has_begun (frame f s).state j) → IsTrue (has_begun (run (f ∷ fs) s).state j)
+      → IsTrue (has_joined (join_flags (frame f s).state) j) → IsTrue (has_joined (join_flags (run (f ∷ fs) s).state) j)
       → found_at s (run (f ∷ fs) s).state j t ≤ count (s.world.histories t)
   found_within f fs s j t sound below has still =
       let b : State values = before_turns f.posts s in
@@ -68,11 +68,12 @@ module _ {V : Type 0} {values : Values V} where
       elim (prep.arrival j) [
         | stood was now same ↦ rw was (sound.places j t below)
         | comes was now new ↦ rw (was, later.totals, has, here.totals, new) (begun_within s j t below (sound.places j t below))
-        | waits was now same ↦ absurd (grind (arith, false≢true, has, now, begun_alike b m j keep))
+        | waits was now same ↦ absurd (grind (arith, false≢true, has, now, joined_alike b m j keep))
       ]
 
   module _ (f : Frame V) (fs : List (Frame V)) (s : State values) (j t n : ℕ) (sound : IsSoundState s) (below : t < s.types)
-      (has : IsTrue (has_begun (frame f s).state j)) (still : IsTrue (has_begun (run (f ∷ fs) s).state j)) where
+      (has : IsTrue (has_joined (join_flags (frame f s).state) j))
+      (still : IsTrue (has_joined (join_flags (run (f ∷ fs) s).state) j)) where
     abbrev u : State values
     u = (run (f ∷ fs) s).state
 

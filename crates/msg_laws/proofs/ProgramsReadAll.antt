@@ -1,11 +1,12 @@
 -- A system whose program reads all of a type reads all when it runs; without conditions, in each frame.
-use Rattle.std.proofs.Common.{All, Contains, IsTrue, List, [], ap, arith, false, length, ℕ, ◌<◌, ◌∷◌, ◌≡◌, ◌≢◌, ◌≤◌}
-use Rattle.std.proofs.lemmas.{Bool.cases_Bool, Bool.false≢true, List.Elements.All-cons, List.Elements.All-nil, List.FromFn.get_or-map-range_with_len}
+use Rattle.std.proofs.Common.{All, Contains, IsTrue, List, [], ap, arith, length, ℕ, ◌∷◌, ◌≡◌, ◌≢◌, ◌≤◌}
+use Rattle.msg_order.specs.Prelude.{has_joined}
+use Rattle.std.proofs.lemmas.{Bool.cases_Bool, Bool.false≢true, List.Elements.All-cons, List.Elements.All-nil}
 use Rattle.std.specs.List.{list_any}
 use Rattle.msg_world.specs.Prelude.{Values, WorldState}
 use Rattle.msg_system.specs.{Prelude.IsInOrder, Prelude.Job, Prelude.after_job, Prelude.after_start, Prelude.of_program, Prelude.program_needs, Prelude.started_places, declared.limits.TheConstants.MAX_OPS, declared.program.Program.Program}
 use Rattle.msg_frames.proofs.{BeforeTurns.Prepares, BeforeTurns.comes, BeforeTurns.prepares, BeforeTurns.stood, Functions.order_is, ReaderOverTurns.one_member, SystemsStay.no_cycle_stays}
-use Rattle.msg_frames.specs.{Frames.turn_order, Prelude.NoCycle, Prelude.State, Prelude.after_turn_of, Prelude.after_turns_of, Prelude.before_turns, Prelude.counts, Prelude.frame, Prelude.has_begun, declared.frame.Frame.Frame, declared.log.Outcome.TheVariants.Skipped}
+use Rattle.msg_frames.specs.{Frames.turn_order, Prelude.NoCycle, Prelude.State, Prelude.after_turn_of, Prelude.after_turns_of, Prelude.before_turns, Prelude.counts, Prelude.frame, Prelude.join_flags, declared.frame.Frame.Frame, declared.log.Outcome.TheVariants.Skipped}
 use Rattle.msg_laws.specs.Prelude.{ReadsAllWhenWoken, WhoseProgramReadsAll, WhoseProgramReadsAllWhenWoken, reads_all}
 use Rattle.msg_frames.proofs.BeforeTurns as before
 
@@ -59,21 +60,20 @@ module _ {V : Type 0} {values : Values V} where
       grind (arith, All-cons, none, turns_ran i js (after_turn_of j s) next)
 
   -- each that has joined has a turn
-  pub has_turn : (b : State values) (i : ℕ) → NoCycle b → i < b.systems → IsTrue (has_begun b i) → Contains (turn_order b) i
-  has_turn b i free there has =
-      let joins = get_or-map-range_with_len (has_begun b) 0 b.systems i i false there in
-      ((order_is b free).of_joined i).1 (grind (arith, joins, has))
+  pub has_turn : (b : State values) (i : ℕ) → NoCycle b → IsTrue (has_joined (join_flags b) i) → Contains (turn_order b) i
+  has_turn b i free has =
+      ((order_is b free).of_joined i).1 has
 
   pub programs_read_all : IsInOrder values → WhoseProgramReadsAll values
-  programs_read_all in_order f s i t program writer places free there has was few reads =
+  programs_read_all in_order f s i t program writer places free has was few reads =
       let b : State values = before_turns f.posts s in
       let prep : Prepares s b = prepares f.posts s in
-      let begun : IsTrue (has_begun b i) = grind (arith, false≢true, prep.arrival i) in
+      let begun : IsTrue (has_joined (join_flags b) i) = grind (arith, false≢true, prep.arrival i) in
       let ran = turns_ran i (turn_order b) b (grind (arith, was, prep.arrival i)) in
       let stays : IsProgram in_order program writer few ((frame f s).state.members i).job =
       frame_stays in_order program writer few f s i (places, grind (arith, was)) in (
         record {
-          has_turn = has_turn b i (no_cycle_stays s b prep.same free) (rw (prep.same.systems) there) begun;
+          has_turn = has_turn b i (no_cycle_stays s b prep.same free) begun;
           ran = ran.0;
           read_all = rw (stays.1) reads;
         },

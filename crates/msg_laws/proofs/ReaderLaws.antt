@@ -1,6 +1,7 @@
 -- What follows of readers from the laws of frames.
-use Rattle.msg_frames.proofs.ReaderOverRun.{run_follows, runs_are_complete}
-use Rattle.msg_frames.specs.{Prelude.State, Prelude.first_state, Prelude.has_begun, Prelude.reader_place, Prelude.totals_from}
+use Rattle.msg_frames.proofs.{ReaderOverRun.run_follows, ReaderOverRun.runs_are_complete, SystemsStay.joined_is}
+use Rattle.msg_order.specs.Prelude.{has_joined}
+use Rattle.msg_frames.specs.{Prelude.State, Prelude.first_state, Prelude.join_flags, Prelude.reader_place, Prelude.totals_from}
 use Rattle.msg_laws.specs.Prelude.{AccountsBeginAtTheStart, ReadersTile}
 use Rattle.msg_world.specs.Prelude.{Values}
 use Rattle.std.proofs.Common.{IsTrue, arith, ◌≡◌}
@@ -17,6 +18,6 @@ module _ {V : Type 0} {values : Values V} where
   accounts_begin systems places rules types world frames i t sound below has =
       let s : State values = first_state systems places rules types world in
       let served = (runs_are_complete frames s sound).served i t below has in
-      let new : IsTrue (has_begun s i) → (s.members i).totals t ≡ totals_from (reader_place s i t) = λ here.
-      grind (arith, cases_Bool, eqb_tells, nat_tests, sound.joins i, here) in
+      let new : IsTrue (has_joined (join_flags s) i) → (s.members i).totals t ≡ totals_from (reader_place s i t) = λ here.
+      grind (arith, cases_Bool, eqb_tells, nat_tests, sound.joins i, here, joined_is s i) in
       grind (arith, cases_Bool, served.totals, new)

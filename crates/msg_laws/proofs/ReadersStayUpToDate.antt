@@ -1,10 +1,11 @@
 -- A reader that reads all in each frame is up to date, and so it misses nothing.
 use Rattle.std.proofs.Common.{All, Contains, IsTrue, List, [], arith, get_or, inl, inr, map, refl, suc, ℕ, ◌++◌, ◌<◌, ◌∷◌, ◌≡◌, ◌≢◌, ◌≤◌}
+use Rattle.msg_order.specs.Prelude.{has_joined}
 use Rattle.std.proofs.lemmas.{Bool.cases_Bool, Bool.cases_eq, Bool.false≢true, Bool.Decides.nat_tests, List.append-nil, List.Elements.All-append, List.Elements.All-cons, List.Elements.All-head, List.Elements.All-map, List.Elements.All-nil, List.Elements.All-tail, Option.same_Some, Option.slice_get_cases, Option.slice_get_within}
 use Rattle.msg_buffer.specs.Prelude.{Fits, GoesOn, History, IsPresent, Stretch, Tile, count, next_place, update}
 use Rattle.msg_world.specs.{Prelude.Values, Prelude.after_update, declared.record.Record.Record}
-use Rattle.msg_frames.proofs.{BeforeTurns.Prepares, BeforeTurns.prepares, ElementsAndPairs.Cut, ElementsAndPairs.cut, HistoriesGrow.Grows, HistoriesGrow.counts_more, HistoriesGrow.frame_goes_on, HistoriesGrow.grown, HistoriesGrow.posts_change, HistoriesGrow.stays, HistoriesGrow.turns_change, ReaderOverJob.IsWritten, ReaderOverJob.tile_of, ReaderOverRun.run_further, ReaderOverTurns.turns_moments, ReaderOverTurns.turns_read, StatesStaySound.begun_alike, StatesStaySound.frame_sound, StatesStaySound.has_no_turn, StatesStaySound.prepared_sound, SystemsStay.frame_keeps, SystemsStay.joining_world, SystemsStay.turns_keep}
-use Rattle.msg_frames.specs.{Frames.turn_order, Prelude.IsSoundState, Prelude.Moment, Prelude.State, Prelude.after_joining, Prelude.after_turns_of, Prelude.before_turns, Prelude.frame, Prelude.has_begun, Prelude.moments, Prelude.reader_place, Prelude.run, declared.frame.Frame.Frame, declared.log.Outcome.TheVariants.Skipped}
+use Rattle.msg_frames.proofs.{BeforeTurns.Prepares, BeforeTurns.prepares, ElementsAndPairs.Cut, ElementsAndPairs.cut, HistoriesGrow.Grows, HistoriesGrow.counts_more, HistoriesGrow.frame_goes_on, HistoriesGrow.grown, HistoriesGrow.posts_change, HistoriesGrow.stays, HistoriesGrow.turns_change, ReaderOverJob.IsWritten, ReaderOverJob.tile_of, ReaderOverRun.run_further, ReaderOverTurns.turns_moments, ReaderOverTurns.turns_read, StatesStaySound.joined_alike, StatesStaySound.frame_sound, StatesStaySound.has_no_turn, StatesStaySound.prepared_sound, SystemsStay.frame_keeps, SystemsStay.joining_world, SystemsStay.turns_keep}
+use Rattle.msg_frames.specs.{Frames.turn_order, Prelude.IsSoundState, Prelude.Moment, Prelude.State, Prelude.after_joining, Prelude.after_turns_of, Prelude.before_turns, Prelude.frame, Prelude.join_flags, Prelude.moments, Prelude.reader_place, Prelude.run, declared.frame.Frame.Frame, declared.log.Outcome.TheVariants.Skipped}
 use Rattle.msg_laws.proofs.{OneTurn.goes_to_turn, OneTurn.in_log, OneTurn.job_left, OneTurn.within_turn, ReadersTakeAll.job_takes, StampsStayRecent.AreRecent, StampsStayRecent.StaysRecent, StampsStayRecent.earlier_recent, StampsStayRecent.stays_recent}
 use Rattle.msg_laws.specs.Prelude.{IsUpToDate, ListsOnlyGrow, NothingDrained, ReadsAll, ReadsAllInEach, WhoIsUpToDateMissesNothing, WhoReadsEachFrameMissesNothing}
 
@@ -116,7 +117,7 @@ module _ {V : Type 0} {values : Values V} where
         → All (λ m. GoesOn m.history (u.world.histories t)) ms → AllPresent (reader_place s i t) ms
     present_at ms up drained goes k d lt = all_there (get_or ms k d).history up drained (goes k d lt)
 
-    pub frame_misses_none : IsTrue (has_begun s i) → IsUpToDate s i t → NothingDrained t s u
+    pub frame_misses_none : IsTrue (has_joined (join_flags s) i) → IsUpToDate s i t → NothingDrained t s u
         → NoneMissed (turns_moments i t order b)
     frame_misses_none has up drained =
         let reads = turns_read i t order b (ready.histories t under) (ready.places i t under) in
@@ -124,9 +125,9 @@ module _ {V : Type 0} {values : Values V} where
         (present_at _ up drained reads.passes.earlier) (grind (arith, false≢true, prep.arrival i))
 
     -- who has a turn has joined
-    pub joined_by_turn : Contains order i → IsTrue (has_begun u i)
+    pub joined_by_turn : Contains order i → IsTrue (has_joined (join_flags u) i)
     joined_by_turn at =
-        let alike = begun_alike b _ i (turns_keep order b) in
+        let alike = joined_alike b _ i (turns_keep order b) in
         grind (arith, alike, at, cases_Bool, has_no_turn b i)
 
   -- ---- a run

@@ -1,13 +1,14 @@
 -- Who is woken by a message and then reads all misses nothing.
 use Rattle.std.proofs.Common.{IsTrue, List, [], arith, inl, inr, length, refl, ℕ, ◌++◌, ◌<◌, ◌∙◌, ◌∷◌, ◌≡◌, ◌≢◌, ◌≤◌, ◌⊎◌}
+use Rattle.msg_order.specs.Prelude.{has_joined}
 use Rattle.std.proofs.lemmas.{Bool.cases_Bool, Bool.cases_lt, Bool.false≢true, Bool.Decides.nat_tests, List.get_or_append_left, List.Elements.All-append, List.Elements.All-map, List.Elements.All-nil, List.Elements.Contains-append_right, Option.get_or_from_slice_get, Option.slice_get_cases}
 use Rattle.std.specs.List.{list_any}
 use Rattle.msg_buffer.specs.Prelude.{GoesOn, History, IsPresent, IsSound, count, unread}
 use Rattle.msg_buffer.proofs.{Presence.not_present, Unread.length-unread}
 use Rattle.msg_world.specs.{Prelude.Values, Prelude.WorldState, declared.record.Record.Record}
 use Rattle.msg_system.specs.{Prelude.Asked, Prelude.Job, Prelude.after_job, Prelude.all_hold, declared.condition.Probe.TheVariants.OnMessage}
-use Rattle.msg_frames.proofs.{BeforeTurns.prepares, ElementsAndPairs.Cut, ElementsAndPairs.cut, HistoriesGrow.counts_more, ReaderOverRun.run_further, SystemsStay.frame_keeps, SystemsStay.no_cycle_stays}
-use Rattle.msg_frames.specs.{Frames.turn_order, Prelude.IsSoundState, Prelude.State, Prelude.after_turns_of, Prelude.before_turns, Prelude.frame, Prelude.has_begun, Prelude.moments, Prelude.outcome_of, Prelude.reader_place, Prelude.run, declared.frame.Frame.Frame, declared.log.Outcome.TheVariants.Skipped}
+use Rattle.msg_frames.proofs.{BeforeTurns.prepares, ElementsAndPairs.Cut, ElementsAndPairs.cut, HistoriesGrow.counts_more, ReaderOverRun.run_further, SystemsStay.no_cycle_stays}
+use Rattle.msg_frames.specs.{Frames.turn_order, Prelude.IsSoundState, Prelude.State, Prelude.after_turns_of, Prelude.before_turns, Prelude.frame, Prelude.join_flags, Prelude.moments, Prelude.outcome_of, Prelude.reader_place, Prelude.run, declared.frame.Frame.Frame, declared.log.Outcome.TheVariants.Skipped}
 use Rattle.msg_laws.proofs.{OneTurn.goes_from_turn, OneTurn.goes_to_turn, OneTurn.in_log, OneTurn.job_left, OneTurn.member_found, OneTurn.within_turn, ProgramsReadAll.has_turn, ReadersStayUpToDate.Between, ReadersStayUpToDate.NoneMissed, ReadersStayUpToDate.all_there, ReadersStayUpToDate.between, ReadersStayUpToDate.frame_misses_none, ReadersStayUpToDate.joined_by_turn, ReadersStayUpToDate.past_frame, ReadersTakeAll.job_takes}
 use Rattle.msg_laws.specs.Prelude.{IsSkipped, IsUpToDate, IsWokenBy, NoWakeUpIsLost, NothingDrained, NothingUnread, ReadsAllIfWoken, ReadsAllWhenWoken, WhoIsWokenStaysSo, WhoSleepsHasNothingUnread, reads_all}
 use Rattle.msg_order.proofs.Elements.{Contains-head}
@@ -72,7 +73,7 @@ module _ {V : Type 0} {values : Values V} (t : ℕ) where
 -- ---- a frame
 
 module _ {V : Type 0} {values : Values V} (f : Frame V) (s : State values) (i t : ℕ) (sound : IsSoundState s)
-    (below : t < s.types) (has : IsTrue (has_begun s i)) (woken : IsWokenBy t i s) (earlier later : List ℕ)
+    (below : t < s.types) (has : IsTrue (has_joined (join_flags s) i)) (woken : IsWokenBy t i s) (earlier later : List ℕ)
     (is : turn_order (before_turns f.posts s) ≡ earlier ++ i ∷ later) where
   abbrev found : State values
   found = (after_turns_of earlier (before_turns f.posts s)).state
@@ -138,19 +139,19 @@ module _ {V : Type 0} {values : Values V} (f : Frame V) (s : State values) (i t 
 
 module _ {V : Type 0} {values : Values V} where
   -- one that has joined has its turn
-  turn_cut : (f : Frame V) (s : State values) (i : ℕ) → IsSoundState s → i < s.systems → IsTrue (has_begun s i)
+  turn_cut : (f : Frame V) (s : State values) (i : ℕ) → IsSoundState s → IsTrue (has_joined (join_flags s) i)
       → Cut (turn_order (before_turns f.posts s)) i
-  turn_cut f s i sound there has =
+  turn_cut f s i sound has =
       let prep = prepares f.posts s in
-      cut _ _ (has_turn (before_turns f.posts s) i (no_cycle_stays s _ prep.same sound.no_cycle) (rw (prep.same.systems) there)
+      cut _ _ (has_turn (before_turns f.posts s) i (no_cycle_stays s _ prep.same sound.no_cycle)
       (grind (arith, false≢true, prep.arrival i)))
 
   pub who_sleeps : WhoSleepsHasNothingUnread values
   who_sleeps f s i t sound below has woken skipped earlier later is = sleeps f s i t sound below has woken earlier later is skipped
 
   pub woken_stays : WhoIsWokenStaysSo values
-  woken_stays f s i t sound below there has woken reads =
-      let c = turn_cut f s i sound there has in
+  woken_stays f s i t sound below has woken reads =
+      let c = turn_cut f s i sound has in
       stays_woken f s i t sound below has woken c.before c.rest c.is reads
 
   -- what is so after the run, and that the moments of the run miss nothing
@@ -159,19 +160,18 @@ module _ {V : Type 0} {values : Values V} where
     woken : IsWokenBy t i (run frames s).state
     up : IsUpToDate (run frames s).state i t
 
-  runs_keep : (frames : List (Frame V)) (s : State values) (i t : ℕ) → IsSoundState s → t < s.types → i < s.systems
-      → IsTrue (has_begun s i) → IsWokenBy t i s → IsUpToDate s i t → ReadsAllWhenWoken i t frames s
+  runs_keep : (frames : List (Frame V)) (s : State values) (i t : ℕ) → IsSoundState s → t < s.types
+      → IsTrue (has_joined (join_flags s) i) → IsWokenBy t i s → IsUpToDate s i t → ReadsAllWhenWoken i t frames s
       → NothingDrained t s (run frames s).state → Kept frames s i t
-  runs_keep [] s i t sound below there has woken up reads drained =
+  runs_keep [] s i t sound below has woken up reads drained =
       record { none = All-nil (λ m. m.entry.stretch.missed ≡ 0); woken = woken; up = up }
-  runs_keep (f ∷ fs) s i t sound below there has woken up reads drained =
+  runs_keep (f ∷ fs) s i t sound below has woken up reads drained =
       let m : State values = (frame f s).state in
-      let c = turn_cut f s i sound there has in
+      let c = turn_cut f s i sound has in
       let mid : Between t s m (run fs m).state = between f fs s t sound below drained in
       let order : List ℕ = turn_order (before_turns f.posts s) in
-      let keeps = frame_keeps order f s in
       let joined = joined_by_turn f s i t sound below (rw (c.is) (Contains-append_right c.before (i ∷ c.rest) i (Contains-head i c.rest))) in
-      let rest = runs_keep fs m i t mid.sound mid.below (rw (keeps.systems) there) joined
+      let rest = runs_keep fs m i t mid.sound mid.below joined
       (stays_woken f s i t sound below has woken c.before c.rest c.is reads.0)
       (stays_up_to_date f s i t sound below has woken c.before c.rest c.is reads.0 up mid.first) reads.1 mid.rest in
       record {
@@ -182,6 +182,6 @@ module _ {V : Type 0} {values : Values V} where
       }
 
   pub no_wake_up : NoWakeUpIsLost values
-  no_wake_up frames s i t sound below there has woken up reads drained =
-      let kept = runs_keep frames s i t sound below there has woken up reads drained in
+  no_wake_up frames s i t sound below has woken up reads drained =
+      let kept = runs_keep frames s i t sound below has woken up reads drained in
       (All-map (λ e. e.stretch.missed ≡ 0) _ _ kept.none, kept.woken, kept.up)

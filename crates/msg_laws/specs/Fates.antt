@@ -1,10 +1,11 @@
 -- What a run did for each reader, message by message, and what its logs tell of that.
 use Rattle.std.specs.List.{Sorted.IsStrictlyIncreasing, enumerate_from}
+use Rattle.msg_order.specs.Prelude.{has_joined}
 use Rattle.std.specs.Prelude.{All, Contains, IsTrue, List, Some, [], filter, flat_map, length, map, slice_get, unwrap_or, ℕ, ◌+◌, ◌<◌, ◌==◌, ◌≡◌, ◌≤◌, ◌⊎◌}
 use Rattle.msg_buffer.specs.Prelude.{History, IsPresent, Tile, count}
 use Rattle.msg_world.specs.{Prelude.Values, declared.record.Record.Record}
 use Rattle.msg_system.specs.Prelude.{Meaning, Step}
-use Rattle.msg_frames.specs.{Prelude.GivesItsStretch, Prelude.IsCompleteRun, Prelude.IsServed, Prelude.IsSoundState, Prelude.Moment, Prelude.ReadEntry, Prelude.State, Prelude.answers_in, Prelude.entries_in_run, Prelude.entries_told, Prelude.found_at, Prelude.has_begun, Prelude.message_numbered, Prelude.moments, Prelude.numbers_cleared, Prelude.numbers_given, Prelude.numbers_missed, Prelude.reader_place, Prelude.run, Prelude.told, declared.frame.Frame.Frame, declared.log.Log.Log}
+use Rattle.msg_frames.specs.{Prelude.GivesItsStretch, Prelude.IsCompleteRun, Prelude.IsServed, Prelude.IsSoundState, Prelude.Moment, Prelude.ReadEntry, Prelude.State, Prelude.answers_in, Prelude.entries_in_run, Prelude.entries_told, Prelude.found_at, Prelude.join_flags, Prelude.message_numbered, Prelude.moments, Prelude.numbers_cleared, Prelude.numbers_given, Prelude.numbers_missed, Prelude.reader_place, Prelude.run, Prelude.told, declared.frame.Frame.Frame, declared.log.Log.Log}
 
 -- ---- the entries that logs have
 
@@ -111,7 +112,7 @@ pub record IsInOrderOf {V : Type 0} {values : Values V} (writer t : ℕ) (es : L
 abbrev pub WritersInOrder : {V : Type 0} → Values V → Type 0
 WritersInOrder {V} values = (frames : List (Frame V)) (s : State values) → IsCompleteRun frames s
     → (i t : ℕ)
-    → t < s.types → IsTrue (has_begun (run frames s).state i) → (writer : ℕ)
+    → t < s.types → IsTrue (has_joined (join_flags (run frames s).state) i) → (writer : ℕ)
     → IsInOrderOf writer t (entries_in_run i t frames s) (count (s.world.histories t))
     (run frames s).steps
 
@@ -129,4 +130,4 @@ pub record IsTiled {V : Type 0} {values : Values V} (i t : ℕ) (frames : List (
 abbrev pub ReadersTile : {V : Type 0} → Values V → Type 0
 ReadersTile {V} values = (frames : List (Frame V)) (s : State values) → IsSoundState s → (i t : ℕ)
     → t < s.types
-    → IsTrue (has_begun (run frames s).state i) → IsTiled i t frames s
+    → IsTrue (has_joined (join_flags (run frames s).state) i) → IsTiled i t frames s

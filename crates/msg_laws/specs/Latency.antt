@@ -1,8 +1,8 @@
 -- When readers have what was written.
 use Rattle.std.specs.Prelude.{Contains, IsTrue, List, [], flat_map, ℕ, ◌<◌, ◌∷◌}
-use Rattle.msg_order.specs.Prelude.{Path}
+use Rattle.msg_order.specs.Prelude.{Path, has_joined}
 use Rattle.msg_world.specs.{Prelude.Values, declared.record.Record.Record}
-use Rattle.msg_frames.specs.{Frames.settled_order, Prelude.IsSoundState, Prelude.State, Prelude.before_turns, Prelude.entries_in_run, Prelude.frame, Prelude.has_begun, Prelude.numbers_missed, Prelude.numbers_told, Prelude.run, declared.frame.Frame.Frame}
+use Rattle.msg_frames.specs.{Frames.settled_order, Prelude.IsSoundState, Prelude.State, Prelude.before_turns, Prelude.entries_in_run, Prelude.frame, Prelude.join_flags, Prelude.numbers_missed, Prelude.numbers_told, Prelude.run, declared.frame.Frame.Frame}
 use Rattle.msg_laws.specs.{Fates.told_to, UpToDate.NothingDrained, UpToDate.ReadsAll}
 
 -- In the run an entry of the reader tells message n: it was given, cleared or missed. Unless the
@@ -25,6 +25,6 @@ LaterReadersHaveItAtOnce {V} values = (f : Frame V) (s : State values) (i j t : 
 -- one, has taken by the end of that.
 abbrev pub AllReadersHaveItNext : {V : Type 0} → Values V → Type 0
 AllReadersHaveItNext {V} values = (f next : Frame V) (s : State values) (i j t : ℕ)
-    → IsSoundState s → t < s.types → IsTrue (has_begun (frame f s).state j)
+    → IsSoundState s → t < s.types → IsTrue (has_joined (join_flags (frame f s).state) j)
     → ReadsAll j t next (frame f s).state → (n : ℕ) (m : Record V)
     → Contains (told_to i t (frame f s).steps) (n, m) → HasTaken j t n (f ∷ (next ∷ [])) s

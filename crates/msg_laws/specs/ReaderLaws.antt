@@ -1,5 +1,6 @@
 -- What holds of readers over every run.
-use Rattle.msg_frames.specs.{Prelude.IsBalanced, Prelude.IsSoundState, Prelude.State, Prelude.entries_in_run, Prelude.first_state, Prelude.found_at, Prelude.has_begun, Prelude.no_totals, Prelude.reader_place, Prelude.replies_of, Prelude.run, Prelude.totals_from, Prelude.with_entries, declared.frame.Frame.Frame, declared.log.Log.Log, declared.place.Place.Place}
+use Rattle.msg_frames.specs.{Prelude.IsBalanced, Prelude.IsSoundState, Prelude.State, Prelude.entries_in_run, Prelude.first_state, Prelude.found_at, Prelude.join_flags, Prelude.no_totals, Prelude.reader_place, Prelude.replies_of, Prelude.run, Prelude.totals_from, Prelude.with_entries, declared.frame.Frame.Frame, declared.log.Log.Log, declared.place.Place.Place}
+use Rattle.msg_order.specs.Prelude.{has_joined}
 use Rattle.msg_order.specs.declared.rule.Rule.{Rule}
 use Rattle.msg_system.specs.{Prelude.Meaning, declared.reply.Reply.Reply}
 use Rattle.msg_world.specs.{Prelude.Values, Prelude.WorldState, declared.record.TheConstants.HOST}
@@ -29,17 +30,19 @@ AccountsBeginAtTheStart {V} values = (systems : List (Meaning V)) (places : List
     (rules : List Rule) (types : ℕ) (world : WorldState values) (frames : List (Frame V))
     → let s : State values = first_state systems places rules types world in
     let u : State values = (run frames s).state in
-    (i t : ℕ) → IsSoundState s → t < types → IsTrue (has_begun u i) → (u.members i).totals t
+    (i t : ℕ) → IsSoundState s → t < types → IsTrue (has_joined (join_flags u) i)
+    → (u.members i).totals t
     ≡ with_entries (entries_in_run i t frames s) (totals_from (found_at s u i t))
 
 -- The start of a reader that has joined, with all that it got, missed and cleared since, leads to
 -- its place.
 abbrev pub AccountsBalance : {V : Type 0} → Values V → Type 0
 AccountsBalance values = (s : State values) (i t : ℕ) → IsSoundState s → t < s.types
-    → IsTrue (has_begun s i)
+    → IsTrue (has_joined (join_flags s) i)
     → IsBalanced ((s.members i).totals t) (reader_place s i t)
 
 -- A reader that hasn't joined has no totals, and stands at 0.
 abbrev pub NoneBeforeJoining : {V : Type 0} → Values V → Type 0
-NoneBeforeJoining values = (s : State values) (i t : ℕ) → IsSoundState s → IsFalse (has_begun s i)
+NoneBeforeJoining values = (s : State values) (i t : ℕ) → IsSoundState s
+    → IsFalse (has_joined (join_flags s) i)
     → ((s.members i).totals t ≡ no_totals) × (reader_place s i t ≡ 0)

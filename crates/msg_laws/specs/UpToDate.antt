@@ -1,9 +1,10 @@
 -- Readers that read all of a type in each frame, and what that assures them of.
 use Rattle.std.specs.Prelude.{All, Bool, Contains, IsTrue, List, None, [], false, length, ℕ, ◌++◌, ◌<◌, ◌==◌, ◌∷◌, ◌≡◌, ◌≢◌, ◌≤◌}
+use Rattle.msg_order.specs.Prelude.{has_joined}
 use Rattle.std.specs.List.{list_any}
 use Rattle.msg_buffer.specs.Prelude.{IsPresent, count, update}
 use Rattle.msg_system.specs.{Prelude.of_program, declared.limits.TheConstants.MAX_OPS, declared.op.Op.Op, declared.op.Op.TheVariants.Forward, declared.op.Op.TheVariants.Read, declared.op.Op.TheVariants.Sum, declared.program.Program.Program}
-use Rattle.msg_frames.specs.{Frames.turn_order, Prelude.IsSoundState, Prelude.NoCycle, Prelude.State, Prelude.after_turns_of, Prelude.before_turns, Prelude.entries_in_run, Prelude.frame, Prelude.has_begun, Prelude.reader_place, Prelude.run, declared.frame.Frame.Frame, declared.log.Outcome.TheVariants.Skipped}
+use Rattle.msg_frames.specs.{Frames.turn_order, Prelude.IsSoundState, Prelude.NoCycle, Prelude.State, Prelude.after_turns_of, Prelude.before_turns, Prelude.entries_in_run, Prelude.frame, Prelude.join_flags, Prelude.reader_place, Prelude.run, declared.frame.Frame.Frame, declared.log.Outcome.TheVariants.Skipped}
 use Rattle.msg_world.specs.Prelude.{Values}
 
 module _ {V : Type 0} where
@@ -69,7 +70,7 @@ WhoReadsAllIsUpToDate {V} values = (f : Frame V) (s : State values) (i t : ℕ) 
 abbrev pub WhoIsUpToDateMissesNothing : {V : Type 0} → Values V → Type 0
 WhoIsUpToDateMissesNothing {V} values = (f : Frame V) (s : State values) (i t : ℕ) → IsSoundState s
     → t < s.types
-    → IsTrue (has_begun s i) → IsUpToDate s i t → NothingDrained t s (frame f s).state
+    → IsTrue (has_joined (join_flags s) i) → IsUpToDate s i t → NothingDrained t s (frame f s).state
     → MissesNothing i t (f ∷ []) s
 
 -- A system that reads all of a type in each frame misses nothing of it after the first of them,
@@ -85,7 +86,7 @@ WhoReadsEachFrameMissesNothing {V} values = (f : Frame V) (frames : List (Frame 
 abbrev pub WhoseProgramReadsAll : {V : Type 0} → Values V → Type 0
 WhoseProgramReadsAll {V} values = (f : Frame V) (s : State values) (i t : ℕ)
     (program : Program V) (writer : ℕ) (places : ℕ → ℕ)
-    → NoCycle s → i < s.systems → IsTrue (has_begun s i)
+    → NoCycle s → IsTrue (has_joined (join_flags s) i)
     → (s.members i).job ≡ record { system = of_program program writer places; conditions = [] }
     → length program.ops ≤ MAX_OPS → IsTrue (list_any (reads_all t) program.ops)
     → ReadsAll i t f s × ((later : ℕ → ℕ) × (((frame f s).state.members i).job

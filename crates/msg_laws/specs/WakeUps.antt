@@ -1,10 +1,11 @@
 -- Systems that are woken by a message and then read all, and what that assures them of.
 use Rattle.std.specs.Prelude.{All, IsTrue, List, [], length, ℕ, ◌++◌, ◌<◌, ◌∷◌, ◌≡◌, ◌≤◌}
+use Rattle.msg_order.specs.Prelude.{has_joined}
 use Rattle.std.specs.List.{list_any}
 use Rattle.msg_buffer.specs.Prelude.{IsPresent, count}
 use Rattle.msg_world.specs.Prelude.{Values}
 use Rattle.msg_system.specs.{Prelude.of_program, declared.condition.Probe.TheVariants.OnMessage, declared.limits.TheConstants.MAX_OPS, declared.program.Program.Program}
-use Rattle.msg_frames.specs.{Frames.turn_order, Prelude.IsSoundState, Prelude.State, Prelude.after_turns_of, Prelude.before_turns, Prelude.frame, Prelude.has_begun, Prelude.reader_place, Prelude.run, declared.frame.Frame.Frame, declared.log.Outcome.TheVariants.Skipped}
+use Rattle.msg_frames.specs.{Frames.turn_order, Prelude.IsSoundState, Prelude.State, Prelude.after_turns_of, Prelude.before_turns, Prelude.frame, Prelude.join_flags, Prelude.reader_place, Prelude.run, declared.frame.Frame.Frame, declared.log.Outcome.TheVariants.Skipped}
 use Rattle.msg_laws.specs.UpToDate.{IsUpToDate, MissesNothing, NothingDrained, reads_all}
 
 -- The one condition of system i is that a message of type t came. What stands from the reader's
@@ -42,21 +43,22 @@ module _ {V : Type 0} {values : Values V} where
 -- Who is woken by a type and was skipped had nothing of it unread when its turn came.
 abbrev pub WhoSleepsHasNothingUnread : {V : Type 0} → Values V → Type 0
 WhoSleepsHasNothingUnread {V} values = (f : Frame V) (s : State values) (i t : ℕ)
-    → IsSoundState s → t < s.types → IsTrue (has_begun s i) → IsWokenBy t i s → IsSkipped i f s
+    → IsSoundState s → t < s.types → IsTrue (has_joined (join_flags s) i) → IsWokenBy t i s
+    → IsSkipped i f s
     → (earlier later : List ℕ) → turn_order (before_turns f.posts s) ≡ earlier ++ i ∷ later
     → NothingUnread i t (after_turns_of earlier (before_turns f.posts s)).state
 
 -- Who is woken by a type and then reads all of it is woken by it after each frame too.
 abbrev pub WhoIsWokenStaysSo : {V : Type 0} → Values V → Type 0
 WhoIsWokenStaysSo {V} values = (f : Frame V) (s : State values) (i t : ℕ)
-    → IsSoundState s → t < s.types → i < s.systems → IsTrue (has_begun s i) → IsWokenBy t i s
+    → IsSoundState s → t < s.types → IsTrue (has_joined (join_flags s) i) → IsWokenBy t i s
     → ReadsAllIfWoken i t f s → IsWokenBy t i (frame f s).state
 
 -- Who is woken by a type, then reads all of it, and is up to date, misses nothing of it, unless it
 -- is drained; and so it goes on after the run.
 abbrev pub NoWakeUpIsLost : {V : Type 0} → Values V → Type 0
 NoWakeUpIsLost {V} values = (frames : List (Frame V)) (s : State values) (i t : ℕ)
-    → IsSoundState s → t < s.types → i < s.systems → IsTrue (has_begun s i)
+    → IsSoundState s → t < s.types → IsTrue (has_joined (join_flags s) i)
     → IsWokenBy t i s → IsUpToDate s i t → ReadsAllWhenWoken i t frames s
     → NothingDrained t s (run frames s).state
     → MissesNothing i t frames s × IsWokenBy t i (run frames s).state

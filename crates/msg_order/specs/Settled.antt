@@ -3,7 +3,7 @@ use Rattle.std.specs.Prelude.{Bool, List, [], false, filter, flat_map, if◌then
 use Rattle.std.specs.List.{concat, list_any, range_with_len}
 use Rattle.msg_order.specs.{Graph.Graph, Graph.path, declared.rule.Rule.Rule}
 
--- whether system i has joined
+-- whether system i has joined; a number that is no system's hasn't
 abbrev pub has_joined : List Bool → ℕ → Bool
 has_joined joined i = slice_index_or joined i false
 

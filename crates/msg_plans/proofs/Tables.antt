@@ -1,5 +1,5 @@
 -- The table of a frame.
-use Rattle.std.proofs.Common.{◌≡◌, ℕ, zero, suc, ◌+◌, ◌<◌, Bool, true, false, List, [], ◌∷◌, ◌++◌, length, map, nat_le, get_or, take, refl, subst, sym, ap, ◌∙◌, IsTrue, All, slice_index_or, arith, replicate, le_refl, ℤ}
+use Rattle.std.proofs.Common.{◌≡◌, ℕ, zero, suc, ◌+◌, ◌<◌, Bool, true, false, List, [], ◌∷◌, ◌++◌, length, map, nat_le, get_or, take, refl, subst, sym, ap, ◌∙◌, IsTrue, All, slice_index_or, arith, replicate, le_refl, ℤ, max}
 use Rattle.std.specs.List.{concat, enumerate_from}
 use Rattle.std.proofs.lemmas.{Bool.cases_lt, Bool.false≢true, List.take_more, List.get_or_past, List.length-map, List.get_or-take, List.get_or-replicate, List.Elements.All-tail, List.FromFn.fill_by_all, List.FromFn.length-enumerate_from, Nat.Bits.bit_at-zero, Simd.map-map}
 use Rattle.std.proofs.lemmas.List.{map-id}
@@ -9,7 +9,7 @@ use Rattle.msg_system.specs.Prelude.{IsAccessOf, Meaning, Needs, needs_any, new_
 use Rattle.msg_order.specs.Prelude.{IsAcyclic, IsPlanOf, NameSystemsBelow, access_of, edges_of, plan_of, rules_among}
 use Rattle.msg_order.specs.declared.rule.Rule.{Rule}
 use Rattle.msg_order.proofs.{PlanViews.plan_paths, SetPaths.all_rules, SettledOrders.fewer_make_none}
-use Rattle.msg_frames.specs.Prelude.{AreAccessesOf, SameSystems, State, UsesParts, before_joining, has_begun, join_flags, member_needs, default_system, default_place, waiting_member}
+use Rattle.msg_frames.specs.Prelude.{AreAccessesOf, SameSystems, State, UsesParts, before_joining, join_flags, member_needs, default_system, default_place, waiting_member}
 use Rattle.msg_frames.specs.Prelude.{SameMember}
 use Rattle.msg_frames.specs.Frames.{Member}
 use Rattle.msg_frames.specs.declared.place.Place.{Place}
@@ -142,7 +142,8 @@ module _ (s : Scenario) where
 
     flags : joined_by s.systems k ≡ join_flags (state_in s k)
     flags =
-        fill_by_all (has_begun (state_in s k)) (joined_by s.systems k) (length (meanings_of s)) false
+        let u = state_in s k in
+        fill_by_all (λ i. nat_le (u.members i).join (max 1 u.frames)) (joined_by s.systems k) (length (meanings_of s)) false
         (length-map s.systems (λ x. nat_le x.place.join k) ∙ sym as_many)
         (λ i lt. flags_from k s.systems i (omega (arith, as_many, lt)) ∙ grind (arith, joined.members i))
 

@@ -138,7 +138,8 @@ fn sinks_that_take_little(rt: HostRuntime) {
     expect_taken(rt, 1, false);
 }
 
-/// A sink that fails after `left` bytes of the 155 has just these. Gives what is told of the engine.
+/// A sink that fails after `left` bytes of the 155 has just these. Gives what is told of the
+/// engine.
 fn expect_cut<R: Threads + Sync + Abort + AllocGlobal>(
     rt: &R,
     left: usize,

@@ -3,32 +3,23 @@
 /// and `Op::Add` make, and whether two are the same, which `Probe::ResourceEquals` asks. No law is
 /// asked of either. Whatever they are, contracts say what the author says.
 ///
-/// To make one, say in `specs/` what is known of the type, and write it beside the type:
+/// One takes ten lines: in `specs/` what is known of the type, and beside the type the same in code
+/// (the `use` lines are left out):
 ///
 /// ```
-/// // specs/Blows.antt: of two blows the later stays
-/// abbrev pub blow_values : Values Blow
-/// blow_values = record { some = Nothing; plus = λ x y. y; same = same_blow }
+/// // specs/Hits.antt: of two hits the later stays
+/// abbrev pub hits : Values Hit
+/// hits = record { some = record { on = 0 }; plus = λ x y. y; same = λ x y. x.on == y.on }
 ///
-/// // src/blow.rt
+/// // src/hit.rt
 /// #[derive(Clone, Copy, Debug, PartialEq, Eq)]
-/// pub enum Blow {
-///     Hit { entity: u32, amount: i32 },
-///     Nothing,
-/// }
+/// pub struct Hit { pub on: u32 }
 ///
-/// impl Value for Blow {
-///     ghost use Rattle.tower.specs.Blows.{blow_values};
-///
-///     ghost values = { blow_values };
-///
-///     fn plus(self, other: Blow) -> Blow {
-///         other
-///     }
-///
-///     fn same(self, other: Blow) -> bool {
-///         self == other
-///     }
+/// impl Value for Hit {
+///     ghost use Rattle.game.specs.Hits.{hits};
+///     ghost values = { hits };
+///     fn plus(self, other: Hit) -> Hit { other }
+///     fn same(self, other: Hit) -> bool { self == other }
 /// }
 /// ```
 ///

@@ -1,13 +1,14 @@
 use Rattle.std.proofs.Common.{◌≡◌, ℕ, ◌<◌, List, rules, sym, ◌∙◌, IsTrue, ℤ}
+use Rattle.msg_order.specs.Prelude.{has_joined}
 use Rattle.msg_frames.specs.{declared.frame.Frame.Frame, declared.log.Log.Log}
-use Rattle.msg_frames.specs.Prelude.{IsCompleteRun, State, has_begun, run}
+use Rattle.msg_frames.specs.Prelude.{IsCompleteRun, State, join_flags, run}
 use Rattle.msg_laws.specs.Prelude.{EachMeetsOneFate, LogsTellEntries, Meets, given, log_entries}
 use Rattle.msg_world.specs.Prelude.{i64_values}
 use Rattle.msg_engine_tests.proofs.clients.run_once.Goals as goal
 
 once : EachMeetsOneFate i64_values → LogsTellEntries i64_values → (frames : List (Frame ℤ)) (s : State i64_values) (logs : List (Log ℤ))
     → logs ≡ (run frames s).logs → IsCompleteRun frames s
-    → (i t n j k : ℕ) → t < s.types → IsTrue (has_begun (run frames s).state i)
+    → (i t n j k : ℕ) → t < s.types → IsTrue (has_joined (join_flags (run frames s).state) i)
     → Meets (log_entries i t (s.members i).job.system logs) n j given
     → Meets (log_entries i t (s.members i).job.system logs) n k given → j ≡ k
 once fate tell frames s logs same complete i t n j k below has first second =

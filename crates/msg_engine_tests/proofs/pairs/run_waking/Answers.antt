@@ -19,7 +19,7 @@ none_missed : NoWakeUpIsLost i64_values → WhoseProgramReadsAllWhenWoken i64_va
     → All (λ e. e.stretch.missed ≡ 0) (log_entries 1 0 (waking_state.members 1).job.system (run frames waking_state).logs)
 none_missed law reads tell frames sound drained =
     let each = reads frames waking_state 1 0 reading 1 (waking_state.members 1).job.system.places refl (omega arith) refl in
-    rw (tell 1 0 frames waking_state) (law frames waking_state 1 0 sound (omega arith) (omega arith) refl woken
+    rw (tell 1 0 frames waking_state) (law frames waking_state 1 0 sound (omega arith) refl woken
     (λ n above lt. absurd (omega (arith, lt))) each drained).0
 
 pub returns : goal.returns
