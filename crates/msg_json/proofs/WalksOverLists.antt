@@ -1,5 +1,5 @@
 -- One step of a walk over a list of JSON values.
-use Rattle.std.proofs.Common.{◌≡◌, ℕ, ◌-◌, ◌≤◌, List, [], ◌∷◌, ◌++◌, ◌+◌, inl, inr, append_assoc, Err, take, drop, get_or, length, refl, sym, ap, ◌∙◌, arith, Bool, map, string_bytes, String, ℤ, position, Ok, Some, option_map, unwrap_or}
+use Rattle.std.proofs.Common.{◌≡◌, ℕ, ◌-◌, ◌≤◌, List, [], ◌∷◌, ◌++◌, inl, inr, append_assoc, Err, take, drop, get_or, length, refl, sym, ap, ◌∙◌, arith, Bool, map, string_bytes, String, ℤ, position, Ok, Some, option_map, unwrap_or}
 use Rattle.std.proofs.lemmas.List.{length-map, take_all, Folds.list_all-map}
 use Rattle.std.specs.declared.alloc.Global.{Global}
 use Rattle.serde_json.specs.{Data.Data, Find.as_array, View.view, View.items_of, View.items_view, View.members_view, declared.value.Value.Value}
