@@ -26,13 +26,15 @@ def blocks(table):
 
 
 def changed(folder, changes):
-    """Makes the changes to files below a folder; says which one can't be made."""
+    """Makes the changes to files below a folder, or none; says which one can't be made."""
+    texts = {}
     for file, old, new in changes:
-        path = folder / file
-        text = path.read_text(encoding="utf-8")
+        text = texts.get(file) or (folder / file).read_text(encoding="utf-8")
         if text.count(old) != 1:
             return f"{file} has {text.count(old)} times: {old}"
-        path.write_text(text.replace(old, new), encoding="utf-8")
+        texts[file] = text.replace(old, new)
+    for file, text in texts.items():
+        (folder / file).write_text(text, encoding="utf-8")
     return None
 
 
