@@ -6,6 +6,7 @@ pub mod PathTest
 -- The settled order
 mod SettledPairs
 pub mod SetPaths
+mod UserRows
 pub mod SettledOrders
 -- Batches and turns
 mod BatchLevels

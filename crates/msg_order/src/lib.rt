@@ -9,6 +9,7 @@ mod plan;
 mod plan_refusal;
 mod rule;
 mod system_set;
+mod users;
 
 pub use cycles::lowest_on_cycle;
 pub use plan::Plan;

@@ -1,9 +1,10 @@
 // The paths of a growing graph: before each system those from which a path leads to it.
-ghost use Rattle.std.specs.Prelude.{◌≡◌, ◌==◌, ◌||◌, ◌&&◌, ℕ, ◌<◌, ◌≤◌, ◌↔◌, [], true, false, length, IsTrue, IsFalse, MatchOption};
-ghost use Rattle.msg_order.specs.{Prelude.Graph, Prelude.IsAcyclic, Prelude.IsLowestOnCycle, Prelude.NameSystemsBelow, Prelude.rules_among, inner.Paths.AreInConflict, inner.Paths.ArePaths, inner.Paths.AreSettled, inner.Paths.AreStarts, inner.Paths.comes_before, inner.Paths.set_at, inner.SystemSet.has, inner.SystemSet.meets};
+ghost use Rattle.std.specs.Prelude.{◌≡◌, ◌==◌, ◌||◌, ◌&&◌, ℕ, ◌<◌, ◌≤◌, ◌↔◌, [], true, false, length, nat_le, IsTrue, IsFalse, MatchOption};
+ghost use Rattle.msg_order.specs.{Prelude.Graph, Prelude.IsAcyclic, Prelude.IsLowestOnCycle, Prelude.NameSystemsBelow, Prelude.rules_among, inner.Paths.AreInConflict, inner.Paths.ArePaths, inner.Paths.AreSettled, inner.Paths.AreStarts, inner.Paths.comes_before, inner.Paths.set_at, inner.SystemSet.has, inner.SystemSet.meets, inner.Users.AreUsers};
 
 use crate::Rule;
 use crate::system_set::SystemSet;
+use crate::users::Users;
 use msg_world::{Access, MAX_SYSTEMS};
 
 /// The systems of a set, and those to which a path leads from one of these. `starts` has each
@@ -26,7 +27,7 @@ fn reached_from(before: &[SystemSet], starts: &SystemSet, to: &SystemSet) -> Sys
 }
 
 /// Puts systems before each system of a set.
-fn put_before(before: &mut [SystemSet], reached: &SystemSet, earlier: &SystemSet)
+pub(crate) fn put_before(before: &mut [SystemSet], reached: &SystemSet, earlier: &SystemSet)
     requires few { length before.old ≤ MAX_SYSTEMS }
     requires within { (k : ℕ) → has reached.now k ≡ true → k < length before.old }
     ensures { (i j : ℕ)
@@ -79,7 +80,8 @@ pub fn add_edges(before: &mut [SystemSet], starts: &mut SystemSet, from: usize, 
     starts.insert(from);
 }
 
-fn only(system: usize) -> SystemSet
+/// One system alone.
+pub(crate) fn only(system: usize) -> SystemSet
     requires { system < MAX_SYSTEMS }
     ensures { (k : ℕ) → has result k ≡ (k == system) }
 {
@@ -106,33 +108,30 @@ fn add_rules(before: &mut [SystemSet], rules: &[Rule], joined: &[bool])
     }
 }
 
-fn are_in_conflict(accesses: &[Access], joined: &[bool], i: usize, j: usize) -> bool
-    requires one_each { length joined.now ≡ length accesses.now }
-    requires first { i < length accesses.now }
-    requires second { j < length accesses.now }
-    ensures { IsTrue result ↔ AreInConflict accesses.now joined.now i j }
-{
-    joined[i] && joined[j] && accesses[i].conflicts(&accesses[j])
-}
-
-/// The later systems that system i conflicts with, but for those that stand before it.
-fn later_conflicts(accesses: &[Access], joined: &[bool], i: usize, before: &SystemSet) -> SystemSet
-    requires few { length accesses.now ≤ MAX_SYSTEMS }
+/// The later systems that system i conflicts with, but for those that stand before it. `passed` has
+/// system i and those before it in number.
+fn later_conflicts(
+    users: &Users,
+    accesses: &[Access],
+    joined: &[bool],
+    i: usize,
+    passed: &SystemSet,
+    before: &SystemSet,
+) -> SystemSet
+    requires users { AreUsers accesses.now joined.now users.now }
+    requires passed { (j : ℕ) → has passed.now j ≡ nat_le j i }
     requires one_each { length joined.now ≡ length accesses.now }
     requires is_system { i < length accesses.now }
     ensures { (j : ℕ)
         → IsTrue (has result j)
         ↔ ((i < j) × (AreInConflict accesses.now joined.now i j × IsFalse (has before.now j))) }
 {
-    let mut later = SystemSet::empty();
     if !joined[i] {
-        return later;
+        return SystemSet::empty();
     }
-    for j in i + 1..accesses.len() {
-        if are_in_conflict(accesses, joined, i, j) && !before.contains(j) {
-            later.insert(j);
-        }
-    }
+    let mut later = users.in_conflict_with(&accesses[i]);
+    later.remove_all(passed);
+    later.remove_all(before);
     later
 }
 
@@ -145,9 +144,12 @@ fn settle_pairs(before: &mut [SystemSet], accesses: &[Access], joined: &[bool])
     ensures { (g : Graph) → ArePaths g before.old
         → AreSettled accesses.now joined.now g before.new }
 {
+    let users = Users::of(accesses, joined);
     let mut starts = starts_of(before);
+    let mut passed = SystemSet::empty();
     for i in 0..before.len() {
-        let later = later_conflicts(accesses, joined, i, &before[i]);
+        passed.insert(i);
+        let later = later_conflicts(&users, accesses, joined, i, &passed, &before[i]);
         add_edges(before, &mut starts, i, &later);
     }
 }

@@ -16,6 +16,7 @@ pub struct SystemSet {
 }
 
 impl SystemSet {
+    ghost use Rattle.msg_world.specs.Prelude.{has_bit};
     ghost use Rattle.msg_order.specs.inner.SystemSet.{has, meets};
 
     /// The set without systems.
@@ -23,6 +24,16 @@ impl SystemSet {
         ensures { (k : ℕ) → has result k ≡ false }
     {
         SystemSet { words: [0; WORDS] }
+    }
+
+    /// The numbers below 64 whose bit is set.
+    pub fn of_bits(bits: u64) -> Self
+        ensures same { (k : ℕ) → has result k ≡ has_bit bits k }
+        ensures below { (k : ℕ) → has result k ≡ true → k < 64 }
+    {
+        let mut set = SystemSet::empty();
+        set.words[0] = bits;
+        set
     }
 
     /// Whether system `k` is in it.
@@ -74,6 +85,15 @@ impl SystemSet {
     {
         for i in 0..WORDS {
             self.words[i] |= other.words[i];
+        }
+    }
+
+    /// Takes all systems of the other set out.
+    pub fn remove_all(&mut self, other: &SystemSet)
+        ensures { (j : ℕ) → has self.new j ≡ (has self.old j && not (has other.now j)) }
+    {
+        for i in 0..WORDS {
+            self.words[i] &= !other.words[i];
         }
     }
 

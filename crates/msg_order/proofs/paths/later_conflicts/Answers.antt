@@ -1,14 +1,25 @@
-use Rattle.std.proofs.Common.{IsFalse, arith, ℕ, ◌<◌}
-use Rattle.msg_order.specs.{inner.Paths.AreInConflict, inner.SystemSet.has}
-use Rattle.msg_order.proofs.{SetPaths.gains_none, SetPaths.gains_one, paths.later_conflicts.Goals.then-are_in_conflict+then-not-contains, paths.later_conflicts.Goals.else-are_in_conflict}
+use Rattle.std.proofs.Common.{IsTrue, arith, not, rules, sym, ◌∙◌}
+use Rattle.std.proofs.lemmas.Bool.{Decides.nat_tests, and_from, and_parts, cases_Bool}
+use Rattle.msg_order.specs.{Prelude.has_joined, inner.SystemSet.has}
 use Rattle.msg_order.proofs.paths.later_conflicts.Goals as goal
 
-pub loop-j-preserved : goal.loop-j-preserved
-loop-j-preserved c =
-    let P : ℕ → Type 0 = λ k. (c.args.i < k)
-    × (AreInConflict c.args.accesses.now c.args.joined.now c.args.i k × IsFalse (has c.args.before.now k)) in
-    elim c.if-are_in_conflict.branch [
-      | then-are_in_conflict+then-not-contains w ↦ rw w.later-is
-          (gains_one P c.loop-j.j w.insert.ensures c.loop-j.invariant (grind arith))
-      | else-are_in_conflict w ↦ rw w.later-is (gains_none P c.loop-j.j c.loop-j.invariant (grind arith))
-    ]
+pub returns : goal.returns
+returns c j =
+    let later = has c.in_conflict_with-later.result j in
+    let passed = has c.args.passed.now j in
+    let rest = has c.remove_all.new.self j in
+    let before = has c.args.before.now j in
+    let here : IsTrue (has_joined c.args.joined.now c.args.i) = search rules in
+    let told = c.in_conflict_with-later.ensures c.args.accesses.now c.args.joined.now c.requires.users j in (
+      λ t.
+          let both = and_parts rest (not before) (sym (c.remove_all-2.ensures j) ∙ t) in
+          let new = and_parts later (not passed) (sym (c.remove_all.ensures j) ∙ both.0) in
+          let is = told.0 new.0 in (
+            grind (arith, nat_tests, new.1, c.requires.passed j),
+            (record { first_joined = here; second_joined = is.0; conflict = is.1 }, grind (arith, cases_Bool before, both.1)),
+          ),
+      λ e. c.remove_all-2.ensures j ∙ and_from rest (not before)
+          (c.remove_all.ensures j ∙ and_from later (not passed) (told.1 (e.1.0.second_joined, e.1.0.conflict))
+          (grind (arith, nat_tests, e.0, c.requires.passed j)))
+          (grind (arith, cases_Bool before, e.1.1)),
+    )

@@ -1,4 +1,4 @@
-use Rattle.std.proofs.Common.{Bool, arith, length, ℕ}
+use Rattle.std.proofs.Common.{Bool, arith, length, rules, ℕ}
 use Rattle.msg_order.specs.inner.Paths.{conflict_among}
 use Rattle.msg_order.proofs.SetPaths.{joined_in, row_settles, tells_among}
 use Rattle.msg_order.proofs.paths.settle_pairs.Goals as goal
@@ -8,6 +8,7 @@ loop-i-preserved c =
     let joined = c.args.joined.now in
     let i : ℕ = c.loop-i.i in record {
       starts = c.add_edges.ensures.starts;
+      passed = λ j. search rules;
       settled = λ g h conflict tells.
           let among : ℕ → ℕ → Bool = conflict_among joined conflict in
           let is = tells_among c.args.accesses.now joined conflict tells in
