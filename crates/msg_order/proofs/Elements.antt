@@ -106,4 +106,20 @@ module _ (p : ℕ → Bool) (i : ℕ) (xs : List ℕ) (so_far : xs ≡ filter p 
   pub filter_drops : p i ≡ false → xs ≡ filter p (range_with_len 0 (i + 1))
   filter_drops t = grind (arith, range_more, filter-append, append-nil)
 
+module _ (p : ℕ → Bool) where
+  skips : (i k : ℕ) → ((j : ℕ) → i ≤ j → j < i + k → p j ≡ false)
+      → filter p (range_with_len 0 i) ≡ filter p (range_with_len 0 (i + k))
+  skips i zero none = grind arith
+  skips i (suc k) none =
+      let rest = skips i k (λ j le lt. none j le (omega arith)) in
+      let last = none (i + k) (omega arith) (omega arith) in
+      grind (arith, range_more (i + k), filter-append, append-nil, rest, last)
+
+  -- numbers that don't pass add nothing
+  pub filter_skips : (i n : ℕ) → i ≤ n → ((j : ℕ) → i ≤ j → j < n → p j ≡ false)
+      → filter p (range_with_len 0 i) ≡ filter p (range_with_len 0 n)
+  filter_skips i n le none =
+      let is : i + (n - i) ≡ n = omega arith in
+      rw is at (skips i (n - i) (λ j le lt. none j le (omega arith)))
+
 pub ruleset range_filters = (filter_takes, filter_drops)

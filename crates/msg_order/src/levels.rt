@@ -25,15 +25,15 @@ fn take_level<A: Allocator + Copy>(
 {
     let mut batch = Vec::new(alloc);
     let mut next = SystemSet::empty();
-    for i in 0..before.len() {
-        if left.contains(i) {
-            let is_blocked = before[i].meets(left);
-            if is_blocked {
-                next.insert(i);
-            } else {
-                batch.push(i as u32)?;
-            }
+    let mut i = left.next(0);
+    'left: while i < before.len() {
+        let is_blocked = before[i].meets(left);
+        if is_blocked {
+            next.insert(i);
+        } else {
+            batch.push(i as u32)?;
         }
+        i = left.next(i + 1);
     }
     Ok((batch, next))
 }
