@@ -67,7 +67,7 @@ fn run_many<R: Threads + Sync, V: Value + Send + Sync, S: SystemOf<Value = V> + 
     let results = run_side_by_side(crew, &lender.world, jobs, spares.habit())?;
     for result in results {
         let done = result?;
-        turns.push(lender.take_back(crew.alloc, done, spares))?;
+        turns.push(lender.take_back(done, spares))?;
     }
     Ok(())
 }

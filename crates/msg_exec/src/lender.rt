@@ -57,12 +57,7 @@ impl<V: Value, S: SystemOf<Value = V>> Lender<S, V> {
 
     /// Takes a system back after its turn, with what it gives back. What went with it is kept for
     /// later jobs.
-    pub(crate) fn take_back(
-        &mut self,
-        alloc: Global,
-        done: Job<S, V>,
-        spares: &mut Spares<V>,
-    ) -> Turn<V>
+    pub(crate) fn take_back(&mut self, done: Job<S, V>, spares: &mut Spares<V>) -> Turn<V>
         requires systems { done.number < length self.old.systems.items }
         requires totals { done.number < length self.old.totals.items }
         requires apart { IsApart done.taken self.old.world }
@@ -76,7 +71,7 @@ impl<V: Value, S: SystemOf<Value = V>> Lender<S, V> {
         } = done;
         let number = contents.number;
         let i = number as usize;
-        let taken = replace(&mut contents.taken, Taken::none(alloc));
+        let taken = replace(&mut contents.taken, Taken::none());
         let outcome = replace(&mut contents.outcome, Outcome::Skipped);
         spares.keep_contents(contents);
         self.world.take_back(taken);

@@ -60,7 +60,7 @@ impl<'a, V: Value + Send + Sync, S: SystemOf<Value = V> + Send> Runs for Batch<'
             mut guarded,
             mut contents,
         } = job;
-        let taken = replace(&mut contents.taken, Taken::none(alloc));
+        let taken = replace(&mut contents.taken, Taken::none());
         let replies = replace(&mut contents.replies, Vec::new(alloc));
         let (taken, outcome) = take_turn(
             alloc,

@@ -82,7 +82,7 @@ impl<V: Value> Spares<V> {
         let contents = JobContents {
             number: 0,
             access: Access::none(),
-            taken: Taken::none(alloc),
+            taken: Taken::none(),
             replies,
             outcome: Outcome::Skipped,
         };

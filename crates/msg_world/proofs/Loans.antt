@@ -1,5 +1,5 @@
 -- What loans stand for.
-use Rattle.std.proofs.Common.{arith, ◌≡◌, true, false, refl, ◌∙◌, inr, Some, None, IsSome, IsTrue, option_map, if◌then◌else◌}
+use Rattle.std.proofs.Common.{arith, ◌≡◌, true, false, refl, inr, Some, None, IsSome, IsTrue, option_map, if◌then◌else◌}
 use Rattle.std.proofs.{Math.ListN.length-set, lemmas.Bool.false_from_ne_true, lemmas.Bool.cases_Bool, lemmas.Bool.false≢true, lemmas.Bool.Decides.eqb_tells, lemmas.Option.none-some}
 use Rattle.msg_world.specs.Prelude.{Access, HomeMerges, Lent, LoanEnds, LoanStands, LoanStays, OfResource, OfType, Part, Parts, Registry, SameShape, Values, ValuesStand, WorldState, WritesStand, after_signal, content, merge, signalled_marks, slot, writable, writes}
 use Rattle.msg_world.proofs.Worlds.{at_set, there_below, there_still, type_shape}
@@ -11,7 +11,7 @@ with_signal_shape w = record {
 }
 
 -- a loan of the registry, after a signal
-pub signal_stands : {V : Type 0} {values : Values V} (l : Lent V) (s : WorldState values) → l.access.registry ≡ true → LoanStands l s
+pub signal_stands : {V : Type 0} {values : Values V} (l : Lent V) (s : WorldState values) → l.access.now.registry ≡ true → LoanStands l s
     → LoanStands (record l { taken = record l.taken { marks = option_map signalled_marks l.taken.marks } })
     (after_signal s)
 signal_stands l s lent stand (OfType t) = stand (OfType t)
@@ -21,7 +21,7 @@ signal_stands l s lent stand Registry = grind (arith, stand Registry)
 -- ---- writing
 
 -- a part that may be written is one that the access writes, and it is there
-is_written : {V : Type 0} (p : Part) (l : Lent V) → IsSome (writable p l) → IsTrue (writes l.access p) × IsSome (slot p l.taken)
+is_written : {V : Type 0} (p : Part) (l : Lent V) → IsSome (writable p l) → IsTrue (writes l.access.now p) × IsSome (slot p l.taken)
 is_written p l there = grind (arith, cases_Bool, false≢true)
 
 pub writes_are : {V : Type 0} {values : Values V} → WritesStand values
@@ -86,7 +86,7 @@ loan_ends a old left taken begun ended lends of owns same =
     let shape = rw owns at same.shape in
     let none : (p : Part) → writes a p ≡ false → slot p ended.taken ≡ None =
     λ p isnt. grind (arith, shape.there p, lends.moved p) in
-    let same_access : ended.access ≡ a = same.access ∙ of in (
+    let same_access : ended.access.now ≡ a = grind (arith, same.access, of) in (
       grind (arith, cases_Bool, false≢true, lends, shape),
       λ home back. (
         grind (arith, false≢true, lends, shape, back),

@@ -1,10 +1,11 @@
 -- What a world stands for after each change, part by part.
-use Rattle.std.proofs.Common.{◌≡◌, ℕ, ◌<◌, Bool, true, false, List, length, map, refl, sym, ◌∙◌, arith, inl, inr, Option, Some, None, get_or, ◌&&◌, ◌||◌, ◌↔◌, not, IsSome, IsSomeAnd, IsTrue, is_some, unwrap_or, slice_index, if◌then◌else◌, ◌==◌, slice_set}
+use Rattle.std.proofs.Common.{◌≡◌, ℕ, ◌<◌, Bool, true, false, List, length, map, refl, sym, ◌∙◌, arith, inl, inr, Option, Some, None, get_or, ◌&&◌, ◌||◌, ◌↔◌, not, IsSome, IsSomeAnd, IsTrue, is_some, unwrap_or, slice_index, if◌then◌else◌, ◌==◌, replicate, slice_set}
 use Rattle.std.specs.Option.{option_or}
-use Rattle.std.proofs.{Math.ListN.length-set, lemmas.Bool.cases_eq, lemmas.Bool.cases_lt, lemmas.Bool.false≢true, lemmas.Bool.Decides.eqb_tells, lemmas.List.get_or_default, lemmas.List.get_or-set_same, lemmas.List.get_or-set_other, lemmas.List.get_or_past, lemmas.List.get_or-map, lemmas.List.length-map}
+use Rattle.std.proofs.{Math.ListN.length-set, lemmas.Bool.cases_eq, lemmas.Bool.cases_lt, lemmas.Bool.false≢true, lemmas.Bool.Decides.eqb_tells, lemmas.List.get_or_default, lemmas.List.get_or-set_same, lemmas.List.get_or-set_other, lemmas.List.get_or_past, lemmas.List.get_or-map, lemmas.List.length-map, lemmas.List.length-replicate}
 use Rattle.msg_buffer.specs.Prelude.{History, Kept, StandsFor, empty}
-use Rattle.msg_world.specs.Prelude.{Access, IsHome, IsWhole, Marks, OfResource, OfType, Part, Parts, PartsStand, Record, Registry, SameShape, Values, WorldState, after_update, has_bit, new_world, slot, with_history}
-use Rattle.msg_world.specs.inner.Slots.{AllUpdated, BufferStands, HaveEach, at}
+use Rattle.msg_world.specs.Prelude.{Access, IsHome, IsWhole, LendsOut, Marks, OfResource, OfType, Parts, PartsStand, Record, Registry, SameShape, TakesBack, Values, WorldState, after_update, has_bit, new_world, with_history}
+use Rattle.msg_world.specs.inner.{Slots.AllUpdated, Slots.BufferStands, Slots.HaveEach, Slots.at, Taken.MovesHome, Taken.MovesOut}
+use Rattle.msg_world.proofs.Placed.{equal_items}
 
 -- a world and parts of which the marks were set
 pub marks_stand : {V : Type 0} {values : Values V} (w : Parts V) (s : WorldState values) (m : Marks) → PartsStand w s
@@ -105,13 +106,40 @@ type_shape w t k lt there = record {
 
 -- ---- lending and taking back
 
-pub taken_back_joined : {V : Type 0} (taken old new : Parts V)
-    → ((t : ℕ) → at new.types t ≡ option_or (at taken.types t) (at old.types t))
-    → ((r : ℕ) → at new.resources r ≡ option_or (at taken.resources r) (at old.resources r))
-    → new.marks ≡ option_or taken.marks old.marks → (p : Part) → slot p new ≡ option_or (slot p taken) (slot p old)
-taken_back_joined taken old new types resources marks (OfType t) = types t
-taken_back_joined taken old new types resources marks (OfResource r) = resources r
-taken_back_joined taken old new types resources marks Registry = marks
+-- what an access writes was moved out of a world, its types, its resources and its marks
+pub lent_out : {V : Type 0} (a : Access) (old left taken : Parts V) → MovesOut a.write_types old.types left.types taken.types
+    → MovesOut a.write_res old.resources left.resources taken.resources
+    → taken.marks ≡ (if a.registry then old.marks else None) → left.marks ≡ (if a.registry then None else old.marks)
+    → LendsOut a old left taken
+lent_out a old left taken types resources marks rest = record {
+  moved = elim [ OfType t ↦ types.moved t | OfResource r ↦ resources.moved r | Registry ↦ marks ];
+  stayed = elim [ OfType t ↦ types.left t | OfResource r ↦ resources.left r | Registry ↦ rest ];
+  taken_size = record { types = types.moved_len; resources = resources.moved_len };
+  left_size = record { types = types.left_len; resources = resources.left_len };
+}
+
+-- nothing is moved out by a mask without bits
+pub none_out : {T : Type 0} (mask n : ℕ) (xs : List (Option T)) → ((k : ℕ) → has_bit mask k ≡ false) → n ≡ length xs
+    → MovesOut mask xs xs (replicate n None)
+none_out {T} mask n xs none is = record {
+  moved = λ k. grind (arith, none k, equal_items {X = Option T} n None k);
+  left = λ k. grind (arith, none k);
+  moved_len = length-replicate n None ∙ is;
+  left_len = refl;
+}
+
+-- nothing comes home of slots that are empty
+pub none_home : {T : Type 0} (n : ℕ) (xs : List (Option T)) → MovesHome (replicate n None) xs xs
+none_home {T} n xs = record { joined = λ k. grind (arith, equal_items {X = Option T} n None k); len = refl }
+
+-- what was moved out is in a world again: its types, its resources and its marks
+pub taken_back : {V : Type 0} (taken old new : Parts V) → MovesHome taken.types old.types new.types
+    → MovesHome taken.resources old.resources new.resources
+    → new.marks ≡ option_or taken.marks old.marks → TakesBack taken old new
+taken_back taken old new types resources marks = record {
+  joined = elim [ OfType t ↦ types.joined t | OfResource r ↦ resources.joined r | Registry ↦ marks ];
+  size = record { types = types.len; resources = resources.len };
+}
 
 -- ---- what is home
 

@@ -9,7 +9,7 @@ use Rattle.msg_world.specs.{declared.access.Access.Access, declared.record.Recor
 module _ {V : Type 0} where
   -- the access that it was made for
   abbrev pub access_of_loan : Lent V → Access
-  access_of_loan l = l.access
+  access_of_loan l = l.access.now
 
   -- the parts of its own
   abbrev pub taken_of : Lent V → Parts V
@@ -17,18 +17,18 @@ module _ {V : Type 0} where
 
   -- what it shows of a part: nothing of what its access doesn't use
   abbrev pub shown : (p : Part) → Lent V → Option (Stuff V p)
-  shown p l = if writes l.access p then slot p l.taken else if reads l.access p
+  shown p l = if writes l.access.now p then slot p l.taken else if reads l.access.now p
       then slot p l.world.now else None
 
   -- what it lets be written of a part
   abbrev pub writable : (p : Part) → Lent V → Option (Stuff V p)
-  writable p l = if writes l.access p then slot p l.taken else None
+  writable p l = if writes l.access.now p then slot p l.taken else None
 
 -- It shows every part that its access uses, lets every part be written that its access writes, and
 -- no other.
 pub record IsComplete {V : Type 0} (l : Lent V) : Type 0 where
-  pub shows : (p : Part) → is_some (shown p l) ≡ uses l.access p
-  pub writes : (p : Part) → is_some (writable p l) ≡ writes l.access p
+  pub shows : (p : Part) → is_some (shown p l) ≡ uses l.access.now p
+  pub writes : (p : Part) → is_some (writable p l) ≡ writes l.access.now p
 
 module _ {V : Type 0} {values : Values V} where
   -- whatever it shows stands for that part of a world

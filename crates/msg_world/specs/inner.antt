@@ -3,3 +3,4 @@ pub mod Masks
 pub mod Moved
 pub mod MovedLends
 pub mod Slots
+pub mod Taken

@@ -16,7 +16,7 @@ pub struct Access {
 }
 
 impl Access {
-    ghost use Rattle.msg_world.specs.Access.{Part, OfType, OfResource, Registry, reads, writes, uses, same_part, Conflict, IsClash, FitsWorldOf};
+    ghost use Rattle.msg_world.specs.Access.{Part, OfType, OfResource, Registry, reads, writes, uses, same_part, Conflict, IsClash, FitsWorldOf, WritesTypeOrResource};
 
     /// The access that uses nothing.
     pub fn none() -> Self
@@ -113,6 +113,13 @@ impl Access {
         ensures written { result ≡ writes self.now (OfResource r) }
     {
         masks::has(self.write_res, r.number())
+    }
+
+    /// Whether it writes a type or a resource.
+    pub(crate) fn writes_type_or_res(&self) -> bool
+        ensures some { IsTrue result ↔ WritesTypeOrResource self.now }
+    {
+        self.write_types != 0 || self.write_res != 0
     }
 
     /// Whether one of them writes a part that the other uses, so that their jobs can't run side by

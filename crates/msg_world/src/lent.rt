@@ -20,7 +20,7 @@ use msg_buffer::Messages;
 #[derive(Drop)]
 pub struct Lent<'a, V = i64> {
     world: &'a World<V>,
-    access: Access,
+    access: &'a Access,
     taken: Taken<V>,
 }
 
@@ -30,7 +30,7 @@ impl<'a, V: Value> Lent<'a, V> {
     ghost use Rattle.msg_world.specs.{Access.OfResource, Access.OfType, Access.Registry, Loan.IsComplete, Loan.IsLoanOf, Loan.LendsResource, Loan.LendsWriter, Loan.LoanStands, Loan.SameLoan, Loan.access_of_loan, Loan.shown, Loan.taken_of, Loan.writable, Parts.PartsStand, World.WorldState, World.after_signal};
 
     /// Opens the loan of what was moved out of the world for this access.
-    pub fn open(world: &'a World<V>, access: &Access, taken: Taken<V>) -> Lent<'a, V>
+    pub fn open(world: &'a World<V>, access: &'a Access, taken: Taken<V>) -> Lent<'a, V>
         requires loan { IsLoanOf access.now world.now taken }
         ensures access { access_of_loan result ≡ access.now }
         ensures taken { taken_of result ≡ taken }
@@ -40,7 +40,7 @@ impl<'a, V: Value> Lent<'a, V> {
     {
         Lent {
             world,
-            access: *access,
+            access,
             taken,
         }
     }

@@ -6,6 +6,7 @@ ghost use Rattle.msg_world.specs.{Prelude.has_bit, inner.Moved.AreSlotsBelow, in
 use crate::masks;
 use std::alloc::{AllocError, Global};
 use std::marker::Model;
+use std::mem::replace;
 
 /// A part that was moved out of a slot.
 #[derive(Drop)]
@@ -45,36 +46,6 @@ fn index_of<T>(parts: &[Moved<T>], slot: usize) -> Option<usize>
         }
     }
     None
-}
-
-/// Room for what the slots of a mask hold, in the memory of a list that came home, if there is one.
-/// For an empty mask it takes no list.
-pub(crate) fn room_in<T: Drop>(
-    alloc: Global,
-    spares: &mut Vec<Vec<Moved<T>>>,
-    mask: u64,
-) -> Result<Vec<Moved<T>>, AllocError>
-    ensures empty { IfOk result (λ room. room.items ≡ []) }
-    ensures room { IfOk result (λ room. count_ones mask ≤ vec_capacity room) }
-    ensures refused { OnErr result (mask ≢ 0) }
-{
-    if mask == 0 {
-        return Ok(Vec::new(alloc));
-    }
-    let mut room = match spares.pop() {
-        Some(list) => list,
-        None => Vec::new(alloc),
-    };
-    room.clear();
-    room.reserve_exact(mask.count_ones() as usize)?;
-    Ok(room)
-}
-
-/// Keeps a list that came home for parts that go out later, if it has memory and there is room.
-pub(crate) fn keep<T: Drop>(spares: &mut Vec<Vec<Moved<T>>>, list: Vec<Moved<T>>) {
-    if list.capacity() > 0 && spares.len() < spares.capacity() {
-        spares.push_reserved(list);
-    }
 }
 
 /// Moves what a slot holds, if anything, behind the parts.
@@ -127,7 +98,7 @@ pub(crate) fn move_out<T: Drop>(
     }
 }
 
-impl<T> MovedParts<T> {
+impl<T: Drop> MovedParts<T> {
     ghost use Rattle.msg_world.specs.inner.MovedLends.{LendsPart};
 
     /// No parts, of no slots.
@@ -138,6 +109,28 @@ impl<T> MovedParts<T> {
             parts: Vec::new(alloc),
             slots: 0,
         }
+    }
+
+    /// Its list without parts, with room for what the slots of a mask hold.
+    pub(crate) fn take_room(
+        &mut self,
+        alloc: Global,
+        mask: u64,
+    ) -> Result<Vec<Moved<T>>, AllocError>
+        ensures empty { IfOk result (λ room. room.items ≡ []) }
+        ensures room { IfOk result (λ room. count_ones mask ≤ vec_capacity room) }
+    {
+        let mut room = replace(&mut self.parts, Vec::new(alloc));
+        room.clear();
+        room.reserve_exact(mask.count_ones() as usize)?;
+        Ok(room)
+    }
+
+    /// Keeps the memory of a list for later parts.
+    pub(crate) fn keep(&mut self, list: Vec<Moved<T>>) {
+        let mut list = list;
+        list.clear();
+        self.parts = list;
     }
 
     /// How many slots there are.

@@ -2,29 +2,101 @@ ghost use Rattle.std.specs.Prelude.{ℕ, ◌<◌, length};
 ghost use Rattle.msg_buffer.specs.Prelude.{History};
 ghost use Rattle.msg_world.specs.inner.Slots.{BufferStands, at};
 
+use crate::access::Access;
 use crate::marks::Marks;
-use crate::moved::MovedParts;
+use crate::moved::{MovedParts, move_home, move_out};
 use crate::record::Record;
 use crate::{ResNo, TypeNo, Value};
 use msg_buffer::Messages;
-use std::alloc::Global;
+use std::alloc::{AllocError, Global};
 use std::marker::Model;
+use std::mem::replace;
+
+/// The types and the resources that were moved out of a world.
+#[derive(Drop)]
+pub(crate) struct MovedOut<V> {
+    pub types: MovedParts<Messages<Record<V>>>,
+    pub resources: MovedParts<V>,
+}
 
 /// The parts of a world that were moved out for an access to write. It has to be taken back, or the
 /// world stays without them.
 #[derive(Drop)]
 pub struct Taken<V = i64> {
-    pub(crate) types: MovedParts<Messages<Record<V>>>,
-    pub(crate) resources: MovedParts<V>,
+    /// None if no type and no resource was moved out. It is in a box, so that little is moved where
+    /// a turn takes it along and gives it back.
+    pub(crate) moved: Option<Box<MovedOut<V>>>,
+    /// How many types the world has, and how many resources.
+    pub(crate) types: usize,
+    pub(crate) resources: usize,
     pub(crate) marks: Option<Marks>,
 }
 
 impl<V> Model for Taken<V> {
     ghost use Rattle.msg_world.specs.Parts.{Parts};
+    ghost use Rattle.msg_world.specs.inner.Taken.{resources_of, types_of};
 
     ghost Value = { Parts V };
 
-    ghost view = { λ t. record { types = t.types; resources = t.resources; marks = t.marks } };
+    ghost view = { λ t. record {
+      types = types_of t.types t.moved;
+      resources = resources_of t.resources t.moved;
+      marks = t.marks;
+    } };
+}
+
+impl<V: Value> MovedOut<V> {
+    ghost use Rattle.std.specs.Prelude.{◌≡◌, OnErr, OnOk, vec_len};
+    ghost use Rattle.msg_world.specs.inner.Taken.{MovesHome, MovesOut};
+
+    /// Nothing yet.
+    pub(crate) fn none(alloc: Global) -> MovedOut<V> {
+        MovedOut {
+            types: MovedParts::none(alloc),
+            resources: MovedParts::none(alloc),
+        }
+    }
+
+    /// Moves out the types and the resources that the access writes.
+    pub(crate) fn fill(
+        &mut self,
+        alloc: Global,
+        access: &Access,
+        types: &mut Vec<Option<Messages<Record<V>>>>,
+        resources: &mut Vec<Option<V>>,
+    ) -> Result<(), AllocError>
+        ensures types { OnOk result
+            (MovesOut access.now.write_types types.old.items types.new.items self.new.types) }
+        ensures resources { OnOk result
+            (MovesOut access.now.write_res resources.old.items resources.new.items
+            self.new.resources) }
+        ensures types_err { OnErr result (types.new ≡ types.old) }
+        ensures resources_err { OnErr result (resources.new ≡ resources.old) }
+    {
+        let types_room = self.types.take_room(alloc, access.write_types)?;
+        let resources_room = self.resources.take_room(alloc, access.write_res)?;
+        self.types = move_out(types, types_room, access.write_types);
+        self.resources = move_out(resources, resources_room, access.write_res);
+        Ok(())
+    }
+
+    /// Moves all home, and keeps its lists for what is moved out next.
+    pub(crate) fn move_home(
+        &mut self,
+        alloc: Global,
+        types: &mut Vec<Option<Messages<Record<V>>>>,
+        resources: &mut Vec<Option<V>>,
+    )
+        requires types { length self.old.types ≡ vec_len types.old }
+        requires resources { length self.old.resources ≡ vec_len resources.old }
+        ensures types { MovesHome self.old.types types.old.items types.new.items }
+        ensures resources { MovesHome self.old.resources resources.old.items resources.new.items }
+    {
+        let moved_types = replace(&mut self.types, MovedParts::none(alloc));
+        let moved_resources = replace(&mut self.resources, MovedParts::none(alloc));
+        self.types.keep(move_home(moved_types, types));
+        self.resources.keep(move_home(moved_resources, resources));
+    }
 }
 
 /// A law: each buffer that was moved out stands for some history.
@@ -45,14 +117,15 @@ impl<V: Value> Taken<V> {
     ghost use Rattle.msg_world.specs.{Access.OfType, Access.OfResource, Access.Registry, WritingThrough.LendsMessages, WritingThrough.LendsValue, Parts.PartsStand, Parts.slot, World.WorldState, World.signalled_marks};
 
     /// No parts. It fills the place of a `Taken` that was moved elsewhere, and takes no memory.
-    pub fn none(alloc: Global) -> Taken<V>
+    pub fn none() -> Taken<V>
         ensures types { result.types ≡ [] }
         ensures resources { result.resources ≡ [] }
         ensures marks { result.marks ≡ None }
     {
         Taken {
-            types: MovedParts::none(alloc),
-            resources: MovedParts::none(alloc),
+            moved: None,
+            types: 0,
+            resources: 0,
             marks: None,
         }
     }
@@ -61,35 +134,49 @@ impl<V: Value> Taken<V> {
     pub(crate) fn stands_for_some(&self)
         ensures state { (s : WorldState V.values) × PartsStand self.now s }
     {
-        moved_stand(&self.types);
+        if let Some(moved) = &self.moved {
+            moved_stand(&moved.types);
+        }
     }
 
     /// What is there of a type.
     pub(crate) fn messages(&self, t: TypeNo) -> Option<&Messages<Record<V>>>
         ensures there { option_copied result ≡ slot (OfType t) self.now }
     {
-        self.types.get(t.number() as usize)
+        match &self.moved {
+            Some(moved) => moved.types.get(t.number() as usize),
+            None => None,
+        }
     }
 
     pub(crate) fn messages_mut(&mut self, k: usize) -> Option<&mut Messages<Record<V>>>
         ensures* writes_back { sem 𝓛 (LendsMessages V.row self.entry k result) }
         ensures there { option_copied_mut result ≡ at self.old.types k }
     {
-        self.types.get_mut(k)
+        match &mut self.moved {
+            Some(moved) => moved.types.get_mut(k),
+            None => None,
+        }
     }
 
     /// What is there of a resource.
     pub(crate) fn value(&self, r: ResNo) -> Option<V>
         ensures there { result ≡ slot (OfResource r) self.now }
     {
-        self.resources.get(r.number() as usize).copied()
+        match &self.moved {
+            Some(moved) => moved.resources.get(r.number() as usize).copied(),
+            None => None,
+        }
     }
 
     pub(crate) fn value_mut(&mut self, k: usize) -> Option<&mut V>
         ensures* writes_back { sem 𝓛 (LendsValue V.row self.entry k result) }
         ensures there { option_copied_mut result ≡ at self.old.resources k }
     {
-        self.resources.get_mut(k)
+        match &mut self.moved {
+            Some(moved) => moved.resources.get_mut(k),
+            None => None,
+        }
     }
 
     /// Marks a signal, if the registry is there; says whether it is.

@@ -3,16 +3,16 @@ ghost use Rattle.std.specs.Option.{option_copied};
 ghost use Rattle.msg_buffer.specs.Prelude.{History, IsSpent, StandsFor, count, empty, message_refused, update, write};
 ghost use Rattle.msg_world.specs.Prelude.{IsApart, IsHome, IsWhole, LendsOut, OfResource, OfType, PartsStand, SameShape, TakesBack, WorldState, WritesTypeOrResource, after_update, by, held_world, new_world, slot, with_history};
 ghost use Rattle.msg_world.specs.inner.Slots.{AllUpdated, BufferStands, at};
+ghost use Rattle.msg_world.specs.inner.Taken.{MovesHome, MovesOut};
 
 use crate::access::Access;
 use crate::counts::Counts;
 use crate::limits::{MAX_RESOURCES, MAX_TYPES};
 use crate::marks::Marks;
-use crate::moved::Moved;
 use crate::record::{HOST, Record};
 use crate::slots::{have_each, slot_ref};
-use crate::taken::Taken;
-use crate::{ResNo, TypeNo, Value, masks, moved};
+use crate::taken::{MovedOut, Taken};
+use crate::{ResNo, TypeNo, Value, masks};
 use msg_buffer::{MessageId, Messages, NoMemory, WriteRefusal};
 use std::alloc::Global;
 use std::marker::Model;
@@ -36,10 +36,9 @@ pub struct World<V = i64> {
     types: Vec<Option<Messages<Record<V>>>>,
     resources: Vec<Option<V>>,
     marks: Option<Marks>,
-    /// Lists in which parts came home: their memory serves the parts that go out next. There is
-    /// room for a list of each type, and of each resource, since no more can be out at once.
-    spare_types: Vec<Vec<Moved<Messages<Record<V>>>>>,
-    spare_resources: Vec<Vec<Moved<V>>>,
+    /// What parts came home in: its memory serves those that go out next. There is room for one of
+    /// each part, since no more can be out at once.
+    spares: Vec<Box<MovedOut<V>>>,
 }
 
 impl<V> Model for World<V> {
@@ -171,8 +170,7 @@ impl<V: Value> World<V> {
     {
         let types = new_types(alloc, limits)?;
         let resources = new_resources(alloc, resources)?;
-        let spare_types = Vec::with_capacity(alloc, types.len())?;
-        let spare_resources = Vec::with_capacity(alloc, resources.len())?;
+        let spares = Vec::with_capacity(alloc, types.len() + resources.len())?;
         let marks = Some(Marks {
             held: false,
             pending: false,
@@ -181,8 +179,7 @@ impl<V: Value> World<V> {
             types,
             resources,
             marks,
-            spare_types,
-            spare_resources,
+            spares,
         })
     }
 
@@ -306,26 +303,69 @@ impl<V: Value> World<V> {
         ensures err { OnErr result (self.new ≡ self.old) }
         ensures refused { OnErr result (WritesTypeOrResource access.now) }
     {
-        let alloc = *self.types.allocator();
-        let types = moved::room_in(alloc, &mut self.spare_types, access.write_types)?;
-        let resources = moved::room_in(alloc, &mut self.spare_resources, access.write_res)?;
+        let moved = if access.writes_type_or_res() {
+            Some(self.move_out(access)?)
+        } else {
+            None
+        };
         Ok(Taken {
-            types: moved::move_out(&mut self.types, types, access.write_types),
-            resources: moved::move_out(&mut self.resources, resources, access.write_res),
+            moved,
+            types: self.types.len(),
+            resources: self.resources.len(),
             marks: take_marks(&mut self.marks, access.registry),
         })
     }
 
+    /// Moves out the types and the resources that the access writes.
+    fn move_out(&mut self, access: &Access) -> Result<Box<MovedOut<V>>, NoMemory>
+        ensures types { IfOk result (λ b.
+            MovesOut access.now.write_types self.old.types self.new.types b.value.types) }
+        ensures resources { IfOk result (λ b.
+            MovesOut access.now.write_res self.old.resources self.new.resources
+            b.value.resources) }
+        ensures marks { self.new.marks ≡ self.old.marks }
+        ensures err { OnErr result (self.new ≡ self.old) }
+    {
+        let alloc = *self.types.allocator();
+        let mut moved = match self.spares.pop() {
+            Some(moved) => moved,
+            None => Box::new(alloc, MovedOut::none(alloc))?,
+        };
+        moved.fill(alloc, access, &mut self.types, &mut self.resources)?;
+        Ok(moved)
+    }
+
     /// Moves home what was moved out. It takes no memory.
-    #[tactic(auto, using(crate::proofs::Worlds::taken_back_joined))]
     pub fn take_back(&mut self, taken: Taken<V>)
         requires apart { IsApart taken self.old }
         ensures home { TakesBack taken self.old self.new }
     {
-        let types = moved::move_home(taken.types, &mut self.types);
-        moved::keep(&mut self.spare_types, types);
-        let resources = moved::move_home(taken.resources, &mut self.resources);
-        moved::keep(&mut self.spare_resources, resources);
-        self.marks = taken.marks.or(self.marks);
+        let Taken {
+            moved,
+            types: _,
+            resources: _,
+            marks,
+        } = taken;
+        match moved {
+            Some(moved) => self.move_home(moved),
+            None => {}
+        }
+        self.marks = marks.or(self.marks);
+    }
+
+    /// Moves types and resources home, and keeps what they were in.
+    fn move_home(&mut self, moved: Box<MovedOut<V>>)
+        requires types { length moved.value.types ≡ length self.old.types }
+        requires resources { length moved.value.resources ≡ length self.old.resources }
+        ensures types { MovesHome moved.value.types self.old.types self.new.types }
+        ensures resources { MovesHome moved.value.resources self.old.resources self.new.resources }
+        ensures marks { self.new.marks ≡ self.old.marks }
+    {
+        let alloc = *self.types.allocator();
+        let mut moved = moved;
+        moved.move_home(alloc, &mut self.types, &mut self.resources);
+        if self.spares.len() < self.spares.capacity() {
+            self.spares.push_reserved(moved);
+        }
     }
 }

@@ -8,4 +8,4 @@ returns g c =
     let l = c.args.self.now in
     let there = c.stands_for_some.ensures.state in
     let here = c.stands_for_some-2.ensures.state in
-    record { state = (merge l.access here.0 there.0, λ p. grind (arith, content_merged, here.1 p, there.1 p)) }
+    record { state = (merge l.access.now here.0 there.0, λ p. grind (arith, content_merged, here.1 p, there.1 p)) }

@@ -1,28 +1,32 @@
-use Rattle.std.proofs.Common.{inl, inr, rules}
-use Rattle.msg_world.specs.Prelude.{OfResource, OfType, Registry, WritesTypeOrResource}
-use Rattle.msg_world.proofs.Bits.{some_bit}
+use Rattle.std.proofs.Common.{ap, arith, inl, inr, rules, sym, ◌∙◌}
+use Rattle.std.proofs.lemmas.Bool.{false_from_ne_true, false≢true}
+use Rattle.msg_world.specs.Prelude.{Parts, WritesTypeOrResource, has_bit}
+use Rattle.msg_world.proofs.{Worlds.lent_out, Worlds.none_out, world.World.lend_out.Goals.then-writes_type_or_res+in_ok-move_out, world.World.lend_out.Goals.else-writes_type_or_res}
 use Rattle.msg_world.proofs.world.World.lend_out.Goals as goal
 
 pub returns-clause-lent : goal.returns-clause-lent
 returns-clause-lent g c =
-    let types = c.move_out.ensures in
-    let resources = c.move_out-2.ensures in
+    let a = c.args.access.now in
+    let V = g.row.V.Denot in
     let marks = c.take_marks.ensures in
-    rw (← c.self.view_is) (record {
-      moved = elim [ OfType t ↦ types.moved t | OfResource r ↦ resources.moved r | Registry ↦ marks.taken ];
-      stayed = elim [ OfType t ↦ types.left t | OfResource r ↦ resources.left r | Registry ↦ marks.left ];
-      taken_size = record { types = search (rules, types.moved_len); resources = search (rules, resources.moved_len) };
-      left_size = record { types = search (rules, types.left_len); resources = search (rules, resources.left_len) };
-    })
-
-pub returns-in_err-types-clause-refused : goal.returns-in_err-types-clause-refused
-returns-in_err-types-clause-refused g c =
-    let bit = some_bit c.args.access.now.write_types (search rules) c.in_err-types.ensures.refused in
-    let some : WritesTypeOrResource c.args.access.now = inl (bit.0, bit.1.1) in
-    search (rules, some)
-
-pub returns-in_err-resources-clause-refused : goal.returns-in_err-resources-clause-refused
-returns-in_err-resources-clause-refused g c =
-    let bit = some_bit c.args.access.now.write_res (search rules) c.in_err-resources.ensures.refused in
-    let some : WritesTypeOrResource c.args.access.now = inr (bit.0, bit.1.1) in
-    search (rules, some)
+    elim c.if-writes_type_or_res.branch [
+      | then-writes_type_or_res+in_ok-move_out w ↦
+          let is = c.self.view_is ∙ w.self-is in
+          let moved = w.in_ok-move_out.ensures in
+          let same = ap (λ (p : Parts V). p.marks) is ∙ w.move_out.ensures.marks in
+          lent_out a c.args.self.now _ _
+          (rw (w.moved-is, ap (λ (p : Parts V). p.types) is) moved.types)
+          (rw (w.moved-is, ap (λ (p : Parts V). p.resources) is) moved.resources)
+          (grind (arith, marks.taken, same)) (grind (arith, marks.left, same))
+      | else-writes_type_or_res w ↦
+          let is = c.self.view_is ∙ w.self-is in
+          let same = ap (λ (p : Parts V). p.marks) is in
+          let none : WritesTypeOrResource a → ⊥ = λ s.
+          false≢true (sym w.if-writes_type_or_res.false ∙ c.writes_type_or_res.ensures.some.1 s) in
+          lent_out a c.args.self.now _ _
+          (rw (w.moved-is, ap (λ (p : Parts V). p.types) is) (none_out a.write_types c.len.result c.args.self.now.types
+          (λ k. false_from_ne_true (has_bit a.write_types k) (λ t. none (inl (k, t)))) (search (rules, is))))
+          (rw (w.moved-is, ap (λ (p : Parts V). p.resources) is) (none_out a.write_res c.len-2.result c.args.self.now.resources
+          (λ k. false_from_ne_true (has_bit a.write_res k) (λ t. none (inr (k, t)))) (search (rules, is))))
+          (grind (arith, marks.taken, same)) (grind (arith, marks.left, same))
+    ]
