@@ -1,5 +1,5 @@
-// What each op does to the loan of its system, and to its system's cursor. After want of memory both
-// are as they were.
+// What each op does to the loan of its system, and to its system's cursor. After want of memory
+// both are as they were.
 ghost use Rattle.std.specs.Prelude.{◌≡◌, ℕ, IfOk, IsSome, OnErr, OnOk};
 ghost use Rattle.msg_world.specs.{declared.part.Part.TheVariants.OfResource, declared.part.Part.TheVariants.OfType, declared.part.Part.TheVariants.Registry, Prelude.SameLoan, Prelude.shown, Prelude.writable};
 ghost use Rattle.msg_system.specs.Prelude.{Add, Batch, Clear, Drain, Forward, Get, Len, MayBeRefused, Missed, OpRan, Read, Set, Signal, Sum, Write, with_place, write_reply};
