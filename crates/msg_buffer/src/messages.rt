@@ -92,7 +92,8 @@ impl<M, A: Allocator> Messages<M, A> {
     pub fn stands_for_some(&self)
         ensures history { (m : M) → (h : History M) × StandsFor self.now h }
     {
-        let _opened = self.count;
+        // Proof: what holds of every buffer is known once a field of it is read.
+        let _count = self.count;
     }
 
     /// How many messages are kept.

@@ -84,10 +84,7 @@ pub(crate) fn next_plan<V: Value, S: SystemOf<Value = V>>(
         return Ok(None);
     };
     // Those of join 1 joined as the engine was made.
-    if frames == 0 {
-        return Ok(None);
-    }
-    if !core.joins.contains(&next) {
+    if frames == 0 || !core.joins.contains(&next) {
         return Ok(None);
     }
     let plan = plan_by(alloc, &core.lender.accesses, &core.rules, &core.joins, next)?;

@@ -1,10 +1,10 @@
 -- What the functions of the order, of frames and of runs come to.
-use Rattle.std.proofs.Common.{All, Bool, Contains, IsTrue, List, [], ap, append_assoc, arith, map, refl, sym, ◌&&◌, ◌++◌, ◌<◌, ◌||◌, ◌↔◌, ◌∙◌, ◌∷◌, ◌≡◌, ◌⊎◌}
+use Rattle.std.proofs.Common.{All, Bool, Contains, IsTrue, List, [], ap, append_assoc, arith, map, refl, sym, ℕ, ◌&&◌, ◌++◌, ◌<◌, ◌||◌, ◌↔◌, ◌∙◌, ◌∷◌, ◌≡◌, ◌⊎◌}
 use Rattle.std.specs.List.{range_with_len}
 use Rattle.std.proofs.lemmas.{Bool.cases_Bool, List.Elements.Contains-append_left, List.Elements.Contains-append_right, List.FromFn.length-map-range_with_len}
 use Rattle.msg_world.specs.{Prelude.Conflict, Prelude.HasPart, Prelude.Values, Prelude.uses, Prelude.writes, declared.access.Access.Access, declared.limits.TheConstants.MAX_RESOURCES, declared.limits.TheConstants.MAX_TYPES, declared.part.Part.Part, declared.part.Part.TheVariants.OfResource, declared.part.Part.TheVariants.OfType, declared.part.Part.TheVariants.Registry}
-use Rattle.msg_order.specs.Prelude.{IsAcyclic, IsAmong, IsPlanOf, IsSettledOrder, IsTurnOrder, NoneConflict, PlanView, TellsConflicts, batches, plan_of}
-use Rattle.msg_order.proofs.{Elements.Contains-head, Elements.Contains-list_any, Elements.Contains-map, Elements.Contains-range, Elements.list_any-Contains, Functions.batches_are, Functions.settled_among, Functions.settled_no_cycle, Functions.turns_are, TurnOrders.none_conflict}
+use Rattle.msg_order.specs.Prelude.{IsAcyclic, IsAmong, IsPlanOf, IsTurnOrder, NoneConflict, PlanView, TellsConflicts, batches, plan_of, settled}
+use Rattle.msg_order.proofs.{Elements.Contains-head, Elements.Contains-list_any, Elements.Contains-map, Elements.Contains-range, Elements.list_any-Contains, Functions.batches_are, Functions.settled_among, Functions.settled_no_cycle, Functions.settled_only, Functions.turns_are, TurnOrders.none_conflict}
 use Rattle.msg_system.specs.Prelude.{IsAccessOf, Needs, needs_any}
 use Rattle.msg_frames.specs.{Frames.parts, Frames.settled_order, Frames.turn_order, Prelude.AfterRun, Prelude.AreAccessesOf, Prelude.Frame, Prelude.Log, Prelude.NoCycle, Prelude.SameSystems, Prelude.State, Prelude.UsesParts, Prelude.are_in_conflict, Prelude.before_turns, Prelude.frame, Prelude.join_flags, Prelude.needs_conflict, Prelude.run}
 use Rattle.msg_frames.proofs.SystemsStay.{frame_keeps, joined_below}
@@ -59,11 +59,12 @@ module _ {V : Type 0} {values : Values V} where
 -- ---- the order of turns
 
 module _ {V : Type 0} {values : Values V} where
-  pub order_is_settled : (s : State values) (accesses : List Access) → UsesParts s → AreAccessesOf s accesses
-      → IsSettledOrder accesses s.rules (join_flags s) (settled_order s)
+  pub order_is_settled : (s : State values) (accesses : List Access) (conflict : ℕ → ℕ → Bool) → UsesParts s
+      → AreAccessesOf s accesses → TellsConflicts accesses (join_flags s) conflict
+      → settled_order s ≡ settled conflict s.rules (join_flags s)
   unfolding settled_order
-  order_is_settled s accesses uses are =
-      record { conflict = are_in_conflict s; tells = conflicts_tell s accesses are uses; is = refl }
+  order_is_settled s accesses conflict uses are tells =
+      settled_only accesses s.rules (join_flags s) (are_in_conflict s) conflict (conflicts_tell s accesses are uses) tells
 
   pub order_among : (s : State values) → IsAmong (join_flags s) (settled_order s)
   unfolding settled_order
@@ -88,8 +89,9 @@ module _ {V : Type 0} {values : Values V} where
   -- its batches
   pub batches_apart : (s : State values) (accesses : List Access) → UsesParts s → AreAccessesOf s accesses → NoCycle s
       → All (NoneConflict accesses) (batches (settled_order s) (join_flags s))
+  unfolding settled_order
   batches_apart s accesses uses are free =
-      none_conflict accesses s.rules (join_flags s) (settled_order s) _ (order_is_settled s accesses uses are)
+      none_conflict accesses s.rules (join_flags s) (are_in_conflict s) _ (conflicts_tell s accesses are uses)
       (batches_are (settled_order s) (join_flags s) (order_among s) (order_free s free))
 
 -- ---- frames and then others

@@ -3,10 +3,10 @@ use Rattle.std.proofs.Common.{All, AllPairs, Bool, Contains, IsPermutation, IsTr
 use Rattle.std.proofs.lemmas.{Bool.cases_order, Grind.get_or_default_zero, List.Elements.All-append, List.Elements.All-contains, List.Elements.All-tail, List.Elements.Contains-append_left, List.Elements.Contains-get_or, List.Sorted.Contains-permutation, List.Sorted.IsPermutation-cons, List.Sorted.IsPermutation-middle, List.Sorted.IsPermutation-refl, List.Sorted.IsPermutation-sym, List.Sorted.IsPermutation-trans, Option.get_or_from_slice_get, Option.slice_get_within}
 use Rattle.msg_world.specs.{Prelude.Conflict, Prelude.Values, declared.access.Access.Access}
 use Rattle.msg_order.proofs.{Elements.Contains-cases, Elements.Contains-head, Elements.Contains-tail, Elements.not_in_none, SettledOrders.conflicts_ordered, TurnOrders.in_lawful_order, TurnOrders.kept_along}
-use Rattle.msg_order.specs.Prelude.{Graph, IsLawfulOrder, IsSettledOrder, Path, access_of, has_joined}
+use Rattle.msg_order.specs.Prelude.{Graph, IsLawfulOrder, Path, TellsConflicts, access_of, has_joined, settled}
 use Rattle.msg_system.specs.Prelude.{JobFootprint}
-use Rattle.msg_frames.specs.{Frames.settled_order, Frames.turn_order, Prelude.AreAccessesOf, Prelude.FramesAgreeInLawfulOrders, Prelude.State, Prelude.Turn, Prelude.after_turn_of, Prelude.after_turns_of, Prelude.before_turns, Prelude.join_flags, Prelude.logged_turn}
-use Rattle.msg_frames.proofs.{ElementsAndPairs.Cut, ElementsAndPairs.cut, ElementsAndPairs.pairs_head, ElementsAndPairs.pairs_middle, ElementsAndPairs.pairs_right, ElementsAndPairs.pairs_tail, Functions.order_among, Functions.order_is, Functions.order_is_settled, SystemsStay.accesses_stay, SystemsStay.before_keeps, SystemsStay.joined_below, SystemsStay.no_cycle_stays, SystemsStay.one_turn_keeps, SystemsStay.uses_stay, TurnsCommute.turns_commute}
+use Rattle.msg_frames.specs.{Frames.settled_order, Frames.turn_order, Prelude.AreAccessesOf, Prelude.FramesAgreeInLawfulOrders, Prelude.State, Prelude.Turn, Prelude.after_turn_of, Prelude.after_turns_of, Prelude.are_in_conflict, Prelude.before_turns, Prelude.join_flags, Prelude.logged_turn}
+use Rattle.msg_frames.proofs.{ElementsAndPairs.Cut, ElementsAndPairs.cut, ElementsAndPairs.pairs_head, ElementsAndPairs.pairs_middle, ElementsAndPairs.pairs_right, ElementsAndPairs.pairs_tail, Functions.order_among, Functions.conflicts_tell, Functions.order_is, SystemsStay.accesses_stay, SystemsStay.before_keeps, SystemsStay.joined_below, SystemsStay.no_cycle_stays, SystemsStay.one_turn_keeps, SystemsStay.uses_stay, TurnsCommute.turns_commute}
 
 -- in either order of turns the same is left, and the turns are the same
 abbrev pub SameRun : {V : Type 0} → Values V → List Access → List ℕ → List ℕ → Type 0
@@ -101,26 +101,28 @@ lawful_forward g who order lawful a b d lt l p =
     grind (arith, one, places, others, s, get_or_default_zero, get_or_from_slice_get, slice_get_within)
 
 module _ {V : Type 0} {values : Values V} where
-  pub orders_agree : JobFootprint values → (s : State values) (accesses : List Access) (settled : Graph) (a b : List ℕ)
-      → AreAccessesOf s accesses → IsSettledOrder accesses s.rules (join_flags s) settled
-      → IsLawfulOrder settled (join_flags s) a → IsLawfulOrder settled (join_flags s) b
+  pub orders_agree : JobFootprint values → (s : State values) (accesses : List Access) (conflict : ℕ → ℕ → Bool) (a b : List ℕ)
+      → AreAccessesOf s accesses → TellsConflicts accesses (join_flags s) conflict
+      → IsLawfulOrder (settled conflict s.rules (join_flags s)) (join_flags s) a
+      → IsLawfulOrder (settled conflict s.rules (join_flags s)) (join_flags s) b
       → ((after_turns_of a s).state ≡ (after_turns_of b s).state)
       × IsPermutation (after_turns_of a s).turns (after_turns_of b s).turns
-  orders_agree foot s accesses settled a b are is_settled la lb =
-      reordered foot accesses (Path settled) (λ i. IsTrue (has_joined (join_flags s) i))
+  orders_agree foot s accesses conflict a b are tells la lb =
+      let g : Graph = settled conflict s.rules (join_flags s) in
+      reordered foot accesses (Path g) (λ i. IsTrue (has_joined (join_flags s) i))
       (λ i joined. rw (are.each) (joined_below s i joined))
-      (λ i j p q ne conflict. conflicts_ordered accesses s.rules (join_flags s) settled is_settled i j ne p q conflict)
+      (λ i j p q ne c. conflicts_ordered accesses s.rules (join_flags s) conflict tells i j ne p q c)
       b a (λ k d lt. (lb.of_joined _).0 (Contains-get_or b k d lt)) (λ i. grind (arith, la.of_joined i, lb.of_joined i))
-      lb.once la.once (lawful_forward settled (join_flags s) b lb)
-      (lawful_forward settled (join_flags s) a la) s are
+      lb.once la.once (lawful_forward g (join_flags s) b lb) (lawful_forward g (join_flags s) a la) s are
 
   pub frames_agree : JobFootprint values → FramesAgreeInLawfulOrders values
+  unfolding settled_order
   frames_agree foot f s accesses order uses free are lawful =
       let b : State values = before_turns f.posts s in
       let same = before_keeps f.posts s in
       let are' = accesses_stay s b accesses same are in
       let free' = no_cycle_stays s b same free in
       let own = in_lawful_order (settled_order b) (join_flags b) (turn_order b) (order_among b) (order_is b free') in
-      let agree = orders_agree foot b accesses (settled_order b) order (turn_order b) are'
-      (order_is_settled b accesses (uses_stay s b same uses) are') lawful.lawful own in
+      let agree = orders_agree foot b accesses (are_in_conflict b) order (turn_order b) are'
+      (conflicts_tell b accesses are' (uses_stay s b same uses)) lawful.lawful own in
       (agree.0, record { posts = refl; turns = agree.1 })

@@ -2,10 +2,10 @@
 -- function in src/turn_laws.rt.
 use Rattle.msg_frames.specs.{Frames.settled_order, Frames.turn_order, Prelude.AfterTurns, Prelude.AreAccessesOf, Prelude.NoCycle, Prelude.SameSystems, Prelude.State, Prelude.UsesParts, Prelude.after_turn_of, Prelude.after_turns_of, Prelude.all_home, Prelude.are_in_conflict, Prelude.join_flags, Prelude.logged_turn, Prelude.run, declared.frame.Frame.Frame}
 use Rattle.msg_buffer.specs.Prelude.{GoesOn, IsSound}
-use Rattle.msg_order.specs.{Graph.Graph, Order.AreBatches, Order.IsSettledOrder, Order.access_of, Prelude.IsAcyclic, Prelude.IsLawfulOrder, Prelude.IsTurnOrder, Prelude.NoneConflict, Prelude.Path, Settled.batches, Settled.has_joined}
+use Rattle.msg_order.specs.{Order.AreBatches, Order.TellsConflicts, Order.access_of, Prelude.IsAcyclic, Prelude.IsLawfulOrder, Prelude.IsTurnOrder, Prelude.NoneConflict, Prelude.Path, Settled.batches, Settled.has_joined, Settled.settled}
 use Rattle.msg_world.specs.{Prelude.Conflict, Prelude.Values, declared.access.Access.Access}
 use Rattle.std.specs.List.{concat}
-use Rattle.std.specs.Prelude.{All, AllPairs, IsPermutation, IsTrue, List, [], map, ℕ, ◌++◌, ◌<◌, ◌∷◌, ◌≡◌, ◌≢◌, ◌⊎◌}
+use Rattle.std.specs.Prelude.{All, AllPairs, Bool, IsPermutation, IsTrue, List, [], map, ℕ, ◌++◌, ◌<◌, ◌∷◌, ◌≡◌, ◌≢◌, ◌⊎◌}
 
 -- Turns keep the systems, and make no frame.
 abbrev pub TurnsKeepSystems : {V : Type 0} → Values V → Type 0
@@ -50,10 +50,10 @@ FramesRunByBatches values = (s : State values) (accesses : List Access) (batches
 -- Two lawful orders of one settled order leave the same state and have the same turns: each
 -- system's comes out alike.
 abbrev pub LawfulOrdersAgree : {V : Type 0} → Values V → Type 0
-LawfulOrdersAgree values = (s : State values) (accesses : List Access) (settled : Graph)
-    (a b : List ℕ) → AreAccessesOf s accesses
-    → IsSettledOrder accesses s.rules (join_flags s) settled
-    → IsLawfulOrder settled (join_flags s) a → IsLawfulOrder settled (join_flags s) b
+LawfulOrdersAgree values = (s : State values) (accesses : List Access) (conflict : ℕ → ℕ → Bool)
+    (a b : List ℕ) → AreAccessesOf s accesses → TellsConflicts accesses (join_flags s) conflict
+    → IsLawfulOrder (settled conflict s.rules (join_flags s)) (join_flags s) a
+    → IsLawfulOrder (settled conflict s.rules (join_flags s)) (join_flags s) b
     → ((after_turns_of a s).state ≡ (after_turns_of b s).state)
     × IsPermutation (after_turns_of a s).turns (after_turns_of b s).turns
 
@@ -79,9 +79,9 @@ TurnsAreInOrder values = (s : State values) → NoCycle s → AreOrdered s
 
 -- The settled order is the one that the rules make, and then the pairs whose accesses conflict.
 abbrev pub OrderIsSettled : {V : Type 0} → Values V → Type 0
-OrderIsSettled values = (s : State values) (accesses : List Access) → UsesParts s
-    → AreAccessesOf s accesses
-    → IsSettledOrder accesses s.rules (join_flags s) (settled_order s)
+OrderIsSettled values = (s : State values) (accesses : List Access) (conflict : ℕ → ℕ → Bool)
+    → UsesParts s → AreAccessesOf s accesses → TellsConflicts accesses (join_flags s) conflict
+    → settled_order s ≡ settled conflict s.rules (join_flags s)
 
 -- Over a run each type's history goes on: what was written stays, each message in its place.
 abbrev pub ListsOnlyGrow : {V : Type 0} → Values V → Type 0

@@ -3,7 +3,7 @@ use Rattle.std.proofs.Common.{Bool, IsTrue, List, ap, arith, false, inl, inr, le
 use Rattle.std.proofs.lemmas.{Bool.and_from, Bool.and_parts, Bool.cases_Bool, Bool.cases_order, Bool.Decides.eqb_tells}
 use Rattle.msg_world.specs.{Prelude.Conflict, declared.access.Access.Access}
 use Rattle.msg_world.proofs.{Bits.share_bit-and, Conflicts.collides, Conflicts.conflicts_lem}
-use Rattle.msg_order.specs.{Prelude.ConflictingSystemsAreOrdered, Prelude.FewerSystemsMakeNoCycle, Prelude.Graph, Prelude.IsAcyclic, Prelude.IsAmong, Prelude.IsSettledOrder, Prelude.Path, Prelude.Rule, Prelude.TellsConflicts, Prelude.access_of, Prelude.edges_of, Prelude.has_joined, Prelude.pairs, Prelude.path, Prelude.rules_among, Prelude.settle, Prelude.settled, inner.Paths.conflict_among}
+use Rattle.msg_order.specs.{Prelude.ConflictingSystemsAreOrdered, Prelude.FewerSystemsMakeNoCycle, Prelude.Graph, Prelude.IsAcyclic, Prelude.IsAmong, Prelude.Path, Prelude.Rule, Prelude.TellsConflicts, Prelude.access_of, Prelude.edges_of, Prelude.has_joined, Prelude.pairs, Prelude.path, Prelude.rules_among, Prelude.settle, Prelude.settled, inner.Paths.conflict_among}
 use Rattle.msg_order.proofs.{Chains.path_grows, Elements.Contains-cases, Elements.Contains-filter, Elements.filter-Contains, PathTest.no_Path, PathTest.no_path, PathTest.path_trans, PathTest.same_test, PathTest.to_Path, SetPaths.joined_in, SetPaths.tells_among, SettledPairs.Contains-pairs, SettledPairs.pairs-Contains, SettledPairs.settle_covers, SettledPairs.settle_keeps}
 
 module _ (rules : List Rule) (joined : List Bool) (conflict : ℕ → ℕ → Bool) where
@@ -62,21 +62,19 @@ some_test accesses joined = (
 )
 
 -- whatever test tells the conflicts, it makes one order
-pub settled_only : (accesses : List Access) (rules : List Rule) (joined : List Bool) (conflict : ℕ → ℕ → Bool) (g : Graph)
-    → TellsConflicts accesses joined conflict → IsSettledOrder accesses rules joined g
-    → g ≡ settled conflict rules joined
-settled_only accesses rules joined conflict g tells order =
-    let here = tells_among accesses joined conflict tells in
-    let there = tells_among accesses joined order.conflict order.tells in
-    let same = λ (i j : ℕ). same_test (conflict_among joined order.conflict i j) (conflict_among joined conflict i j)
-    (λ t. (here i j).1 ((there i j).0 t)) (λ t. (there i j).1 ((here i j).0 t)) in
-    order.is ∙ ap (λ (test : ℕ → ℕ → Bool). settle test (rules_among joined rules) (pairs (length joined)))
-    (λ k i j. same i j k)
+pub settled_only : (accesses : List Access) (rules : List Rule) (joined : List Bool) (a b : ℕ → ℕ → Bool)
+    → TellsConflicts accesses joined a → TellsConflicts accesses joined b → settled a rules joined ≡ settled b rules joined
+settled_only accesses rules joined a b tells_a tells_b =
+    let here = tells_among accesses joined a tells_a in
+    let there = tells_among accesses joined b tells_b in
+    let same = λ (i j : ℕ). same_test (conflict_among joined a i j) (conflict_among joined b i j)
+    (λ t. (there i j).1 ((here i j).0 t)) (λ t. (here i j).1 ((there i j).0 t)) in
+    ap (λ (test : ℕ → ℕ → Bool). settle test (rules_among joined rules) (pairs (length joined))) (λ k i j. same i j k)
 
 pub conflicts_ordered : ConflictingSystemsAreOrdered
-conflicts_ordered accesses rules joined order settled i j ne at_i at_j conflict =
-    let orders = settled_orders rules joined settled.conflict in
-    let back : Conflict (access_of accesses j) (access_of accesses i) = (conflict.0, grind (arith, conflict.1)) in
-    let up = λ (lt : i < j). orders i j lt at_i at_j ((settled.tells i j at_i at_j).1 conflict) in
-    let down = λ (lt : j < i). orders j i lt at_j at_i ((settled.tells j i at_j at_i).1 back) in
-    rw (settled.is) (grind (arith, cases_order i j, up, down))
+conflicts_ordered accesses rules joined conflict tells i j ne at_i at_j c =
+    let orders = settled_orders rules joined conflict in
+    let back : Conflict (access_of accesses j) (access_of accesses i) = (c.0, grind (arith, c.1)) in
+    let up = λ (lt : i < j). orders i j lt at_i at_j ((tells i j at_i at_j).1 c) in
+    let down = λ (lt : j < i). orders j i lt at_j at_i ((tells j i at_j at_i).1 back) in
+    grind (arith, cases_order i j, up, down)

@@ -3,7 +3,7 @@ use Rattle.std.proofs.Common.{All, AllPairs, Bool, Contains, List, [], arith, ge
 use Rattle.std.specs.List.{concat}
 use Rattle.std.proofs.lemmas.{Bool.cases_lt, Bool.cases_order, Grind.get_or_default_zero, List.get_or-append_right, List.get_or_append_left, List.Elements.All-from_get_or, List.Elements.All-head, List.Elements.All-tail, List.Elements.Contains-get_or, List.Kept.AllPairs-from_increasing, Option.get_or_from_slice_get, Option.slice_get-get_or, Option.slice_get_within}
 use Rattle.msg_world.specs.declared.access.Access.{Access}
-use Rattle.msg_order.specs.Prelude.{AreBatches, Graph, IsLawfulOrder, IsSettledOrder, IsTurnOrder, NoneConflict, Path, Rule, RunsBefore, StandsBefore, TurnOrderIsLawful, batch_at}
+use Rattle.msg_order.specs.Prelude.{AreBatches, Graph, IsLawfulOrder, IsTurnOrder, NoneConflict, Path, Rule, RunsBefore, StandsBefore, TellsConflicts, TurnOrderIsLawful, batch_at, settled}
 use Rattle.msg_order.proofs.{Chains.edge_is_path, Chains.number_once, Chains.number_rises, Elements.Contains-concat, Elements.concat-Contains, SettledOrders.conflicts_ordered}
 
 pub stands : (order : List ℕ) (i j a b : ℕ) → a < b → b < length order → get_or order a 0 ≡ i → get_or order b 0 ≡ j
@@ -108,9 +108,11 @@ in_lawful_order g joined order among t = record {
 }
 
 -- no two systems of a batch conflict
-pub none_conflict : (accesses : List Access) (rules : List Rule) (joined : List Bool) (g : Graph) (bs : List (List ℕ))
-    → IsSettledOrder accesses rules joined g → AreBatches g joined bs → All (NoneConflict accesses) bs
-none_conflict accesses rules joined g bs settled h =
+pub none_conflict : (accesses : List Access) (rules : List Rule) (joined : List Bool) (conflict : ℕ → ℕ → Bool)
+    (bs : List (List ℕ)) → TellsConflicts accesses joined conflict
+    → AreBatches (settled conflict rules joined) joined bs → All (NoneConflict accesses) bs
+none_conflict accesses rules joined conflict bs tells h =
+    let g : Graph = settled conflict rules joined in
     All-from_get_or (NoneConflict accesses) bs [] (λ b l a c d lt l2 x.
     let batch : List ℕ = batch_at bs b in
     let i : ℕ = get_or batch a d in
@@ -118,5 +120,5 @@ none_conflict accesses rules joined g bs settled h =
     let rising : i < j = AllPairs-from_increasing batch (h.by_addition b [] l) a c d lt l2 in
     let at_i = (h.of_number b i).0 (Contains-get_or batch a d (omega arith)) in
     let at_j = (h.of_number b j).0 (Contains-get_or batch c d l2) in
-    let paths = conflicts_ordered accesses rules joined g settled i j (omega arith) at_i.0 at_j.0 x in
+    let paths = conflicts_ordered accesses rules joined conflict tells i j (omega arith) at_i.0 at_j.0 x in
     grind (arith, paths, number_rises g i j b b, number_rises g j i b b, at_i.1, at_j.1))

@@ -1,7 +1,7 @@
 -- Laws of the settled order. Each is the contract of a function of the same name in src/laws.rt.
-use Rattle.std.specs.Prelude.{Bool, IsTrue, List, ℕ, ◌<◌, ◌↔◌, ◌≡◌, ◌≢◌, ◌⊎◌}
+use Rattle.std.specs.Prelude.{Bool, IsTrue, List, ℕ, ◌<◌, ◌≡◌, ◌≢◌, ◌⊎◌}
 use Rattle.msg_world.specs.{Prelude.Conflict, declared.access.Access.Access}
-use Rattle.msg_order.specs.{Graph.Graph, Graph.IsAcyclic, Graph.IsBatchNumber, Graph.Path, Order.AreBatches, Order.IsAmong, Order.IsLawfulOrder, Order.IsSettledOrder, Order.IsTurnOrder, Order.StandsBefore, Order.TellsConflicts, Order.access_of, Settled.batches, Settled.has_joined, Settled.rules_among, Settled.settled, Settled.turns, declared.rule.Rule.Rule}
+use Rattle.msg_order.specs.{Graph.Graph, Graph.IsAcyclic, Graph.IsBatchNumber, Graph.Path, Order.AreBatches, Order.IsAmong, Order.IsLawfulOrder, Order.IsTurnOrder, Order.StandsBefore, Order.TellsConflicts, Order.access_of, Settled.batches, Settled.has_joined, Settled.rules_among, Settled.settled, Settled.turns, declared.rule.Rule.Rule}
 
 -- Rules that make no cycle among some systems make none among fewer of them.
 abbrev pub FewerSystemsMakeNoCycle : Type 0
@@ -11,23 +11,24 @@ FewerSystemsMakeNoCycle = (rules : List Rule) (joined fewer : List Bool)
 
 -- The settled order leads among those that have joined. If the rules make no cycle, it has none.
 abbrev pub SettlingMakesNoCycle : Type 0
-SettlingMakesNoCycle = (accesses : List Access) (rules : List Rule) (joined : List Bool)
-    → (order : Graph) → IsSettledOrder accesses rules joined order
-    → IsAmong joined order × (IsAcyclic (rules_among joined rules) → IsAcyclic order)
+SettlingMakesNoCycle = (conflict : ℕ → ℕ → Bool) (rules : List Rule) (joined : List Bool)
+    → IsAmong joined (settled conflict rules joined)
+    × (IsAcyclic (rules_among joined rules) → IsAcyclic (settled conflict rules joined))
 
 -- The settled order leads from one of two joined systems in conflict to the other.
 abbrev pub ConflictingSystemsAreOrdered : Type 0
 ConflictingSystemsAreOrdered = (accesses : List Access) (rules : List Rule) (joined : List Bool)
-    → (order : Graph) → IsSettledOrder accesses rules joined order
+    (conflict : ℕ → ℕ → Bool) → TellsConflicts accesses joined conflict
     → (i j : ℕ) → i ≢ j → IsTrue (has_joined joined i) → IsTrue (has_joined joined j)
-    → Conflict (access_of accesses i) (access_of accesses j) → Path order i j ⊎ Path order j i
+    → Conflict (access_of accesses i) (access_of accesses j)
+    → Path (settled conflict rules joined) i j ⊎ Path (settled conflict rules joined) j i
 
--- There is a settled order. Whatever test tells the conflicts, it makes that order.
+-- There is a test that tells the conflicts. Whichever does, the settled order is the same.
 abbrev pub SettledIsTheOrder : Type 0
 SettledIsTheOrder = (accesses : List Access) (rules : List Rule) (joined : List Bool)
-    → ((g : Graph) × IsSettledOrder accesses rules joined g)
-    × ((conflict : ℕ → ℕ → Bool) → TellsConflicts accesses joined conflict
-    → (g : Graph) → IsSettledOrder accesses rules joined g ↔ (g ≡ settled conflict rules joined))
+    → ((conflict : ℕ → ℕ → Bool) × TellsConflicts accesses joined conflict)
+    × ((a b : ℕ → ℕ → Bool) → TellsConflicts accesses joined a → TellsConflicts accesses joined b
+    → settled a rules joined ≡ settled b rules joined)
 
 -- If no path leads back, the batches are by batch number, and the turns go in that order.
 abbrev pub BatchesAreByNumber : Type 0

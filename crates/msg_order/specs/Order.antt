@@ -2,7 +2,7 @@
 use Rattle.std.specs.Prelude.{All, AllPairs, Bool, Contains, IsTrue, List, Some, [], length, slice_get, slice_index_or, ℕ, ◌<◌, ◌↔◌, ◌≡◌, ◌≢◌, ◌⊎◌}
 use Rattle.std.specs.List.Sorted.{IsStrictlyIncreasing}
 use Rattle.msg_world.specs.{Prelude.Conflict, Prelude.no_access, declared.access.Access.Access}
-use Rattle.msg_order.specs.{Graph.Graph, Graph.IsBatchNumber, Graph.IsEdge, Settled.has_joined, Settled.settled, declared.rule.Rule.Rule}
+use Rattle.msg_order.specs.{Graph.Graph, Graph.IsBatchNumber, Graph.IsEdge, Settled.has_joined, declared.rule.Rule.Rule}
 
 -- the access of system i, which uses nothing if there is no such system
 abbrev pub access_of : List Access → ℕ → Access
@@ -22,13 +22,6 @@ abbrev pub TellsConflicts : List Access → List Bool → (ℕ → ℕ → Bool)
 TellsConflicts accesses joined conflict = (i j : ℕ) → IsTrue (has_joined joined i)
     → IsTrue (has_joined joined j)
     → IsTrue (conflict i j) ↔ Conflict (access_of accesses i) (access_of accesses j)
-
--- g is the settled order, by a test that tells the conflicts
-pub record IsSettledOrder (accesses : List Access) (rules : List Rule) (joined : List Bool)
-    (g : Graph) : Type 0 where
-  pub conflict : ℕ → ℕ → Bool
-  pub tells : TellsConflicts accesses joined conflict
-  pub is : g ≡ settled conflict rules joined
 
 -- batch b, which is empty past the last one
 abbrev pub batch_at : List (List ℕ) → ℕ → List ℕ

@@ -18,7 +18,7 @@ pub fn conflicting_systems_are_ordered()
     ensures law { ConflictingSystemsAreOrdered }
 {}
 
-/// There is a settled order, and whatever test tells the conflicts makes that one.
+/// There is one settled order: a test tells the conflicts, and whichever does makes the same.
 pub fn settled_is_the_order()
     ensures law { SettledIsTheOrder }
 {}

@@ -16,8 +16,8 @@ pub enum Kind {
 
 impl Kind {
     /// Whether a system of this kind may have these ops.
-    pub fn fits(self, ops: &[Op]) -> bool
-        ensures fits { result ≡ fits_kind self ops.now }
+    pub fn allows(self, ops: &[Op]) -> bool
+        ensures allows { result ≡ fits_kind self ops.now }
     {
         match self {
             Kind::Script => true,

@@ -33,7 +33,7 @@ fn is_runnable_system(scenario: &Scenario, system: &SystemSpec) -> bool
     let ops = system.program.ops.as_slice();
     let join = system.place.join;
     ops.len() <= MAX_OPS
-        && system.kind.fits(ops)
+        && system.kind.allows(ops)
         && fits(system, types, resources)
         && !system.program.access().is_clash()
         && 1 <= join

@@ -1,8 +1,9 @@
 -- What is read from a loan, and written through it.
-use Rattle.std.proofs.Common.{◌≡◌, ℕ, List, [], ◌∷◌, map, Some, refl, arith, IsSome}
+use Rattle.std.proofs.Common.{◌≡◌, ℕ, List, [], ◌∷◌, map, None, Some, refl, arith, IsSome}
 use Rattle.std.specs.List.{AllZip}
 use Rattle.std.proofs.lemmas.{Bool.cases_Bool, Bool.cases_lt, Bool.false≢true, Grind.common_steps, Bool.Decides.nat_tests}
-use Rattle.msg_buffer.specs.Prelude.{Kept, StandsFor}
+use Rattle.msg_buffer.specs.Prelude.{History, Kept, StandsFor, given, present}
+use Rattle.msg_buffer.proofs.Presence.{kept_stands}
 use Rattle.msg_world.specs.{Prelude.LoanStands, declared.part.Part.TheVariants.OfResource, declared.part.Part.TheVariants.OfType, declared.part.Part.Part, Prelude.WorldState, Prelude.shown, Prelude.writable, declared.lent.Lent.Lent, declared.record.Record.Record, Prelude.Values}
 
 -- what may be written is shown
@@ -18,6 +19,10 @@ pub written_messages_stand : {V : Type 0} {values : Values V} (l : Lent V) (s : 
     → StandsFor k (s.histories t)
 written_messages_stand l s t k there is stand =
     rw (writable_is_shown (OfType t) l there, ← is) at (stand (OfType t))
+
+-- a read from place 0 gives all that is present
+pub all_given : {M : Type 0} (k : Kept M) (h : History M) → StandsFor k h → given h 0 None ≡ present h
+all_given k h stand = grind (arith, stand.present, kept_stands k h stand)
 
 -- what a function makes of items, if it gives what `f` gives
 pub made_by : {X M : Type 0} (R : X → M → Type 0) (f : X → M) → ((x : X) (m : M) → R x m → m ≡ f x)

@@ -91,7 +91,7 @@ impl<V: Value> Guard<V> {
     {
         let mut all = true;
         for guard in guards.iter_mut() {
-            all = all & guard.check(lent);
+            all &= guard.check(lent);
         }
         all
     }

@@ -12,9 +12,9 @@ pub fn job_access<V: Value>(system: &Access, conditions: &[Condition<V>]) -> Acc
     ensures needs { (n : Needs) → IsAccessOf n system.now
         → IsAccessOf (with_conditions n conditions.now) result }
 {
-    let mut access = system.union(&Access::none());
+    let mut asked = Access::none();
     for condition in conditions {
-        access = access.union(&condition.access());
+        asked = asked.union(&condition.access());
     }
-    access
+    system.union(&asked)
 }

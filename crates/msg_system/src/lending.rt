@@ -5,9 +5,9 @@ ghost use Rattle.msg_buffer.specs.Prelude.{StandsFor, clear, message_of, oldest,
 ghost use Rattle.msg_world.specs.{declared.part.Part.TheVariants.OfResource, declared.part.Part.TheVariants.OfType, Prelude.LoanStands, Prelude.SameLoan, Prelude.WorldState, Prelude.shown, Prelude.with_history, Prelude.with_value_of, Prelude.writable};
 ghost use Rattle.msg_system.specs.Prelude.{numbers_for, sum_onto};
 
+use crate::reading::read_unread;
 use crate::{Items, NoMemory};
-use msg_buffer::{Instance, Messages, WriteRefusal, Written};
-use msg_world::laws::writes_stand;
+use msg_buffer::{MessageCursor, Messages, WriteRefusal, Written};
 use msg_world::{Lent, Record, ResNo, TypeNo, Value};
 use std::alloc::Global;
 
@@ -49,11 +49,11 @@ pub(crate) fn write_one<V: Value>(
         → LoanStands lent.new (with_history s t (write (message ∷ []) (s.histories t)))) }
     ensures same { OnOk result (SameLoan lent.old lent.new) }
 
-    // Memory is refused only if a number was left.
+    // Memory is refused only if a number was left, and then nothing changes.
     ensures refused { OnErr result ((s : WorldState V.values) → LoanStands lent.old s
         → IsSome (numbers_for (s.histories t) 1)) }
+    ensures err { OnErr result (lent.new ≡ lent.old) }
 {
-    writes_stand::<V>();
     match lent.writer(t) {
         None => unreachable!(),
         Some(messages) => match messages.write(message) {
@@ -84,12 +84,13 @@ pub(crate) fn write_each<V: Value, T, F: Fn(&T) -> Record<V>>(
         → LoanStands lent.new (with_history s t (write (map f items.now) (s.histories t)))) }
     ensures same { OnOk result (SameLoan lent.old lent.new) }
 
-    // Memory is refused only if there is something to write, and numbers enough were left.
+    // Memory is refused only if there is something to write, and numbers enough were left. Then
+    // nothing changes.
     ensures some { OnErr result (0 < length items.now) }
     ensures refused { OnErr result ((s : WorldState V.values) → LoanStands lent.old s
         → IsSome (numbers_for (s.histories t) (length items.now))) }
+    ensures err { OnErr result (lent.new ≡ lent.old) }
 {
-    writes_stand::<V>();
     match lent.writer(t) {
         None => unreachable!(),
         Some(messages) => match messages.write_each(items, message_of) {
@@ -116,34 +117,20 @@ pub(crate) fn drain_all<V: Value>(
         → LoanStands lent.new (with_history s t (clear (s.histories t)))) }
     ensures same { OnOk result (SameLoan lent.old lent.new) }
 
-    // If nothing is there it asks for no memory.
+    // If nothing is there it asks for no memory. A refusal changes nothing.
     ensures refused { OnErr result ((s : WorldState V.values) → LoanStands lent.old s
         → 0 < length (present (s.histories t))) }
+    ensures err { OnErr result (lent.new ≡ lent.old) }
 {
-    writes_stand::<V>();
     match lent.writer(t) {
         None => unreachable!(),
         Some(messages) => {
-            let first = messages.oldest();
-            let drained = messages.drain()?;
-            Ok((first, without_numbers(alloc, &drained)?))
+            let mut from_oldest = MessageCursor::new(0);
+            let all = read_unread(alloc, messages, &mut from_oldest, None)?;
+            messages.clear();
+            Ok((all.first, all.items))
         }
     }
-}
-
-/// The messages alone.
-fn without_numbers<V: Value>(
-    alloc: Global,
-    instances: &[Instance<Record<V>>],
-) -> Result<Items<Record<V>>, NoMemory>
-    ensures items { IfOk result (λ records. records ≡ map message_of instances.now) }
-    ensures refused { OnErr result (0 < length instances.now) }
-{
-    let mut records = Vec::with_capacity(alloc, instances.len())?;
-    for instance in instances {
-        records.push(instance.message)?;
-    }
-    Ok(Items::from_vec(records))
 }
 
 /// Gives a resource another value.
@@ -153,7 +140,6 @@ pub(crate) fn set_value<V: Value>(lent: &mut Lent<V>, r: ResNo, value: V)
         → LoanStands lent.new (with_value_of s r value) }
     ensures same { SameLoan lent.old lent.new }
 {
-    writes_stand::<V>();
     match lent.res_mut(r) {
         None => unreachable!(),
         Some(kept) => *kept = value,

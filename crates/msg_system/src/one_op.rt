@@ -4,7 +4,7 @@ ghost use Rattle.msg_world.specs.Prelude.{SameLoan, SameShape, taken_of};
 ghost use Rattle.msg_system.specs.Prelude.{Covers, Ran, Start, cursor_places, of_program, only, op_needs, program_needs};
 ghost use Rattle.msg_system.specs.inner.TurnRuns.{OpAnswered};
 
-use crate::{Cursors, NoMemory, Op, Reply, one_op_is_a_turn};
+use crate::{Cursors, NoMemory, Op, Reply};
 use msg_world::{Lent, Taken, Value};
 use std::alloc::Global;
 
@@ -60,7 +60,6 @@ pub(crate) fn take_turn<V: Value>(
         lent.entry taken out.old.items out.new.items) }
     ensures shape { IfOk result (λ taken. SameShape (taken_of lent.entry) taken) }
 {
-    one_op_is_a_turn::<V>();
     answer_only(alloc, &op, writer, cursors, &mut lent, out)?;
     Ok(lent.into_taken())
 }

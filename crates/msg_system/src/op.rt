@@ -106,7 +106,7 @@ impl<V: Value> Op<V> {
     }
 
     /// Does this op on a loan that covers it, for the system that has these cursors and writes as
-    /// the number `writer`. After `NoMemory` nothing is known of the cursors or of the loan.
+    /// the number `writer`. A refusal leaves the loan and the cursors as they were.
     pub fn run(
         &self,
         alloc: Global,
@@ -120,6 +120,8 @@ impl<V: Value> Op<V> {
         ensures same { OnOk result (SameLoan lent.old lent.new) }
         ensures refused { OnErr result
             (MayBeRefused V.values self.now (cursor_places cursors.old) lent.old) }
+        ensures err { OnErr result (lent.new ≡ lent.old) }
+        ensures err_cursors { OnErr result (cursors.new ≡ cursors.old) }
     {
         match self {
             Op::Write(t, value) => steps::write(lent, writer, *t, *value),

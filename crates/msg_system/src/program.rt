@@ -25,10 +25,9 @@ impl<V: Value> Program<V> {
             access = op.added_to(access);
         }
         // A resource that is written too isn't listed as read, but a type is: that is the clash.
-        let settled = access.union(&Access::none());
         Access {
-            read_types: access.read_types,
-            ..settled
+            read_res: access.read_res & !access.write_res,
+            ..access
         }
     }
 

@@ -21,9 +21,10 @@ fn copy_unread<V: Value>(
     ensures place { IfOk result (λ v. (h : History (Record V)) → StandsFor messages.now h
         → cursor.new ≡ first h cursor.old + length v.items) }
 
-    // If nothing is given it asks for no memory.
+    // If nothing is given it asks for no memory. A refusal leaves the cursor where it was.
     ensures refused { OnErr result ((h : History (Record V)) → StandsFor messages.now h
         → 0 < length (given h cursor.old limit)) }
+    ensures err { OnErr result (cursor.new ≡ cursor.old) }
 {
     let unread = cursor.len(messages);
     let most = limit.unwrap_or(unread).min(unread);
@@ -51,6 +52,7 @@ pub(crate) fn read_unread<V: Value>(
         → cursor.new ≡ place_after_read h cursor.old limit) }
     ensures refused { OnErr result ((h : History (Record V)) → StandsFor messages.now h
         → 0 < length (given h cursor.old limit)) }
+    ensures err { OnErr result (cursor.new ≡ cursor.old) }
 {
     let missed = cursor.missed(messages);
     let first = cursor.place().max(messages.oldest());

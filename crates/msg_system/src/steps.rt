@@ -1,4 +1,5 @@
-// What each op does to the loan of its system, and to its system's cursor.
+// What each op does to the loan of its system, and to its system's cursor. After want of memory
+// both are as they were.
 ghost use Rattle.std.specs.Prelude.{◌≡◌, ℕ, IfOk, IsSome, OnErr, OnOk};
 ghost use Rattle.msg_world.specs.{declared.part.Part.TheVariants.OfResource, declared.part.Part.TheVariants.OfType, declared.part.Part.TheVariants.Registry, Prelude.SameLoan, Prelude.shown, Prelude.writable};
 ghost use Rattle.msg_system.specs.Prelude.{Add, Batch, Clear, Drain, Forward, Get, Len, MayBeRefused, Missed, OpRan, Read, Set, Signal, Sum, Write, with_place, write_reply};
@@ -33,6 +34,7 @@ pub(crate) fn write<V: Value>(
     ensures same { OnOk result (SameLoan lent.old lent.new) }
     ensures refused { OnErr result ((places : ℕ → ℕ)
         → MayBeRefused V.values (Write t value) places lent.old) }
+    ensures err { OnErr result (lent.new ≡ lent.old) }
 {
     let numbers = write_one(lent, t, Record { writer, value })?;
     Ok(wrote_or_spent(numbers))
@@ -50,6 +52,7 @@ pub(crate) fn batch<V: Value>(
     ensures same { OnOk result (SameLoan lent.old lent.new) }
     ensures refused { OnErr result ((places : ℕ → ℕ)
         → MayBeRefused V.values (Batch t values.now) places lent.old) }
+    ensures err { OnErr result (lent.new ≡ lent.old) }
 {
     let message_of = |value: &V| Record {
         writer,
@@ -71,6 +74,7 @@ pub(crate) fn read<V: Value>(
         lent.now lent.now reply) }
     ensures refused { OnErr result ((places : ℕ → ℕ) → places t ≡ cursor.old
         → MayBeRefused V.values (Read t limit) places lent.now) }
+    ensures err { OnErr result (cursor.new ≡ cursor.old) }
 {
     Ok(Reply::Read(read_unread(alloc, messages_of(lent, t), cursor, limit)?))
 }
@@ -121,13 +125,17 @@ pub(crate) fn forward<V: Value>(
     ensures same { OnOk result (SameLoan lent.old lent.new) }
     ensures refused { OnErr result ((places : ℕ → ℕ) → places t ≡ cursor.old
         → MayBeRefused V.values (Forward t u) places lent.old) }
+    ensures err { OnErr result (lent.new ≡ lent.old) }
+    ensures err_cursor { OnErr result (cursor.new ≡ cursor.old) }
 {
-    let took = read_unread(alloc, messages_of(lent, t), cursor, None)?;
+    let mut moved = *cursor;
+    let took = read_unread(alloc, messages_of(lent, t), &mut moved, None)?;
     let message_of = |record: &Record<V>| Record {
         writer,
         value: record.value,
     };
     let wrote = write_each(lent, u, took.items.as_slice(), message_of)?;
+    *cursor = moved;
     Ok(Reply::Forwarded { took, wrote })
 }
 
@@ -146,6 +154,8 @@ pub(crate) fn sum<V: Value>(
     ensures same { OnOk result (SameLoan lent.old lent.new) }
     ensures refused { OnErr result ((places : ℕ → ℕ) → places t ≡ cursor.old
         → MayBeRefused V.values (Sum t r) places lent.old) }
+    ensures err { OnErr result (lent.new ≡ lent.old) }
+    ensures err_cursor { OnErr result (cursor.new ≡ cursor.old) }
 {
     let took = read_unread(alloc, messages_of(lent, t), cursor, None)?;
     let value = added_up(value_of(lent, r), took.items.as_slice());
@@ -193,6 +203,7 @@ pub(crate) fn drain<V: Value>(
     ensures same { OnOk result (SameLoan lent.old lent.new) }
     ensures refused { OnErr result
         ((places : ℕ → ℕ) → MayBeRefused V.values (Drain t) places lent.old) }
+    ensures err { OnErr result (lent.new ≡ lent.old) }
 {
     let (first, items) = drain_all(alloc, lent, t)?;
     Ok(Reply::Drained { first, items })

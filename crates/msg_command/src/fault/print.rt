@@ -25,13 +25,10 @@ fn line_of(fault: &MainFault) -> &[u8]
     match fault {
         MainFault::Words(WordFault::Bad) => b"msgrun: bad command line\n",
         MainFault::Words(WordFault::Help(_)) => b"",
-        MainFault::Words(WordFault::NoMemory) => b"msgrun: want of memory\n",
         MainFault::Input(InputFault::Failed) => b"msgrun: cannot read input\n",
         MainFault::Input(InputFault::TooLarge) => b"msgrun: input too large\n",
-        MainFault::Input(InputFault::NoMemory) => b"msgrun: want of memory\n",
         MainFault::Refused(refusal) => refusal_line(*refusal),
         MainFault::Told(text) => text.as_slice(),
-        MainFault::Built => b"msgrun: want of memory\n",
         MainFault::Report(ReportFault::Run(RunFault::Spoiled)) => b"msgrun: run fault 1 Spoiled\n",
         MainFault::Report(ReportFault::Run(RunFault::BadOrder)) => {
             b"msgrun: run fault 2 BadOrder\n"
@@ -40,7 +37,10 @@ fn line_of(fault: &MainFault) -> &[u8]
             b"msgrun: run fault 3 NoMemory\n"
         }
         MainFault::Report(ReportFault::Write) => b"msgrun: write fault\n",
-        MainFault::Report(ReportFault::NoMemory) => b"msgrun: want of memory\n",
+        MainFault::Words(WordFault::NoMemory)
+        | MainFault::Input(InputFault::NoMemory)
+        | MainFault::Built
+        | MainFault::Report(ReportFault::NoMemory) => b"msgrun: want of memory\n",
     }
 }
 
@@ -68,11 +68,11 @@ fn status_of(fault: &MainFault) -> u8
 {
     match fault {
         MainFault::Words(WordFault::Help(_)) => 0,
-        MainFault::Words(WordFault::Bad) => 2,
-        MainFault::Input(InputFault::TooLarge) => 2,
         MainFault::Refused(Refusal::NoMemory) => 1,
-        MainFault::Refused(_) => 2,
-        MainFault::Told(_) => 2,
+        MainFault::Words(WordFault::Bad)
+        | MainFault::Input(InputFault::TooLarge)
+        | MainFault::Refused(_)
+        | MainFault::Told(_) => 2,
         _ => 1,
     }
 }

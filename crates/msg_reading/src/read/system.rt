@@ -128,7 +128,7 @@ fn ops_in(
     ensures reads { ReadsWith (Spec.ops_of names.old kind (view ops.now)) names.new result }
 {
     let ops: Items<Op> = read_list(alloc, names, ops, MAX_OPS)?;
-    if !kind.fits(ops.as_slice()) {
+    if !kind.allows(ops.as_slice()) {
         return Err(Fault::here(Reason::NotOfKind));
     }
     Ok(ops)

@@ -3,6 +3,5 @@ use Rattle.msg_order.proofs.laws.settling_makes_no_cycle.Goals as goal
 
 pub returns : goal.returns
 returns c = record {
-  law = λ accesses rules joined order is.
-      rw (is.is) (settled_among rules joined is.conflict, settled_no_cycle rules joined is.conflict);
+  law = λ conflict rules joined. (settled_among rules joined conflict, settled_no_cycle rules joined conflict);
 }

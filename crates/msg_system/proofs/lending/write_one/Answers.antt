@@ -2,6 +2,7 @@ use Rattle.std.proofs.{Common.arith, lemmas.Bool.cases_lt, lemmas.Bool.Decides.n
 use Rattle.std.proofs.Common.{[], ◌∷◌}
 use Rattle.msg_buffer.specs.Prelude.{StandsFor, write}
 use Rattle.msg_system.proofs.Lendings.{written_messages_stand}
+use Rattle.msg_world.proofs.Loans.{writes_are}
 use Rattle.msg_system.proofs.lending.write_one.Goals as goal
 
 pub returns-in-Ok-clause-numbers : goal.returns-in-Ok-clause-numbers
@@ -14,7 +15,7 @@ returns-in-Ok-clause-numbers g c s stand =
 pub returns-in-Ok-clause-written : goal.returns-in-Ok-clause-written
 returns-in-Ok-clause-written g c s stand =
     let here = written_messages_stand c.args.lent.now s c.args.t _ c.requires.lent c.in-Some.ensures.writable stand in
-    (c.writes_stand.ensures.messages c.args.lent.now c.args.t c.write.new.self c.requires.lent).1 s _
+    (writes_are c.args.lent.now c.args.t c.write.new.self c.requires.lent).1 s _
     (c.in-Ok.ensures.meaning (s.histories c.args.t) here) stand
 
 pub returns-in-Err-NumbersSpent-clause-numbers : goal.returns-in-Err-NumbersSpent-clause-numbers
@@ -29,10 +30,14 @@ returns-in-Err-NumbersSpent-clause-written g c s stand =
     let spent = c.in-Err-NumbersSpent.ensures.spent (s.histories c.args.t) here in
     let same : StandsFor c.write.new.self (write (c.args.message ∷ []) (s.histories c.args.t)) =
     grind (arith, nat_tests, here, spent, c.in-Err-NumbersSpent.ensures.err) in
-    (c.writes_stand.ensures.messages c.args.lent.now c.args.t c.write.new.self c.requires.lent).1 s _ same stand
+    (writes_are c.args.lent.now c.args.t c.write.new.self c.requires.lent).1 s _ same stand
 
 pub returns-in-Err-NoMemory-clause-refused : goal.returns-in-Err-NoMemory-clause-refused
 returns-in-Err-NoMemory-clause-refused g c s stand =
     let here = written_messages_stand c.args.lent.now s c.args.t _ c.requires.lent c.in-Some.ensures.writable stand in
     let spent = c.in-Err-NoMemory.ensures.spent (s.histories c.args.t) here in
     grind (arith, nat_tests, cases_lt, spent)
+
+pub returns-in-Ok-clause-same : goal.returns-in-Ok-clause-same
+returns-in-Ok-clause-same g c =
+    (writes_are {values = g.V.Value.values} c.args.lent.now c.args.t c.write.new.self c.requires.lent).0

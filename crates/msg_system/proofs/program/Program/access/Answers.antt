@@ -1,5 +1,7 @@
 use Rattle.std.proofs.Common.{◌≡◌, take, arith, ◌∙◌}
 use Rattle.std.proofs.lemmas.List.{take_all}
+use Rattle.msg_world.specs.{declared.part.Part.TheVariants.OfResource, declared.part.Part.TheVariants.OfType, declared.part.Part.TheVariants.Registry}
+use Rattle.msg_world.proofs.Bits.{has_bit-clear}
 use Rattle.msg_system.specs.Prelude.{program_needs}
 use Rattle.msg_system.proofs.AccessesUseNeeds.{same_clash}
 use Rattle.msg_system.proofs.program.Program.access.Goals as goal
@@ -11,11 +13,13 @@ returns-clause-needs g c =
     take_all _ c.as_slice-op-items.result.now (omega arith) ∙ c.as_slice-op-items.ensures.items in
     let read = rw whole at inv.reads in
     let written = rw whole at inv.writes in
-    let union = c.union-settled.ensures in
-    let nothing = c.none.ensures.nothing in
     record {
-      reads = λ p. grind (arith, read p, written p, union.reads p, union.writes p, nothing p);
-      writes = λ p. grind (arith, written p, union.writes p, nothing p);
+      reads = elim [
+        | OfType t ↦ grind (arith, read (OfType t))
+        | OfResource r ↦ grind (arith, has_bit-clear c.loop-op.access.read_res c.loop-op.access.write_res r, read (OfResource r), written (OfResource r))
+        | Registry ↦ grind (arith, read Registry)
+      ];
+      writes = written;
     }
 
 pub returns-clause-clash : goal.returns-clause-clash
