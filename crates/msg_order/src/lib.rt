@@ -13,4 +13,4 @@ mod system_set;
 pub use cycles::lowest_on_cycle;
 pub use plan::Plan;
 pub use plan_refusal::PlanRefusal;
-pub use rule::Rule;
+pub use rule::{Rule, first_unknown};

@@ -1,7 +1,7 @@
 -- What ops, programs, conditions and jobs read and write, part by part.
-use Rattle.std.specs.Prelude.{◌≡◌, ℕ, Bool, true, false, not, ◌&&◌, ◌||◌, Option, Some, None, List, option_and_then, slice_get}
+use Rattle.std.specs.Prelude.{◌≡◌, ℕ, Bool, true, false, not, ◌&&◌, ◌||◌, IsTrue, Option, Some, None, List, option_and_then, slice_get}
 use Rattle.std.specs.List.{list_any}
-use Rattle.msg_world.specs.{Prelude.Overlap, declared.part.Part.Part, declared.part.Part.TheVariants.OfType, declared.part.Part.TheVariants.OfResource, declared.part.Part.TheVariants.Registry, Prelude.reads, Prelude.same_part, Prelude.writes, declared.access.Access.Access}
+use Rattle.msg_world.specs.{Prelude.HasPart, Prelude.Overlap, declared.part.Part.Part, declared.part.Part.TheVariants.OfType, declared.part.Part.TheVariants.OfResource, declared.part.Part.TheVariants.Registry, Prelude.reads, Prelude.same_part, Prelude.writes, declared.access.Access.Access}
 use Rattle.msg_system.specs.{declared.op_parts.OpParts.OpParts, declared.op.Op.Op, declared.op.Op.TheVariants.Write, declared.op.Op.TheVariants.Batch, declared.op.Op.TheVariants.Read, declared.op.Op.TheVariants.Len, declared.op.Op.TheVariants.Missed, declared.op.Op.TheVariants.Clear, declared.op.Op.TheVariants.Forward, declared.op.Op.TheVariants.Sum, declared.op.Op.TheVariants.Get, declared.op.Op.TheVariants.Set, declared.op.Op.TheVariants.Add, declared.op.Op.TheVariants.Drain, declared.op.Op.TheVariants.Signal, declared.condition.Condition.Condition, declared.condition.Probe.Probe, declared.condition.Probe.TheVariants.OnMessage, declared.condition.Probe.TheVariants.ResourceEquals}
 
 -- true if there is no part, and else what `holds` says of the part
@@ -55,6 +55,10 @@ HasClash n = Overlap n.reads n.writes
 -- the part is read or written
 abbrev pub needs_any : Needs → Part → Bool
 needs_any n p = n.reads p || n.writes p
+
+-- a world of so many types and resources has all that is needed
+abbrev pub FitsWorld : ℕ → ℕ → Needs → Type 0
+FitsWorld types resources n = (p : Part) → IsTrue (needs_any n p) → HasPart types resources p
 
 -- whether there is such a part, and p is that part
 abbrev pub is_part : Option Part → Part → Bool
