@@ -6,7 +6,9 @@ use Rattle.msg_order.specs.Prelude.{IsAcyclic, IsFirstUnknown, IsLowestOnCycle, 
 use Rattle.msg_system.specs.Prelude.{FitsWorld, HasClash, Meaning, with_conditions}
 use Rattle.msg_frames.specs.declared.{limits.TheConstants.LAST_JOIN, place.Place.Place}
 use Rattle.msg_frames.specs.Prelude.{IsNew}
-use Rattle.msg_exec.specs.{declared.build_error.BuildError.BuildError, declared.build_error.BuildError.TheVariants.Full, declared.build_error.BuildError.TheVariants.BadJoin, declared.build_error.BuildError.TheVariants.Misfit, declared.build_error.BuildError.TheVariants.UnknownSystem, declared.build_error.BuildError.TheVariants.Refused, declared.build_refusal.BuildRefusal.BuildRefusal, declared.build_refusal.BuildRefusal.TheVariants.Clash, declared.build_refusal.BuildRefusal.TheVariants.Cycle, declared.build_refusal.BuildRefusal.TheVariants.NoMemory}
+use Rattle.msg_exec.specs.{declared.build_error.BuildError.BuildError, declared.build_refusal.BuildRefusal.BuildRefusal}
+use Rattle.msg_exec.specs.declared.build_error.BuildError.TheVariants.{Full, BadJoin, Misfit, UnknownSystem, Refused}
+use Rattle.msg_exec.specs.declared.build_refusal.BuildRefusal.TheVariants.{Clash, Cycle, NoMemory}
 
 module _ {X : Type 0} where
   -- P holds of each item of the list with its number

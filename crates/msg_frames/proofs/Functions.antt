@@ -2,11 +2,15 @@
 use Rattle.std.proofs.Common.{All, Bool, Contains, IsTrue, List, [], ap, append_assoc, arith, map, refl, sym, ◌&&◌, ◌++◌, ◌<◌, ◌||◌, ◌↔◌, ◌∙◌, ◌∷◌, ◌≡◌, ◌⊎◌}
 use Rattle.std.specs.List.{range_with_len}
 use Rattle.std.proofs.lemmas.{Bool.cases_Bool, List.Elements.Contains-append_left, List.Elements.Contains-append_right, List.FromFn.length-map-range_with_len}
-use Rattle.msg_world.specs.{Prelude.Conflict, Prelude.HasPart, Prelude.Values, Prelude.uses, Prelude.writes, declared.access.Access.Access, declared.limits.TheConstants.MAX_RESOURCES, declared.limits.TheConstants.MAX_TYPES, declared.part.Part.Part, declared.part.Part.TheVariants.OfResource, declared.part.Part.TheVariants.OfType, declared.part.Part.TheVariants.Registry}
+use Rattle.msg_world.specs.{declared.access.Access.Access, declared.part.Part.Part}
+use Rattle.msg_world.specs.Prelude.{Conflict, HasPart, Values, uses, writes}
+use Rattle.msg_world.specs.declared.limits.TheConstants.{MAX_RESOURCES, MAX_TYPES}
+use Rattle.msg_world.specs.declared.part.Part.TheVariants.{OfResource, OfType, Registry}
 use Rattle.msg_order.specs.Prelude.{IsAcyclic, IsAmong, IsPlanOf, IsSettledOrder, IsTurnOrder, NoneConflict, PlanView, TellsConflicts, batches, plan_of}
 use Rattle.msg_order.proofs.{Elements.Contains-head, Elements.Contains-list_any, Elements.Contains-map, Elements.Contains-range, Elements.list_any-Contains, Functions.batches_are, Functions.settled_among, Functions.settled_no_cycle, Functions.turns_are, TurnOrders.none_conflict}
 use Rattle.msg_system.specs.Prelude.{FitsWorld, IsAccessOf, Needs, needs_any}
-use Rattle.msg_frames.specs.{Frames.parts, Frames.settled_order, Frames.turn_order, Prelude.AfterRun, Prelude.AreAccessesOf, Prelude.Frame, Prelude.Log, Prelude.NoCycle, Prelude.SameSystems, Prelude.State, Prelude.UsesParts, Prelude.are_in_conflict, Prelude.before_turns, Prelude.frame, Prelude.join_flags, Prelude.needs_conflict, Prelude.run}
+use Rattle.msg_frames.specs.Frames.{parts, settled_order, turn_order}
+use Rattle.msg_frames.specs.Prelude.{AfterRun, AreAccessesOf, Frame, Log, NoCycle, SameSystems, State, UsesParts, are_in_conflict, before_turns, frame, join_flags, needs_conflict, run}
 use Rattle.msg_frames.proofs.SystemsStay.{frame_keeps, joined_below}
 
 -- ---- conflicts

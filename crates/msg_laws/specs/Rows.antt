@@ -2,7 +2,11 @@
 use Rattle.std.specs.Prelude.{◌≡◌, ℕ, suc, ℤ, pos, negsuc, List, [], ◌∷◌, ◌++◌, length, map, Some, None, refl}
 use Rattle.msg_world.specs.{Prelude.by, Prelude.held_world, Prelude.new_world, declared.record.Record.Record, declared.record.TheConstants.HOST, Prelude.i64_values}
 use Rattle.msg_order.specs.declared.rule.Rule.{Rule}
-use Rattle.msg_system.specs.{Prelude.Meaning, Prelude.new_system, Prelude.turn, declared.condition.Condition.Condition, declared.condition.Probe.TheVariants.OnMessage, declared.condition.Probe.TheVariants.ResourceEquals, declared.op.Op.Op, declared.op.Op.TheVariants.Write, declared.op.Op.TheVariants.Batch, declared.op.Op.TheVariants.Read, declared.op.Op.TheVariants.Len, declared.op.Op.TheVariants.Missed, declared.op.Op.TheVariants.Forward, declared.op.Op.TheVariants.Sum, declared.op.Op.TheVariants.Set, declared.op.Op.TheVariants.Add, declared.op.Op.TheVariants.Drain, declared.op.Op.TheVariants.Signal, declared.program.Program.Program, declared.reply.Reply.Reply, declared.reply.Took.Took, declared.start.Start.TheVariants.Zero, declared.start.Start.TheVariants.Current}
+use Rattle.msg_system.specs.{declared.condition.Condition.Condition, declared.op.Op.Op, declared.program.Program.Program, declared.reply.Reply.Reply, declared.reply.Took.Took}
+use Rattle.msg_system.specs.Prelude.{Meaning, new_system, turn}
+use Rattle.msg_system.specs.declared.condition.Probe.TheVariants.{OnMessage, ResourceEquals}
+use Rattle.msg_system.specs.declared.op.Op.TheVariants.{Write, Batch, Read, Len, Missed, Forward, Sum, Set, Add, Drain, Signal}
+use Rattle.msg_system.specs.declared.start.Start.TheVariants.{Zero, Current}
 use Rattle.msg_system.specs.declared.reply.Reply.TheVariants as reply
 use Rattle.msg_frames.specs.{declared.log.Log.Log, declared.log.Outcome.TheVariants.Ran, declared.log.Outcome.TheVariants.Skipped, declared.log.Turn.Turn, declared.place.Place.Place, declared.totals.Totals.Totals}
 use Rattle.msg_frames.specs.Frames.{parts, settled_order, turn_order}

@@ -2,7 +2,9 @@
 use Rattle.std.specs.Prelude.{◌≡◌, ℕ, ◌<◌, IsSome, None, length, slice_index}
 use Rattle.msg_buffer.specs.Prelude.{given, present}
 use Rattle.msg_world.specs.{Prelude.LoanStands, Prelude.WorldState, declared.lent.Lent.Lent, Prelude.Values}
-use Rattle.msg_system.specs.{declared.cursors.Cursors.Cursors, declared.op.Op.Op, declared.op.Op.TheVariants.Write, declared.op.Op.TheVariants.Batch, declared.op.Op.TheVariants.Read, declared.op.Op.TheVariants.Forward, declared.op.Op.TheVariants.Sum, declared.op.Op.TheVariants.Drain, declared.reply.Reply.Reply, Programs.AfterOp, Programs.after_op, Programs.numbers_for}
+use Rattle.msg_system.specs.{declared.cursors.Cursors.Cursors, declared.op.Op.Op, declared.reply.Reply.Reply}
+use Rattle.msg_system.specs.declared.op.Op.TheVariants.{Write, Batch, Read, Forward, Sum, Drain}
+use Rattle.msg_system.specs.Programs.{AfterOp, after_op, numbers_for}
 
 -- the place in each type, by the type's number
 abbrev pub cursor_places : Cursors → ℕ → ℕ

@@ -4,7 +4,8 @@ use Rattle.std.specs.Prelude.{ℕ, ◌+◌, ◌==◌, Option, None, Some, List, 
 use Rattle.msg_buffer.specs.declared.instance.Written.{Written}
 use Rattle.msg_buffer.specs.Prelude.{History, clear, count, first, given, has_room, message_of, missed, oldest, present, unread, write}
 use Rattle.msg_world.specs.{Prelude.WorldState, Prelude.after_signal, Prelude.by, Prelude.with_history, Prelude.with_value_of, declared.record.Record.Record, Prelude.Values}
-use Rattle.msg_system.specs.{declared.op.Op.Op, declared.op.Op.TheVariants.Write, declared.op.Op.TheVariants.Batch, declared.op.Op.TheVariants.Read, declared.op.Op.TheVariants.Len, declared.op.Op.TheVariants.Missed, declared.op.Op.TheVariants.Clear, declared.op.Op.TheVariants.Forward, declared.op.Op.TheVariants.Sum, declared.op.Op.TheVariants.Get, declared.op.Op.TheVariants.Set, declared.op.Op.TheVariants.Add, declared.op.Op.TheVariants.Drain, declared.op.Op.TheVariants.Signal, declared.reply.Reply.Reply, declared.reply.Took.Took}
+use Rattle.msg_system.specs.{declared.op.Op.Op, declared.reply.Reply.Reply, declared.reply.Took.Took}
+use Rattle.msg_system.specs.declared.op.Op.TheVariants.{Write, Batch, Read, Len, Missed, Clear, Forward, Sum, Get, Set, Add, Drain, Signal}
 use Rattle.msg_system.specs.declared.reply.Reply.TheVariants as reply
 
 -- What an op leaves, and what it answers. A system has a place in each type, by the type's number.
