@@ -4,7 +4,7 @@ use Rattle.std.proofs.lemmas.{Bool.cases_Bool, Bool.false≢true, Bool.Decides.e
 use Rattle.std.specs.List.{enumerate_from}
 use Rattle.msg_buffer.specs.Prelude.{GoesOn, count}
 use Rattle.msg_world.specs.{Prelude.Values, Prelude.WorldState, Prelude.after_update, declared.record.Record.Record}
-use Rattle.msg_system.specs.Prelude.{Step}
+use Rattle.msg_system.specs.Prelude.{Step, wrote}
 use Rattle.msg_order.specs.Prelude.{Path, has_joined}
 use Rattle.msg_order.proofs.Elements.{Contains-cases, Contains-flat_map, Contains-head, Contains-range, Contains-tail, filter-Contains, flat_map-Contains, map-Contains, not_in_none}
 use Rattle.msg_frames.proofs.{LawfulOrdersAgree.lawful_forward, ReaderOverTurns.turns_read}
@@ -16,7 +16,7 @@ use Rattle.msg_frames.proofs.SystemsStay.{frame_keeps, turns_keep}
 use Rattle.msg_frames.proofs.WrittenOnce.{before_writes, run_writes, turns_write, written_further}
 use Rattle.msg_frames.specs.declared.frame.Frame.{Frame}
 use Rattle.msg_frames.specs.Frames.{settled_order, turn_order}
-use Rattle.msg_frames.specs.Prelude.{IsSoundState, IsTrueEntry, IsWrittenOnce, Moment, State, after_turn_of, after_turns_of, before_turns, entries_in_run, found_at, frame, join_flags, moments, numbers_missed, post_steps, reader_place, run, told, turn_of, turns_steps, wrote}
+use Rattle.msg_frames.specs.Prelude.{IsSoundState, IsTrueEntry, IsWrittenOnce, Moment, State, after_turn_of, after_turns_of, before_turns, entries_in_run, found_at, frame, join_flags, moments, numbers_missed, post_steps, reader_place, run, told, turn_of, turns_steps}
 use Rattle.msg_laws.proofs.{OrderOfTurns.are_ordered, WritersInOrder.below_count}
 use Rattle.msg_laws.proofs.ReadersStayUpToDate.{caught_up, frame_recent, has_frame_before, is_there, joined_by_turn, new_recent}
 use Rattle.msg_laws.proofs.StampsStayRecent.{AreRecent, earlier_recent}
