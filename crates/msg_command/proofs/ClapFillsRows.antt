@@ -1,7 +1,15 @@
 -- What words that clap takes leave of a subcommand: each row has a value.
 use Rattle.std.proofs.Common.{arith, ◌≡◌, ℕ, zero, suc, length, List, [], ◌∷◌, refl, ap, ◌∙◌, Option, Some, None, Bool, true, false, codes, fold, find, encode_utf8, drop, is_some, ◌&&◌, cond, slice_get, not, nat_le}
 use Rattle.std.specs.{Str.bytes_eq, Str.chars, List.list_all, Option.option_map_or}
-use Rattle.clap.specs.{Words.Row, Words.Rule, Words.Text, Words.Shape, Words.first_of, Facts.unwrap_or_range, Lexer.long_of, Lexer.short_of, Simple.built_leaf, Simple.filled, Simple.help_rule, Simple.with_index, Walk.Step, Walk.has_long, Walk.has_short, Walk.bundle, Walk.reading_by, Walk.after_step, Walk.nothing_held, Walk.rows_after, Walk.walk, Walk.walk_from, Walk.Held, Walk.Names, Walk.Outcome, Walk.Waiting, Walk.Walk, Walk.done, Walk.plain, Walk.action_of, Walk.after_flag, Walk.arg_by_id, Walk.arg_by_long, Walk.arg_by_short, Walk.attached_value, Walk.bundle_met, Walk.bundle_step, Walk.has_row, Walk.long_met, Walk.long_or_other, Walk.option_met, Walk.reacted, Walk.settled, Walk.settled_rows, Walk.short_met, Walk.short_or_plain, Walk.used, Walk.used_by_id, Walk.walked, Walk.with_default, Walk.with_values, Walk.without, Walk.word_met, Takes.is_valid, Takes.default_passes, Takes.bundle_passes, Takes.bundle_step_passes, Takes.flag_word_passes, Takes.flags_pass, Takes.is_given, Takes.level_passes, Takes.long_passes, Takes.option_passes, Takes.react_passes, Takes.settle_passes, Takes.short_passes, Takes.step_passes, Takes.turn_passes, Takes.use_passes, Takes.walk_passes, Takes.word_passes, declared.parser.matches.ValueSource.ValueSource, declared.parser.matches.ValueSource.TheVariants.DefaultValue, declared.parser.matches.ValueSource.TheVariants.CommandLine, declared.builder.value_parser.Reading.Reading, declared.builder.ArgAction.TheVariants.Set, declared.builder.ArgAction.TheVariants.SetTrue, declared.builder.ArgAction.TheVariants.Help}
+use Rattle.clap.specs.{Facts.unwrap_or_range, declared.parser.matches.ValueSource.ValueSource, declared.builder.value_parser.Reading.Reading}
+use Rattle.clap.specs.Words.{Row, Rule, Text, Shape, first_of}
+use Rattle.clap.specs.Lexer.{long_of, short_of}
+use Rattle.clap.specs.Simple.{built_leaf, filled, help_rule, with_index}
+use Rattle.clap.specs.Walk as Spec
+use Rattle.clap.specs.Walk.{Step, Held, Names, Outcome, Waiting, Walk, bundle_met, walked, with_values}
+use Rattle.clap.specs.Takes.{is_valid, default_passes, bundle_passes, bundle_step_passes, flag_word_passes, flags_pass, is_given, level_passes, long_passes, option_passes, react_passes, settle_passes, short_passes, step_passes, turn_passes, use_passes, walk_passes, word_passes}
+use Rattle.clap.specs.declared.parser.matches.ValueSource.TheVariants.{DefaultValue, CommandLine}
+use Rattle.clap.specs.declared.builder.ArgAction.TheVariants.{Set, SetTrue, Help}
 use Rattle.clap.proofs.OnLiterals.{clap_on_literals}
 use Rattle.msg_command.specs.Prelude.{dot_rule, file_app, file_rule, frame_rule, plan_app, run_app, workers_rule}
 use Rattle.std.proofs.lemmas.Bool.{and_from, and_parts}
@@ -25,7 +33,7 @@ with_values_keeps : (id : Text) (how : Reading) (s : ValueSource) (vs : List Tex
 with_values_keeps id how s vs [] some all = and_from _ _ some refl
 with_values_keeps id how s vs (r ∷ rs) some all = grind (arith, with_values_keeps id how s vs rs some)
 
-without_keeps : (id : Text) (rows : List Row) → have_values rows ≡ true → have_values (without id rows) ≡ true
+without_keeps : (id : Text) (rows : List Row) → have_values rows ≡ true → have_values (Spec.without id rows) ≡ true
 without_keeps id [] all = refl
 without_keeps id (r ∷ rs) all = grind (arith, without_keeps id rs)
 
@@ -37,7 +45,7 @@ Keeps passes before after = passes ≡ true → have_values before ≡ true → 
 
 -- a use that passes does
 abbrev Valued : Rule → Type 0
-Valued a = (again : Bool) (vs : List Text) (rows : List Row) → Keeps (use_passes again a vs rows) rows (used a vs rows)
+Valued a = (again : Bool) (vs : List Text) (rows : List Row) → Keeps (use_passes again a vs rows) rows (Spec.used a vs rows)
 
 abbrev EachValued : List Rule → Type 0
 EachValued [] = Unit {0}
@@ -56,69 +64,69 @@ found_valued test (a ∷ rest) each =
     ]
 
 -- an argument of one value or more
-set_valued : (a : Rule) → action_of a ≡ Set → nat_le (unwrap_or_range a.range).start_inclusive 0 ≡ false → Valued a
+set_valued : (a : Rule) → Spec.action_of a ≡ Set → nat_le (unwrap_or_range a.range).start_inclusive 0 ≡ false → Valued a
 set_valued a set least again [] rows passes all =
     let parts = and_parts (nat_le (unwrap_or_range a.range).start_inclusive 0) _ passes in cc
 set_valued a set least again (v ∷ vs) rows passes all =
-    rw set (with_values_keeps a.id _ CommandLine (v ∷ vs) (without a.id rows) refl (without_keeps a.id rows all))
+    rw set (with_values_keeps a.id _ CommandLine (v ∷ vs) (Spec.without a.id rows) refl (without_keeps a.id rows all))
 
 -- a flag, for which something stands if it has no value
-flag_valued : (a : Rule) → action_of a ≡ SetTrue → some_of a.missing ≡ true → Valued a
+flag_valued : (a : Rule) → Spec.action_of a ≡ SetTrue → some_of a.missing ≡ true → Valued a
 flag_valued a set some again [] rows passes all =
-    rw set (with_values_keeps a.id _ CommandLine a.missing (without a.id rows) some (without_keeps a.id rows all))
+    rw set (with_values_keeps a.id _ CommandLine a.missing (Spec.without a.id rows) some (without_keeps a.id rows all))
 flag_valued a set some again (v ∷ vs) rows passes all =
-    rw set (with_values_keeps a.id _ CommandLine (v ∷ vs) (without a.id rows) refl (without_keeps a.id rows all))
+    rw set (with_values_keeps a.id _ CommandLine (v ∷ vs) (Spec.without a.id rows) refl (without_keeps a.id rows all))
 
 -- help never passes
-help_valued : (a : Rule) → action_of a ≡ Help → Valued a
+help_valued : (a : Rule) → Spec.action_of a ≡ Help → Valued a
 help_valued a help again vs rows passes all = grind (arith, help)
 
 -- a word that is no flag uses nothing
 after_flag_rows : (c : List Rule) (w : Waiting) (word : Text) (h : Held) (o : Outcome)
-    → (after_flag c w word h o).0.rows ≡ h.rows
+    → (Spec.after_flag c w word h o).0.rows ≡ h.rows
 after_flag_rows c w word h o = grind arith
 
 module _ (c : List Rule) (again : Bool) (fine : EachValued c) where
   -- ---- what is held
 
   by_id_keeps : (o : Option Rule) (vs : List Text) (rows : List Row) → IfValued o
-      → Keeps (option_map_or (λ a. use_passes again a vs rows) o true) rows (used_by_id o vs rows)
+      → Keeps (option_map_or (λ a. use_passes again a vs rows) o true) rows (Spec.used_by_id o vs rows)
   by_id_keeps None vs rows its = λ passes all. all
   by_id_keeps (Some a) vs rows its = its again vs rows
 
   pending_keeps : (p : Option (Text × List Text)) (rows : List Row)
-      → Keeps (option_map_or (λ q. option_map_or (λ a. use_passes again a q.1 rows) (arg_by_id c q.0) true) p true)
-      rows (settled_rows c p rows)
+      → Keeps (option_map_or (λ q. option_map_or (λ a. use_passes again a q.1 rows) (Spec.arg_by_id c q.0) true) p true)
+      rows (Spec.settled_rows c p rows)
   pending_keeps None rows = λ passes all. all
   pending_keeps (Some p) rows =
-      by_id_keeps (arg_by_id c p.0) p.1 rows (found_valued (λ a. bytes_eq a.id p.0) c fine)
+      by_id_keeps (Spec.arg_by_id c p.0) p.1 rows (found_valued (λ a. bytes_eq a.id p.0) c fine)
 
-  settled_keeps : (h : Held) → Keeps (settle_passes c again h) h.rows (settled c h).rows
+  settled_keeps : (h : Held) → Keeps (settle_passes c again h) h.rows (Spec.settled c h).rows
   settled_keeps h = pending_keeps h.pending h.rows
 
   reacted_keeps : (a : Rule) (vs : List Text) (h : Held) → Valued a
-      → Keeps (react_passes c again a vs h) h.rows (reacted c a vs h).rows
-  reacted_keeps a vs h its passes all = grind (arith, its again vs (settled c h).rows, settled_keeps h)
+      → Keeps (react_passes c again a vs h) h.rows (Spec.reacted c a vs h).rows
+  reacted_keeps a vs h its passes all = grind (arith, its again vs (Spec.settled c h).rows, settled_keeps h)
 
   option_keeps : (a : Rule) (v : Option Text) (h : Held) → Valued a
-      → Keeps (option_passes c again a v h) h.rows (option_met c a v h).0.rows
+      → Keeps (option_passes c again a v h) h.rows (Spec.option_met c a v h).0.rows
   option_keeps a (Some v) h its = reacted_keeps a (v ∷ []) h its
   option_keeps a None h its = settled_keeps h
 
   -- ---- a word
 
   long_keeps : (o : Option Rule) (v : Option Text) (h : Held) → IfValued o
-      → Keeps (long_passes c again o v h) h.rows (long_met c o v h).0.rows
+      → Keeps (long_passes c again o v h) h.rows (Spec.long_met c o v h).0.rows
   long_keeps None v h its passes all = cc
   long_keeps (Some a) v h its passes all = grind (arith, option_keeps a v h its, reacted_keeps a [] h its)
 
   short_keeps : (o : Option Rule) (rest : Text) (h : Held) (passing : Held → Bool) (met : Held → Held × Outcome)
       → IfValued o → ((g : Held) → Keeps (passing g) g.rows (met g).0.rows)
-      → Keeps (short_passes c again o rest h passing) h.rows (short_met c o rest h met).0.rows
+      → Keeps (short_passes c again o rest h passing) h.rows (Spec.short_met c o rest h met).0.rows
   short_keeps None rest h passing met its more passes all = cc
   short_keeps (Some a) rest h passing met its more passes all =
-      let option = option_keeps a (attached_value rest) h its in
-      grind (arith, option, reacted_keeps a [] h its, more (reacted c a [] h))
+      let option = option_keeps a (Spec.attached_value rest) h its in
+      grind (arith, option, reacted_keeps a [] h its, more (Spec.reacted c a [] h))
 
   -- the flags of a bundle, at most k of them, leave rows with values
   abbrev FlagsKeep : ℕ → Type 0
@@ -127,12 +135,12 @@ module _ (c : List Rule) (again : Bool) (fine : EachValued c) where
 
   flag_keeps : (k : ℕ) → FlagsKeep k → (flags : Text) (skip : ℕ) (so_far : Outcome) (h : Held) (x : Option ℕ)
       → Keeps (bundle_step_passes c again x flags skip h (flags_pass c again k)) h.rows
-      (bundle_step c x flags skip so_far h (bundle_met c k)).0.rows
+      (Spec.bundle_step c x flags skip so_far h (bundle_met c k)).0.rows
   flag_keeps k more flags skip so_far h None = λ passes all. all
   flag_keeps k more flags zero so_far h (Some x) =
       let rest = drop (length (encode_utf8 x)) flags in
-      short_keeps (arg_by_short c x) rest h (flags_pass c again k rest 0) (bundle_met c k rest 0 done)
-      (found_valued (λ a. not (is_some a.index) && has_short a x) c fine) (more rest 0 done)
+      short_keeps (Spec.arg_by_short c x) rest h (flags_pass c again k rest 0) (bundle_met c k rest 0 Spec.done)
+      (found_valued (λ a. not (is_some a.index) && Spec.has_short a x) c fine) (more rest 0 Spec.done)
   flag_keeps k more flags (suc skip) so_far h (Some x) =
       more (drop (length (encode_utf8 x)) flags) skip so_far h
 
@@ -143,36 +151,36 @@ module _ (c : List Rule) (again : Bool) (fine : EachValued c) where
 
   short_word_keeps : (w : Waiting) (word : Text) (flags : Option Text) (h : Held)
       → Keeps (option_map_or (λ f. bundle_passes c again f h) flags true) h.rows
-      (short_or_plain c w word flags h).0.rows
-  short_word_keeps w word None h passes all = ap have_values (after_flag_rows c w word h plain) ∙ all
+      (Spec.short_or_plain c w word flags h).0.rows
+  short_word_keeps w word None h passes all = ap have_values (after_flag_rows c w word h Spec.plain) ∙ all
   short_word_keeps w word (Some f) h passes all =
-      ap have_values (after_flag_rows c w word (bundle c f h).0 (bundle c f h).1)
-      ∙ flags_keep (length f) f h.skip plain (record h { skip = 0 }) passes all
+      ap have_values (after_flag_rows c w word (Spec.bundle c f h).0 (Spec.bundle c f h).1)
+      ∙ flags_keep (length f) f h.skip Spec.plain (record h { skip = 0 }) passes all
 
   flag_word_keeps : (w : Waiting) (word : Text) (named : Option (Text × Option Text)) (h : Held)
-      → Keeps (flag_word_passes c again named word h) h.rows (long_or_other c w word named h).0.rows
+      → Keeps (flag_word_passes c again named word h) h.rows (Spec.long_or_other c w word named h).0.rows
   flag_word_keeps w word None h = short_word_keeps w word (short_of word) h
   flag_word_keeps w word (Some p) h = λ passes all.
-      let met = long_met c (arg_by_long c p.0) p.1 h in
-      ap have_values (after_flag_rows c w word met.0 met.1) ∙ long_keeps (arg_by_long c p.0) p.1 h
-      (found_valued (λ a. not (is_some a.index) && has_long a p.0) c fine) passes all
+      let met = Spec.long_met c (Spec.arg_by_long c p.0) p.1 h in
+      ap have_values (after_flag_rows c w word met.0 met.1) ∙ long_keeps (Spec.arg_by_long c p.0) p.1 h
+      (found_valued (λ a. not (is_some a.index) && Spec.has_long a p.0) c fine) passes all
 
 module _ (s : Shape) (names : Names) (fine : EachValued s.rules) where
   word_keeps : (past : Bool) (w : Waiting) (position : ℕ) (word : Text) (h : Held)
-      → Keeps (word_passes s names past w word h) h.rows (word_met s.rules names past w position word h).0.rows
+      → Keeps (word_passes s names past w word h) h.rows (Spec.word_met s.rules names past w position word h).0.rows
   word_keeps true w position word h passes all = all
   word_keeps false w position word h passes all =
       grind (arith, flag_word_keeps s.rules s.args_override_self fine w word (long_of word) h)
 
   step_keeps : (w : Walk) (word : Text) (h : Held) (step : Step)
-      → Keeps (step_passes s w.position h step) h.rows (after_step s.rules word w h step).held.rows
+      → Keeps (step_passes s w.position h step) h.rows (Spec.after_step s.rules word w h step).held.rows
   step_keeps w word h step passes all = grind (arith, settled_keeps s.rules s.args_override_self fine h)
 
   turn_keeps : (w : Walk) (word : Text)
       → Keeps (turn_passes s names w word) w.held.rows (walked s.rules names w word).held.rows
   unfolding walked
   turn_keeps w word passes all =
-      let met = word_met s.rules names w.is_trailing w.waiting w.position word w.held in
+      let met = Spec.word_met s.rules names w.is_trailing w.waiting w.position word w.held in
       grind (arith, step_keeps w word met.0 met.1, word_keeps w.is_trailing w.waiting w.position word w.held)
 
   -- ---- all words
@@ -186,11 +194,11 @@ module _ (s : Shape) (names : Names) (fine : EachValued s.rules) where
       walk_keeps rest (walked s.rules names w word) parts.1 (turn_keeps w word parts.0 all)
 
 defaults_keep : (c : List Rule) (rows : List Row) → have_values rows ≡ true
-    → have_values (fold with_default rows c) ≡ true
+    → have_values (fold Spec.with_default rows c) ≡ true
 defaults_keep [] rows all = all
 defaults_keep (a ∷ rest) rows all =
-    let with_values = with_values_keeps a.id (reading_by a) DefaultValue a.defaults rows in
-    defaults_keep rest (with_default rows a) (grind (arith, with_values))
+    let with_values = with_values_keeps a.id (Spec.reading_by a) DefaultValue a.defaults rows in
+    defaults_keep rest (Spec.with_default rows a) (grind (arith, with_values))
 
 -- a row that is there has a first value
 first_some : (id : Text) (rows : List Row) → have_values rows ≡ true
@@ -213,25 +221,25 @@ with_values_there : (id : Text) (how : Reading) (s : ValueSource) (vs : List Tex
 with_values_there id how s vs [] same = grind arith
 with_values_there id how s vs (r ∷ rs) same = grind (arith, with_values_there id how s vs rs same)
 
-row_there : (id : Text) (rows : List Row) → has_row id rows ≡ true → is_some (find (λ r. bytes_eq r.id id) rows) ≡ true
+row_there : (id : Text) (rows : List Row) → Spec.has_row id rows ≡ true → is_some (find (λ r. bytes_eq r.id id) rows) ≡ true
 row_there id [] h = h
 row_there id (r ∷ rs) h = grind (arith, row_there id rs)
 
 default_there : (a : Rule) (rows : List Row) → bytes_eq a.id a.id ≡ true → some_of a.defaults ≡ true
-    → is_some (find (λ r. bytes_eq r.id a.id) (with_default rows a)) ≡ true
+    → is_some (find (λ r. bytes_eq r.id a.id) (Spec.with_default rows a)) ≡ true
 default_there a rows same some =
-    grind (arith, row_there a.id rows, with_values_there a.id (reading_by a) DefaultValue a.defaults rows same)
+    grind (arith, row_there a.id rows, with_values_there a.id (Spec.reading_by a) DefaultValue a.defaults rows same)
 
 -- words that pass leave rows that each have a value, and are valid
-valued_rows : (s : Shape) (words : List Text) → EachValued s.rules → level_passes s [] nothing_held words false ≡ true
-    → (have_values (rows_after s.rules [] words) ≡ true) × (is_valid s (rows_after s.rules [] words) false ≡ true)
+valued_rows : (s : Shape) (words : List Text) → EachValued s.rules → level_passes s [] Spec.nothing_held words false ≡ true
+    → (have_values (Spec.rows_after s.rules [] words) ≡ true) × (is_valid s (Spec.rows_after s.rules [] words) false ≡ true)
 valued_rows s words valued passes =
-    let end = (walk s.rules [] nothing_held words).held in
-    let parts = and_parts (walk_passes s [] (walk_from nothing_held) words) _ passes in
+    let end = (Spec.walk s.rules [] Spec.nothing_held words).held in
+    let parts = and_parts (walk_passes s [] (Spec.walk_from Spec.nothing_held) words) _ passes in
     let settles = and_parts (settle_passes s.rules s.args_override_self end) _ parts.1 in
     let kept = settled_keeps s.rules s.args_override_self valued end settles.0
-    (walk_keeps s [] valued words (walk_from nothing_held) parts.0 refl) in (
-      defaults_keep s.rules (settled s.rules end).rows kept,
+    (walk_keeps s [] valued words (Spec.walk_from Spec.nothing_held) parts.0 refl) in (
+      defaults_keep s.rules (Spec.settled s.rules end).rows kept,
       (and_parts (list_all default_passes s.rules) _ settles.1).1,
     )
 
@@ -269,11 +277,11 @@ file_valued name = (set_valued file_built refl refl, (help_valued help_built ref
 
 -- it takes words only with a FILE
 pub file_given : (name : Text) (words : List Text)
-    → level_passes (file_shape name) [] nothing_held words false ≡ true
-    → (file : Text) × (first_of (codes "FILE") (rows_after (file_shape name).rules [] words) ≡ Some file)
+    → level_passes (file_shape name) [] Spec.nothing_held words false ≡ true
+    → (file : Text) × (first_of (codes "FILE") (Spec.rows_after (file_shape name).rules [] words) ≡ Some file)
 unfolding clap_on_literals
 file_given name words passes =
-    let rows = rows_after (file_shape name).rules [] words in
+    let rows = Spec.rows_after (file_shape name).rules [] words in
     let are = valued_rows (file_shape name) words (file_valued name) passes in
     let given = (and_parts (is_given (codes "FILE") rows) _ are.1).0 in
     first_there (codes "FILE") rows are.0 (grind (arith, given))
@@ -285,17 +293,17 @@ unfolding clap_on_literals
 run_valued = (set_valued file_built refl refl, (set_valued workers_built refl refl, (help_valued help_built refl, tt)))
 
 -- `run` takes words only with a FILE, and a number of workers is there, given or by default
-pub run_given : (words : List Text) → level_passes run_shape [] nothing_held words false ≡ true
-    → ((file : Text) × (first_of (codes "FILE") (rows_after run_shape.rules [] words) ≡ Some file))
-    × ((text : Text) × (first_of (codes "workers") (rows_after run_shape.rules [] words) ≡ Some text))
+pub run_given : (words : List Text) → level_passes run_shape [] Spec.nothing_held words false ≡ true
+    → ((file : Text) × (first_of (codes "FILE") (Spec.rows_after run_shape.rules [] words) ≡ Some file))
+    × ((text : Text) × (first_of (codes "workers") (Spec.rows_after run_shape.rules [] words) ≡ Some text))
 unfolding clap_on_literals
 run_given words passes =
-    let rows = rows_after run_shape.rules [] words in
+    let rows = Spec.rows_after run_shape.rules [] words in
     let are = valued_rows run_shape words run_valued passes in
-    let first = (settled run_shape.rules (walk run_shape.rules [] nothing_held words).held).rows in
+    let first = (Spec.settled run_shape.rules (Spec.walk run_shape.rules [] Spec.nothing_held words).held).rows in
     let given = (and_parts (is_given (codes "FILE") rows) _ are.1).0 in
     let workers_row : is_some (find (λ r. bytes_eq r.id (codes "workers")) rows) ≡ true =
-    grind (arith, default_there workers_built (with_default first file_built) refl refl) in
+    grind (arith, default_there workers_built (Spec.with_default first file_built) refl refl) in
     (first_there (codes "FILE") rows are.0 (grind (arith, given)), first_there (codes "workers") rows are.0 workers_row)
 
 -- ---- plan FILE --frame K --dot
@@ -306,15 +314,15 @@ plan_valued =
     (set_valued file_built refl refl, (flag_valued dot_built refl refl, (set_valued frame_built refl refl, (help_valued help_built refl, tt))))
 
 -- `plan` takes words only with a FILE, and a number of a frame is there, given or by default
-pub plan_given : (words : List Text) → level_passes plan_shape [] nothing_held words false ≡ true
-    → ((file : Text) × (first_of (codes "FILE") (rows_after plan_shape.rules [] words) ≡ Some file))
-    × ((text : Text) × (first_of (codes "frame") (rows_after plan_shape.rules [] words) ≡ Some text))
+pub plan_given : (words : List Text) → level_passes plan_shape [] Spec.nothing_held words false ≡ true
+    → ((file : Text) × (first_of (codes "FILE") (Spec.rows_after plan_shape.rules [] words) ≡ Some file))
+    × ((text : Text) × (first_of (codes "frame") (Spec.rows_after plan_shape.rules [] words) ≡ Some text))
 unfolding clap_on_literals
 plan_given words passes =
-    let rows = rows_after plan_shape.rules [] words in
+    let rows = Spec.rows_after plan_shape.rules [] words in
     let are = valued_rows plan_shape words plan_valued passes in
-    let first = (settled plan_shape.rules (walk plan_shape.rules [] nothing_held words).held).rows in
+    let first = (Spec.settled plan_shape.rules (Spec.walk plan_shape.rules [] Spec.nothing_held words).held).rows in
     let given = (and_parts (is_given (codes "FILE") rows) _ are.1).0 in
     let frame_row : is_some (find (λ r. bytes_eq r.id (codes "frame")) rows) ≡ true =
-    grind (arith, default_there frame_built (with_default (with_default first file_built) dot_built) refl refl) in
+    grind (arith, default_there frame_built (Spec.with_default (Spec.with_default first file_built) dot_built) refl refl) in
     (first_there (codes "FILE") rows are.0 (grind (arith, given)), first_there (codes "frame") rows are.0 frame_row)

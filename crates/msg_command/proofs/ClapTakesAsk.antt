@@ -3,7 +3,11 @@
 use Rattle.std.proofs.Common.{arith, ◌≡◌, ◌⊎◌, inl, inr, ℕ, get_or, List, [], ◌∷◌, refl, ap, Option, Some, None, Bool, true, false, codes, fold, is_some, ◌&&◌, ◌||◌, cond, if◌then◌else◌, not, option_map}
 use Rattle.std.specs.{Str.bytes_eq, Option.option_map_or}
 use Rattle.std.proofs.lemmas.{Slice.Eq.bytes_eq-Decides, Bool.and_parts}
-use Rattle.clap.specs.{Words.Rule, Words.Shape, Words.Text, Words.takes, Lexer.long_of, Simple.built, Simple.entered, Simple.names_of, Simple.rows_at, Walk.Held, Walk.Names, Walk.Outcome, Walk.Step, Walk.Waiting, Walk.Walk, Walk.after_flag, Walk.after_step, Walk.long_or_other, Walk.nothing_held, Walk.stop_after, Walk.subcommand, Walk.subcommand_met, Walk.subcommand_or_other, Walk.trailing, Walk.value, Walk.walk_from, Walk.walked, Walk.walked_from, Walk.word_met, Takes.entered_passes, Takes.level_passes, Takes.other_passes, Takes.step_passes, Takes.turn_passes, Takes.walk_passes, Takes.word_passes}
+use Rattle.clap.specs.Lexer.{long_of}
+use Rattle.clap.specs.Words.{Rule, Shape, Text, takes}
+use Rattle.clap.specs.Simple.{built, entered, names_of, rows_at}
+use Rattle.clap.specs.Walk.{Held, Names, Outcome, Step, Waiting, Walk, after_flag, after_step, long_or_other, nothing_held, stop_after, subcommand, subcommand_met, subcommand_or_other, trailing, value, walk_from, walked, walked_from, word_met}
+use Rattle.clap.specs.Takes.{entered_passes, level_passes, other_passes, step_passes, turn_passes, walk_passes, word_passes}
 use Rattle.clap.proofs.OnLiterals.{clap_on_literals}
 use Rattle.msg_command.specs.Prelude.{AsksForNone, asked, msgrun_app, number_in}
 use Rattle.msg_command.specs.declared.limits.TheConstants.{LAST_FRAME, MAX_WORKERS}

@@ -1,6 +1,7 @@
 -- The line that each fault of the program prints, and the status that it ends with.
 use Rattle.std.specs.Prelude.{ℕ, List, [], codes}
-use Rattle.msg_command.specs.{declared.fault.MainFault.MainFault, declared.fault.MainFault.TheVariants.Words, declared.fault.MainFault.TheVariants.Input, declared.fault.MainFault.TheVariants.Refused, declared.fault.MainFault.TheVariants.Told, declared.fault.MainFault.TheVariants.Built, declared.fault.MainFault.TheVariants.Report}
+use Rattle.msg_command.specs.declared.fault.MainFault.{MainFault}
+use Rattle.msg_command.specs.declared.fault.MainFault.TheVariants.{Words, Input, Refused, Told, Built, Report}
 use Rattle.msg_command.specs.declared.words.WordFault.TheVariants as word
 use Rattle.msg_command.specs.declared.input.InputFault.TheVariants as input
 use Rattle.msg_json.specs.declared.refusal.Refusal.{Refusal}

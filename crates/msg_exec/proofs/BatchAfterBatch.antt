@@ -1,7 +1,9 @@
 -- Turns one after the other, batch after batch.
 use Rattle.std.proofs.Common.{◌≡◌, ℕ, ◌+◌, ◌<◌, List, [], ◌∷◌, ◌++◌, length, map, take, get_or, refl, append_assoc, ◌≢◌, zero, suc, ◌≤◌, arith, All, AllPairs}
 use Rattle.std.specs.{Global.Vec, List.concat}
-use Rattle.std.proofs.lemmas.{List.append-nil, List.map_push, List.take_more, List.Folds.concat-append, Bool.eqb-true, Bool.Decides.Decides-eqb, List.Elements.All-contains, Map.Made.IsDistinct-from_AllPairs, Map.Steps.length-le_from_distinct_below, Map.Views.Contains-from_any, List.Elements.All-head, List.Elements.All-tail}
+use Rattle.std.proofs.lemmas.{List.Folds.concat-append, Bool.eqb-true, Bool.Decides.Decides-eqb, Map.Made.IsDistinct-from_AllPairs, Map.Steps.length-le_from_distinct_below, Map.Views.Contains-from_any}
+use Rattle.std.proofs.lemmas.List.{append-nil, map_push, take_more}
+use Rattle.std.proofs.lemmas.List.Elements.{All-contains, All-head, All-tail}
 use Rattle.msg_system.specs.Prelude.{Meaning}
 use Rattle.msg_frames.specs.declared.log.Turn.{Turn}
 use Rattle.msg_exec.specs.Prelude.{Lender, LenderStands}

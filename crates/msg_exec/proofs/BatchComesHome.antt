@@ -1,6 +1,10 @@
 -- The systems of a batch come home, one after the other.
 use Rattle.std.proofs.Common.{◌≡◌, ◌≢◌, ℕ, ◌<◌, false, List, [], ◌∷◌, ◌++◌, length, map, None, Result, Ok, IfOk, append_assoc, refl, sym, ap, ◌∙◌, subst, arith, All, AllPairs, Contains, IsSomeAnd, IsTrue, is_some, slice_get, if◌then◌else◌, inl, inr}
-use Rattle.std.proofs.lemmas.{Bool.cases_Bool, Bool.Decides.eqb_tells, List.append-nil, List.get_or-set_other, List.get_or-set_same, List.length-set, List.map-append, List.Elements.All-cons, List.Elements.All-contains, List.Elements.All-head, List.Elements.All-tail, List.Elements.Contains-append_right, Slice.Zip.AllZip-long, List.nil_from_length, Slice.Zip.AllZip-left, Option.get_or_from_slice_get, Option.slice_get_within, Result.IfOk-weaker}
+use Rattle.std.proofs.lemmas.{Bool.cases_Bool, Bool.Decides.eqb_tells, Result.IfOk-weaker}
+use Rattle.std.proofs.lemmas.List.{append-nil, get_or-set_other, get_or-set_same, length-set, map-append, nil_from_length}
+use Rattle.std.proofs.lemmas.List.Elements.{All-cons, All-contains, All-head, All-tail, Contains-append_right}
+use Rattle.std.proofs.lemmas.Slice.Zip.{AllZip-long, AllZip-left}
+use Rattle.std.proofs.lemmas.Option.{get_or_from_slice_get, slice_get_within}
 use Rattle.std.specs.List.{AllZip}
 use Rattle.msg_world.specs.declared.access.Access.{Access}
 use Rattle.msg_world.specs.{declared.part.Part.Part, Prelude.HomeMerges, Prelude.HomeWhereEither, Prelude.IsApart, Prelude.PartsStand, Prelude.SameShape, Prelude.SameSize, Prelude.slot, Prelude.writes, Prelude.Values}
@@ -10,7 +14,11 @@ use Rattle.msg_exec.specs.Prelude.{IsAfterJob, IsDone, JobView, Lender, LenderSt
 use Rattle.msg_frames.specs.declared.log.Turn.{Turn}
 use Rattle.msg_frames.specs.Prelude.{AreAccessesOf, BatchesRunSideBySide, SameSystems, State, after_turns_of, all_home, home, logged_turn, member_after, turn_of}
 use Rattle.msg_exec.specs.{inner.Batches.AreResults, inner.Totals.HasFewReplies, inner.SystemsOut.AreOut, inner.SystemsOut.ComesHome, inner.SystemsOut.IsOut, inner.SystemsOut.any_writes}
-use Rattle.msg_exec.proofs.{BatchGoesOut.has_written, BatchGoesOut.left_stands, SystemAfterTurn.few_replies, SystemAfterTurn.its_own, SystemAfterTurn.of_another, SystemAfterTurn.totals_after, ItemsOfLists.get_other, ItemsOfLists.get_same, ItemsOfLists.some_of, JobsAreDone.none_there, BatchWritesApart.later_write_not, BatchWritesApart.written_is_used, BatchGoesOut.IsBatch, BatchWritesApart.Free, ItemsOfLists.zip_of_each}
+use Rattle.msg_exec.proofs.JobsAreDone.{none_there}
+use Rattle.msg_exec.proofs.BatchGoesOut.{has_written, left_stands, IsBatch}
+use Rattle.msg_exec.proofs.SystemAfterTurn.{few_replies, its_own, of_another, totals_after}
+use Rattle.msg_exec.proofs.ItemsOfLists.{get_other, get_same, some_of, zip_of_each}
+use Rattle.msg_exec.proofs.BatchWritesApart.{later_write_not, written_is_used, Free}
 use Rattle.msg_frames.proofs.{SystemsStay.turns_keep_systems, ElementsAndPairs.pairs_head, ElementsAndPairs.pairs_right}
 use Rattle.msg_order.proofs.Elements.{Contains-cases, Contains-head, Contains-tail, not_in_none}
 

@@ -1,6 +1,10 @@
 -- The systems of a batch go out, one after the other, and their jobs may be run.
 use Rattle.std.proofs.Common.{◌≡◌, ℕ, ◌<◌, true, List, [], ◌∷◌, ◌++◌, length, refl, ap, ◌∙◌, arith, All, Contains, IsSome, is_some, slice_get, ◌≢◌, ◌+◌, AllPairs, get_or, sym, take}
-use Rattle.std.proofs.lemmas.{Bool.cases_Bool, Bool.cases_eq, Bool.or_left, List.get_or-set_other, List.length-set, Slice.Zip.AllZip-right, Option.get_or_from_slice_get, Option.slice_get_within, List.Elements.Contains-get_or, List.Elements.Contains-append_left, List.Elements.All-contains, List.Elements.Contains-push, Slice.Zip.all_zipped_more, List.take_more}
+use Rattle.std.proofs.lemmas.Bool.{cases_Bool, cases_eq, or_left}
+use Rattle.std.proofs.lemmas.List.{get_or-set_other, length-set, take_more}
+use Rattle.std.proofs.lemmas.Slice.Zip.{AllZip-right, all_zipped_more}
+use Rattle.std.proofs.lemmas.Option.{get_or_from_slice_get, slice_get_within}
+use Rattle.std.proofs.lemmas.List.Elements.{Contains-get_or, Contains-append_left, All-contains, Contains-push}
 use Rattle.msg_exec.proofs.{ItemsOfLists.some_of, BatchWritesApart.any_more, BatchWritesApart.earlier_write_not, BatchWritesApart.others_write_not, BatchWritesApart.written_is_used, BatchWritesApart.each_before, BatchWritesApart.Free}
 use Rattle.msg_world.specs.{declared.part.Part.Part, Prelude.IsHome, Prelude.PartsStand, Prelude.slot, Prelude.writes, Prelude.Values}
 use Rattle.msg_order.specs.Prelude.{NoneConflict, access_of}

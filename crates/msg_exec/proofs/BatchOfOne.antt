@@ -10,7 +10,9 @@ use Rattle.msg_frames.specs.declared.log.Outcome.{Outcome}
 use Rattle.msg_frames.specs.declared.log.Outcome.TheVariants.{Skipped}
 use Rattle.msg_frames.specs.Prelude.{BatchesRunSideBySide, State, after_turn_of, logged_turn}
 use Rattle.msg_exec.specs.inner.SystemsOut.{AreOut, ComesHome}
-use Rattle.msg_exec.proofs.{BatchComesHome.ComingHome, BatchComesHome.MayCome, BatchComesHome.all_came, BatchComesHome.begin_home, BatchComesHome.is_back, BatchComesHome.next_comes, BatchComesHome.next_may_come, BatchGoesOut.all_may_run, BatchGoesOut.left_stands, BatchGoesOut.IsBatch, BatchWritesApart.Free, BatchComesHome.IsBack}
+use Rattle.msg_exec.proofs.BatchWritesApart.{Free}
+use Rattle.msg_exec.proofs.BatchComesHome.{ComingHome, MayCome, all_came, begin_home, is_back, next_comes, next_may_come, IsBack}
+use Rattle.msg_exec.proofs.BatchGoesOut.{all_may_run, left_stands, IsBatch}
 use Rattle.std.proofs.lemmas.List.{get_or_read}
 
 no_pairs : (R : ℕ → ℕ → Type 0) (i : ℕ) → AllPairs R (i ∷ [])

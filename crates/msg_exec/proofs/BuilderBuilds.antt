@@ -1,20 +1,10 @@
--- What a builder tests of systems and a world, and systems that were given their numbers.
-use Rattle.std.proofs.Common.{◌≡◌, ℕ, zero, suc, ◌+◌, ◌<◌, ◌++◌, List, [], ◌∷◌, length, map, take, drop, set, get_or, Some, refl, ap, arith, IsSome, slice_get}
-use Rattle.std.proofs.lemmas.{Bool.cases_lt, Bool.false≢true, List.get_or_past, Option.none-some, Option.same_Some, Option.slice_get_within}
-use Rattle.msg_world.specs.{declared.part.Part.Part, declared.part.Part.TheVariants.OfResource, declared.part.Part.TheVariants.OfType, declared.part.Part.TheVariants.Registry, Prelude.Has, Prelude.Parts, Prelude.slot}
+-- Systems that were given their numbers.
+use Rattle.std.proofs.Common.{◌≡◌, ℕ, zero, suc, ◌+◌, ◌<◌, ◌++◌, List, [], ◌∷◌, length, map, take, drop, set, get_or, Some, refl, ap, arith, slice_get}
+use Rattle.std.proofs.lemmas.{Option.none-some, Option.same_Some, Option.slice_get_within}
 use Rattle.msg_order.specs.declared.rule.Rule.{Rule}
 use Rattle.msg_system.specs.Prelude.{Meaning}
 use Rattle.msg_exec.specs.Prelude.{BuildRefusal, Clash, Cycle, NoMemory, NoneIsClash, RefusesFor, numbered_from}
 use Rattle.msg_exec.proofs.ItemsOfLists.{item_at}
-
--- ---- what a world has
-
-module _ {V : Type 0} where
-  -- the world has what is home
-  pub has_part : (w : Parts V) (p : Part) → IsSome (slot p w) → Has w p
-  has_part w (OfType t) some = grind (arith, cases_lt, false≢true, get_or_past)
-  has_part w (OfResource r) some = grind (arith, cases_lt, false≢true, get_or_past)
-  has_part w Registry some = tt
 
 -- ---- systems with their numbers
 

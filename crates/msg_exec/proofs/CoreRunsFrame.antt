@@ -10,7 +10,8 @@ use Rattle.msg_frames.specs.{declared.frame.Frame.Frame}
 use Rattle.msg_exec.specs.{inner.FrameSteps.HasLeft, inner.FrameSteps.HasOpened, inner.FrameSteps.NobodyJoins, inner.FrameSteps.one_frame_more, inner.SystemsOut.HaveReadNothing, inner.FrameSteps.PlansNext}
 use Rattle.msg_frames.specs.Prelude.{FrameStaysSound, IsLawfulFor, IsSoundState, SameSystems, State, after_joining, are_in_conflict, before_turns, frame, join_flags}
 use Rattle.msg_frames.specs.Frames.{settled_order, turn_order}
-use Rattle.msg_frames.proofs.{Functions.batches_apart, Functions.plan_is, SystemsStay.accesses_stay, SystemsStay.before_keeps, SystemsStay.joined_is, SystemsStay.joined_stay, SystemsStay.joining_keeps, SystemsStay.joining_makes_no_frame, SystemsStay.no_cycle_stays, SystemsStay.turns_keep_systems, SystemsStay.turns_make_no_frame, SystemsStay.uses_stay}
+use Rattle.msg_frames.proofs.Functions.{batches_apart, plan_is}
+use Rattle.msg_frames.proofs.SystemsStay.{accesses_stay, before_keeps, joined_is, joined_stay, joining_keeps, joining_makes_no_frame, no_cycle_stays, turns_keep_systems, turns_make_no_frame, uses_stay}
 use Rattle.msg_world.specs.Prelude.{Values}
 
 -- ---- what no frame changes

@@ -1,12 +1,14 @@
 -- What a new engine is made of, and when there is none.
-use Rattle.std.specs.Prelude.{◌≡◌, ℕ, ◌+◌, ◌<◌, ◌≤◌, List, [], ◌∷◌, length, Some, slice_get, IsTrue}
-use Rattle.msg_world.specs.{Prelude.Has, declared.part.Part.Part, Prelude.Parts, declared.limits.TheConstants.MAX_SYSTEMS}
+use Rattle.std.specs.Prelude.{◌≡◌, ℕ, ◌+◌, ◌<◌, ◌≤◌, List, [], ◌∷◌, length, Some, slice_get}
+use Rattle.msg_world.specs.{Prelude.Parts, declared.limits.TheConstants.MAX_SYSTEMS}
 use Rattle.msg_order.specs.declared.rule.Rule.{Rule}
-use Rattle.msg_order.specs.Prelude.{IsAcyclic, IsLowestOnCycle, NameSystemsBelow, edges_of}
-use Rattle.msg_system.specs.Prelude.{HasClash, Meaning, needs_any, with_conditions}
+use Rattle.msg_order.specs.Prelude.{IsAcyclic, IsFirstUnknown, IsLowestOnCycle, NameSystemsBelow, edges_of}
+use Rattle.msg_system.specs.Prelude.{FitsWorld, HasClash, Meaning, with_conditions}
 use Rattle.msg_frames.specs.declared.{limits.TheConstants.LAST_JOIN, place.Place.Place}
 use Rattle.msg_frames.specs.Prelude.{IsNew}
-use Rattle.msg_exec.specs.{declared.build_error.BuildError.BuildError, declared.build_error.BuildError.TheVariants.Full, declared.build_error.BuildError.TheVariants.BadJoin, declared.build_error.BuildError.TheVariants.Misfit, declared.build_error.BuildError.TheVariants.UnknownSystem, declared.build_error.BuildError.TheVariants.Refused, declared.build_refusal.BuildRefusal.BuildRefusal, declared.build_refusal.BuildRefusal.TheVariants.Clash, declared.build_refusal.BuildRefusal.TheVariants.Cycle, declared.build_refusal.BuildRefusal.TheVariants.NoMemory}
+use Rattle.msg_exec.specs.{declared.build_error.BuildError.BuildError, declared.build_refusal.BuildRefusal.BuildRefusal}
+use Rattle.msg_exec.specs.declared.build_error.BuildError.TheVariants.{Full, BadJoin, Misfit, UnknownSystem, Refused}
+use Rattle.msg_exec.specs.declared.build_refusal.BuildRefusal.TheVariants.{Clash, Cycle, NoMemory}
 
 module _ {X : Type 0} where
   -- P holds of each item of the list with its number
@@ -19,9 +21,9 @@ IsJoin join = (1 ≤ join) × (join ≤ LAST_JOIN)
 
 module _ {V : Type 0} where
   -- the world has what a system and its conditions read and write
-  abbrev pub FitsWorld : Parts V → Meaning V → Place V → Type 0
-  FitsWorld world m place = (p : Part)
-      → IsTrue (needs_any (with_conditions m.needs place.conditions) p) → Has world p
+  abbrev pub SystemFits : Parts V → Meaning V → Place V → Type 0
+  SystemFits world m place = FitsWorld (length world.types) (length world.resources)
+      (with_conditions m.needs place.conditions)
 
 module _ {S V : Type 0} (meaning : S → Meaning V) where
   -- system i, in its place, may be added to an engine over a world of these parts
@@ -30,7 +32,7 @@ module _ {S V : Type 0} (meaning : S → Meaning V) where
     pub new : IsNew i (meaning x)
     -- the world has what it and its conditions read and write
     pub fits : (place : Place V) → slice_get places i ≡ Some place
-        → FitsWorld world (meaning x) place
+        → SystemFits world (meaning x) place
     pub joins : (place : Place V) → slice_get places i ≡ Some place → IsJoin place.join
 
   -- no system reads and writes one part
@@ -74,20 +76,12 @@ RefusesToAdd systems join (BadJoin frame) = (systems < MAX_SYSTEMS) × (frame �
 RefusesToAdd systems join (Refused NoMemory) = (systems < MAX_SYSTEMS) × IsJoin join
 RefusesToAdd systems join _ = ⊥
 
--- the first rule that names a system from n on
-pub record IsFirstUnknown (n : ℕ) (rules : List Rule) (rule : Rule) : Type 0 where
-  pub index : ℕ
-  pub is : slice_get rules index ≡ Some rule
-  pub unknown : ¬ ((rule.earlier < n) × (rule.later < n))
-  pub first : (k : ℕ) (r : Rule) → k < index → slice_get rules k ≡ Some r → (r.earlier < n)
-      × (r.later < n)
-
 module _ {S V : Type 0} (meaning : S → Meaning V) where
   -- the systems below n fit the world in their places
   abbrev pub FitBelow : ℕ → Parts V → List S → List (Place V) → Type 0
   FitBelow n world systems places = (i : ℕ) (x : S) (place : Place V) → i < n → slice_get systems i
       ≡ Some x → slice_get places i ≡ Some place
-      → FitsWorld world (meaning x) place
+      → SystemFits world (meaning x) place
 
   -- all systems fit the world in their places
   abbrev pub AllFit : Parts V → List S → List (Place V) → Type 0
@@ -100,7 +94,7 @@ module _ {S V : Type 0} (meaning : S → Meaning V) where
     pub place : Place V
     pub is : slice_get systems s ≡ Some system
     pub placed : slice_get places s ≡ Some place
-    pub misfit : ¬ FitsWorld world (meaning system) place
+    pub misfit : ¬ SystemFits world (meaning system) place
     pub lowest : FitBelow s world systems places
 
   -- Why no engine is made: a system that doesn't fit; else a rule without its system; else what

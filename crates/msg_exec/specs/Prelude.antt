@@ -1,5 +1,5 @@
 -- Hands on the definitions cited elsewhere. The declared types and variants serve this crate alone.
-pub use Rattle.msg_exec.specs.Building.{Added, AllFit, EachIs, FitBelow, FitsWorld, IsFirstUnknown, IsJoin, IsLowestClash, IsLowestMisfit, MayBeAdded, NoneIsClash, RefusesFor, RefusesToAdd, RefusesToBuild, numbered_from}
+pub use Rattle.msg_exec.specs.Building.{Added, AllFit, EachIs, FitBelow, IsJoin, IsLowestClash, IsLowestMisfit, MayBeAdded, NoneIsClash, RefusesFor, RefusesToAdd, RefusesToBuild, SystemFits, numbered_from}
 pub use Rattle.msg_exec.specs.Cores.{CoreStands, FixedParts, SomeJoin, frame_count}
 pub use Rattle.msg_exec.specs.Engines.{HasReplayed, HasRunFrame, HasRunFrames, HasRunSince, HasRunSome, IsEngine, IsSpoiled, PostsFit, EngineStands, frame_number}
 pub use Rattle.msg_exec.specs.Jobs.{HasTakenTurn, IsAfterJob, IsDone, IsResult, JobView, MayRun, job_state}

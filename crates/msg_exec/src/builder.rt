@@ -1,16 +1,16 @@
 // Systems, their places and rules, of which an engine is made once all that it asks is tested.
 ghost use Rattle.std.specs.Prelude.{◌≡◌, ℕ, ◌≤◌, ◌↔◌, ◌++◌, [], ◌∷◌, IfErr, IfOk, IsTrue, OnOk, length, map};
 ghost use Rattle.msg_world.specs.Prelude.{IsWhole, PartsStand, WorldState};
-ghost use Rattle.msg_order.specs.Prelude.{IsAcyclic, NameSystemsBelow, edges_of};
+ghost use Rattle.msg_order.specs.Prelude.{IsAcyclic, IsFirstUnknown, NameSystemsBelow, edges_of};
 ghost use Rattle.msg_order.specs.declared.rule.Rule.{Rule as RuleView};
 ghost use Rattle.msg_system.specs.Prelude.{HasClash};
 ghost use Rattle.msg_frames.specs.Prelude.{first_state};
-ghost use Rattle.msg_exec.specs.Prelude.{AllFit, EachIs, FitsWorld, IsEngine, IsFirstUnknown, IsLowestMisfit, HasRunSince, IsSpoiled, Misfit, NoneIsClash, RefusesToAdd, RefusesToBuild, UnknownSystem, numbered_from};
+ghost use Rattle.msg_exec.specs.Prelude.{AllFit, EachIs, IsEngine, IsLowestMisfit, HasRunSince, IsSpoiled, Misfit, NoneIsClash, RefusesToAdd, RefusesToBuild, UnknownSystem, numbered_from};
 
 use crate::{BuildError, EngineOf, Items, NoMemory, Place};
 use msg_frames::LAST_JOIN;
-use msg_order::Rule;
-use msg_system::{Condition, Numbered, SystemOf, job_access};
+use msg_order::{Rule, first_unknown};
+use msg_system::{Condition, Numbered, SystemOf, fits_world};
 use msg_world::{MAX_SYSTEMS, Value, World};
 use std::alloc::Global;
 use std::marker::Model;
@@ -51,29 +51,23 @@ impl<S, V> Model for EngineBuilder<S, V> {
         × All (λ place. IsJoin place.join) b.places.items };
 }
 
-/// Whether the world has what the system and its conditions read and write.
-fn fits<V: Value, S: SystemOf<Value = V>>(world: &World<V>, system: &S, place: &Place<V>) -> bool
-    requires whole { IsWhole world.now }
-    ensures fit { IsTrue result ↔ FitsWorld world.now (S.meaning system.now) place.now }
-{
-    world.is_home(&job_access(&system.access(), place.conditions.as_slice()))
-}
-
 /// Refuses the lowest system that doesn't fit the world.
 fn check_systems<V: Value, S: SystemOf<Value = V>>(
     world: &World<V>,
     systems: &[S],
     places: &[Place<V>],
 ) -> Result<(), BuildError>
-    requires whole { IsWhole world.now }
     requires few { length systems.now ≤ MAX_SYSTEMS }
     requires one_place_each { length places.now ≡ length systems.now }
     ensures fit { OnOk result (AllFit S.meaning world.now systems.now places.now) }
     ensures misfit { IfErr result (λ e. (s : ℕ) × (e ≡ Misfit s)
         × IsLowestMisfit S.meaning world.now systems.now places.now s) }
 {
+    let types = world.types() as u32;
+    let resources = world.resources() as u32;
     for i in 0..systems.len() {
-        if !fits(world, &systems[i], &places[i]) {
+        let conditions = places[i].conditions.as_slice();
+        if !fits_world(&systems[i].access(), conditions, types, resources) {
             return Err(BuildError::Misfit(i as u32));
         }
     }
@@ -87,12 +81,10 @@ fn check_names<S>(rules: &[Rule], systems: &[S]) -> Result<(), BuildError>
     ensures unknown { IfErr result (λ e. (rule : RuleView) × (e ≡ UnknownSystem rule)
         × IsFirstUnknown (length systems.now) rules.now rule) }
 {
-    for rule in rules {
-        if rule.earlier as usize >= systems.len() || rule.later as usize >= systems.len() {
-            return Err(BuildError::UnknownSystem(*rule));
-        }
+    match first_unknown(systems.len(), rules) {
+        Some(rule) => Err(BuildError::UnknownSystem(rule)),
+        None => Ok(()),
     }
-    Ok(())
 }
 
 /// Gives each system its number.

@@ -7,11 +7,11 @@ use msg_world::Value;
 fn size_of_reply<V: Value>(reply: &Reply<V>) -> u64 {
     let messages = match reply {
         Reply::Wrote(wrote) => wrote.n,
-        Reply::Read(took) => took.items.as_slice().len() as u64,
-        Reply::Forwarded { took, .. } => took.items.as_slice().len() as u64,
-        Reply::Summed { took, .. } => took.items.as_slice().len() as u64,
         Reply::Drained { items, .. } => items.as_slice().len() as u64,
-        _ => 0,
+        _ => match reply.took() {
+            Some(took) => took.items.as_slice().len() as u64,
+            None => 0,
+        },
     };
     messages.saturating_add(1)
 }

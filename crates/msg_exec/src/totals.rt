@@ -25,19 +25,11 @@ fn add<V: Value>(totals: &mut Totals, reply: &Reply<V>)
     ensures added { (x : TotalsOf) → totals.old ≡ capped_totals x
         → totals.new ≡ capped_totals (with_entries (option_to_list (entry_of reply.now)) x) }
 {
-    match reply {
-        Reply::Read(took) => add_read(totals, took),
-        Reply::Forwarded { took, .. } => add_read(totals, took),
-        Reply::Summed { took, .. } => add_read(totals, took),
-        Reply::Cleared {
-            missed,
-            first: _,
-            n,
-        } => {
-            totals.missed = totals.missed.saturating_add(*missed);
-            totals.cleared = totals.cleared.saturating_add(*n);
-        }
-        _ => {}
+    if let Some(took) = reply.took() {
+        add_read(totals, took);
+    } else if let Reply::Cleared { missed, n, .. } = reply {
+        totals.missed = totals.missed.saturating_add(*missed);
+        totals.cleared = totals.cleared.saturating_add(*n);
     }
 }
 
@@ -45,10 +37,7 @@ fn add<V: Value>(totals: &mut Totals, reply: &Reply<V>)
 fn is_of_reader<V: Value>(reply: &Reply<V>) -> bool
     ensures { result ≡ is_some (entry_of reply.now) }
 {
-    matches!(
-        reply,
-        Reply::Read(_) | Reply::Cleared { .. } | Reply::Forwarded { .. } | Reply::Summed { .. }
-    )
+    reply.took().is_some() || matches!(reply, Reply::Cleared { .. })
 }
 
 /// Adds what one reply of a system tells to the totals of its type.

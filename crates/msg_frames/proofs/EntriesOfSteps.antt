@@ -2,7 +2,8 @@
 use Rattle.std.proofs.Common.{List, None, Option, Some, [], append_assoc, arith, length, refl, suc, zero, ℕ, ◌++◌, ◌∷◌, ◌≡◌}
 use Rattle.std.proofs.lemmas.{Bool.cases_Bool, Grind.flat_map-append, List.append-nil, List.length-append}
 use Rattle.msg_world.specs.Prelude.{Values, WorldState}
-use Rattle.msg_system.specs.{Prelude.AfterOp, Prelude.AfterProgram, Prelude.Job, Prelude.Meaning, Prelude.Step, Prelude.after_at_most, Prelude.after_job, Prelude.after_op, Prelude.next_op, Prelude.one_more, Prelude.ops_answered, Prelude.turn, declared.limits.TheConstants.MAX_OPS, declared.op.Op.Op, declared.reply.Reply.Reply}
+use Rattle.msg_system.specs.{declared.limits.TheConstants.MAX_OPS, declared.op.Op.Op, declared.reply.Reply.Reply}
+use Rattle.msg_system.specs.Prelude.{AfterOp, AfterProgram, Job, Meaning, Step, after_at_most, after_job, after_op, next_op, one_more, ops_answered, turn}
 use Rattle.msg_system.proofs.Turns.{ops_answered-snoc}
 use Rattle.msg_frames.specs.Prelude.{Outcome, ReadEntry, entries_at, entries_for, entries_told, entry_for, outcome_of, replies_of}
 

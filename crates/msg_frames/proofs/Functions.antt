@@ -2,11 +2,15 @@
 use Rattle.std.proofs.Common.{All, Bool, Contains, IsTrue, List, [], ap, append_assoc, arith, map, refl, sym, ℕ, ◌&&◌, ◌++◌, ◌<◌, ◌||◌, ◌↔◌, ◌∙◌, ◌∷◌, ◌≡◌, ◌⊎◌}
 use Rattle.std.specs.List.{range_with_len}
 use Rattle.std.proofs.lemmas.{Bool.cases_Bool, List.Elements.Contains-append_left, List.Elements.Contains-append_right, List.FromFn.length-map-range_with_len}
-use Rattle.msg_world.specs.{Prelude.Conflict, Prelude.HasPart, Prelude.Values, Prelude.uses, Prelude.writes, declared.access.Access.Access, declared.limits.TheConstants.MAX_RESOURCES, declared.limits.TheConstants.MAX_TYPES, declared.part.Part.Part, declared.part.Part.TheVariants.OfResource, declared.part.Part.TheVariants.OfType, declared.part.Part.TheVariants.Registry}
+use Rattle.msg_world.specs.{declared.access.Access.Access, declared.part.Part.Part}
+use Rattle.msg_world.specs.Prelude.{Conflict, HasPart, Values, uses, writes}
+use Rattle.msg_world.specs.declared.limits.TheConstants.{MAX_RESOURCES, MAX_TYPES}
+use Rattle.msg_world.specs.declared.part.Part.TheVariants.{OfResource, OfType, Registry}
 use Rattle.msg_order.specs.Prelude.{IsAcyclic, IsAmong, IsPlanOf, IsTurnOrder, NoneConflict, PlanView, TellsConflicts, batches, plan_of, settled}
 use Rattle.msg_order.proofs.{Elements.Contains-head, Elements.Contains-list_any, Elements.Contains-map, Elements.Contains-range, Elements.list_any-Contains, Functions.batches_are, Functions.settled_among, Functions.settled_no_cycle, Functions.settled_only, Functions.turns_are, TurnOrders.none_conflict}
-use Rattle.msg_system.specs.Prelude.{IsAccessOf, Needs, needs_any}
-use Rattle.msg_frames.specs.{Frames.parts, Frames.settled_order, Frames.turn_order, Prelude.AfterRun, Prelude.AreAccessesOf, Prelude.Frame, Prelude.Log, Prelude.NoCycle, Prelude.SameSystems, Prelude.State, Prelude.UsesParts, Prelude.are_in_conflict, Prelude.before_turns, Prelude.frame, Prelude.join_flags, Prelude.needs_conflict, Prelude.run}
+use Rattle.msg_system.specs.Prelude.{FitsWorld, IsAccessOf, Needs, needs_any}
+use Rattle.msg_frames.specs.Frames.{parts, settled_order, turn_order}
+use Rattle.msg_frames.specs.Prelude.{AfterRun, AreAccessesOf, Frame, Log, NoCycle, SameSystems, State, UsesParts, are_in_conflict, before_turns, frame, join_flags, needs_conflict, run}
 use Rattle.msg_frames.proofs.SystemsStay.{frame_keeps, joined_below}
 
 -- ---- conflicts
@@ -27,10 +31,6 @@ is_part (OfResource r) lt =
     (Contains-map OfResource (range_with_len 0 MAX_RESOURCES) r (Contains-range 0 MAX_RESOURCES r (omega arith) lt)))
 is_part Registry has = Contains-append_right (types ++ resources) (Registry ∷ []) _ (Contains-head Registry [])
 
--- each need is one of the parts
-abbrev IsWithin : Needs → Type 0
-IsWithin n = (p : Part) → IsTrue (needs_any n p) → HasPart MAX_TYPES MAX_RESOURCES p
-
 -- a part at which the needs are in conflict
 abbrev conflict_at : Needs → Needs → Part → Bool
 conflict_at m n p = (m.writes p && needs_any n p) || (n.writes p && needs_any m p)
@@ -39,7 +39,7 @@ conflict_at_is : (m n : Needs) (a b : Access) (p : Part) → IsAccessOf m a → 
     → IsTrue (conflict_at m n p) ↔ (IsTrue (writes a p && uses b p) ⊎ IsTrue (writes b p && uses a p))
 conflict_at_is m n a b p ma nb = grind (arith, cases_Bool, ma.reads p, ma.writes p, nb.reads p, nb.writes p)
 
-conflict_is : (m n : Needs) (a b : Access) → IsAccessOf m a → IsAccessOf n b → IsWithin m
+conflict_is : (m n : Needs) (a b : Access) → IsAccessOf m a → IsAccessOf n b → FitsWorld MAX_TYPES MAX_RESOURCES m
     → IsTrue (needs_conflict m n) ↔ Conflict a b
 conflict_is m n a b ma nb within = (
   λ t. let f = Contains-list_any (conflict_at m n) parts t in

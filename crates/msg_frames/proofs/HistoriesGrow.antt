@@ -4,7 +4,8 @@ use Rattle.std.proofs.lemmas.{Bool.cases_Bool, Bool.Decides.eqb_tells}
 use Rattle.msg_buffer.specs.Prelude.{GoesOn, History, IsSound, clear, count, write}
 use Rattle.msg_buffer.proofs.Growth.{only_grows}
 use Rattle.msg_world.specs.{Prelude.Values, Prelude.WorldState, Prelude.after_update, Prelude.by, Prelude.with_history, declared.record.Record.Record}
-use Rattle.msg_system.specs.{Prelude.AfterProgram, Prelude.Job, Prelude.Meaning, Prelude.after_at_most, Prelude.after_job, Prelude.after_op, Prelude.again_by, Prelude.next_op, Prelude.one_more, Prelude.took, Prelude.turn, declared.limits.TheConstants.MAX_OPS, declared.op.Op.Op, declared.op.Op.TheVariants.Batch, declared.op.Op.TheVariants.Drain, declared.op.Op.TheVariants.Forward, declared.op.Op.TheVariants.Write}
+use Rattle.msg_system.specs.{Prelude.AfterProgram, Prelude.Job, Prelude.Meaning, Prelude.after_at_most, Prelude.after_job, Prelude.after_op, Prelude.again_by, Prelude.next_op, Prelude.one_more, Prelude.took, Prelude.turn, declared.limits.TheConstants.MAX_OPS, declared.op.Op.Op}
+use Rattle.msg_system.specs.declared.op.Op.TheVariants.{Batch, Drain, Forward, Write}
 use Rattle.msg_frames.specs.Prelude.{Frame, State, after_posts, after_turn_of, after_turns_of, before_turns, frame, frame_in}
 use Rattle.msg_frames.proofs.SystemsStay.{joining_world}
 

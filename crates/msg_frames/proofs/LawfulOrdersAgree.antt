@@ -1,12 +1,18 @@
 -- Two lawful orders of turns leave the same.
 use Rattle.std.proofs.Common.{All, AllPairs, Bool, Contains, IsPermutation, IsTrue, List, [], arith, get_or, length, refl, sym, ℕ, ◌++◌, ◌<◌, ◌↔◌, ◌∙◌, ◌∷◌, ◌≡◌, ◌≢◌, ◌⊎◌}
-use Rattle.std.proofs.lemmas.{Bool.cases_order, Grind.get_or_default_zero, List.Elements.All-append, List.Elements.All-contains, List.Elements.All-tail, List.Elements.Contains-append_left, List.Elements.Contains-get_or, List.Sorted.Contains-permutation, List.Sorted.IsPermutation-cons, List.Sorted.IsPermutation-middle, List.Sorted.IsPermutation-refl, List.Sorted.IsPermutation-sym, List.Sorted.IsPermutation-trans, Option.get_or_from_slice_get, Option.slice_get_within}
+use Rattle.std.proofs.lemmas.{Bool.cases_order, Grind.get_or_default_zero}
+use Rattle.std.proofs.lemmas.List.Elements.{All-append, All-contains, All-tail, Contains-append_left, Contains-get_or}
+use Rattle.std.proofs.lemmas.List.Sorted.{Contains-permutation, IsPermutation-cons, IsPermutation-middle, IsPermutation-refl, IsPermutation-sym, IsPermutation-trans}
+use Rattle.std.proofs.lemmas.Option.{get_or_from_slice_get, slice_get_within}
 use Rattle.msg_world.specs.{Prelude.Conflict, Prelude.Values, declared.access.Access.Access}
 use Rattle.msg_order.proofs.{Elements.Contains-cases, Elements.Contains-head, Elements.Contains-tail, Elements.not_in_none, SettledOrders.conflicts_ordered, TurnOrders.in_lawful_order, TurnOrders.kept_along}
 use Rattle.msg_order.specs.Prelude.{Graph, IsLawfulOrder, Path, TellsConflicts, access_of, has_joined, settled}
 use Rattle.msg_system.specs.Prelude.{JobFootprint}
 use Rattle.msg_frames.specs.{Frames.settled_order, Frames.turn_order, Prelude.AreAccessesOf, Prelude.FramesAgreeInLawfulOrders, Prelude.State, Prelude.Turn, Prelude.after_turn_of, Prelude.after_turns_of, Prelude.are_in_conflict, Prelude.before_turns, Prelude.join_flags, Prelude.logged_turn}
-use Rattle.msg_frames.proofs.{ElementsAndPairs.Cut, ElementsAndPairs.cut, ElementsAndPairs.pairs_head, ElementsAndPairs.pairs_middle, ElementsAndPairs.pairs_right, ElementsAndPairs.pairs_tail, Functions.order_among, Functions.conflicts_tell, Functions.order_is, SystemsStay.accesses_stay, SystemsStay.before_keeps, SystemsStay.joined_below, SystemsStay.no_cycle_stays, SystemsStay.one_turn_keeps, SystemsStay.uses_stay, TurnsCommute.turns_commute}
+use Rattle.msg_frames.proofs.TurnsCommute.{turns_commute}
+use Rattle.msg_frames.proofs.ElementsAndPairs.{Cut, cut, pairs_head, pairs_middle, pairs_right, pairs_tail}
+use Rattle.msg_frames.proofs.Functions.{conflicts_tell, order_among, order_is}
+use Rattle.msg_frames.proofs.SystemsStay.{accesses_stay, before_keeps, joined_below, no_cycle_stays, one_turn_keeps, uses_stay}
 
 -- in either order of turns the same is left, and the turns are the same
 abbrev pub SameRun : {V : Type 0} → Values V → List Access → List ℕ → List ℕ → Type 0

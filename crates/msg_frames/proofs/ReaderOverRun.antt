@@ -5,8 +5,15 @@ use Rattle.std.proofs.lemmas.{Bool.cases_Bool, Grind.flat_map-append}
 use Rattle.msg_buffer.specs.Prelude.{GoesOn, History}
 use Rattle.msg_system.specs.Prelude.{Step}
 use Rattle.msg_world.specs.{Prelude.Values, Prelude.WorldState, Prelude.after_update, declared.record.Record.Record}
-use Rattle.msg_frames.specs.{Frames.turn_order, Prelude.Frame, Prelude.IsSoundState, Prelude.Moment, Prelude.RunsAreComplete, Prelude.State, Prelude.Totals, Prelude.after_posts, Prelude.before_turns, Prelude.found_at, Prelude.frame, Prelude.join_flags, Prelude.moments, Prelude.moments_at, Prelude.post_steps, Prelude.reader_place, Prelude.run, Prelude.totals_from, Prelude.turns_steps}
-use Rattle.msg_frames.proofs.{BeforeTurns.Prepares, BeforeTurns.comes, BeforeTurns.prepares, BeforeTurns.stood, BeforeTurns.waits, EntriesAddUp.with_entries-none, HistoriesGrow.goes_further, HistoriesGrow.stays, ReaderOverJob.moments_of, ReaderOverJob.passes_nothing, ReaderOverJob.steps_of, ReaderOverTurns.ReadsFrom, ReaderOverTurns.reads_further, ReaderOverTurns.steps_of-append, ReaderOverTurns.turns_moments, ReaderOverTurns.turns_read, ReaderOverTurns.turns_skip, StatesStaySound.joined_alike, StatesStaySound.frame_sound, StatesStaySound.has_no_turn, StatesStaySound.prepared_sound, SystemsStay.turns_keep, TellsEachOnce.are_true, TellsEachOnce.tells_once, TellsEachOnce.tiles_rise, WrittenOnce.run_writes}
+use Rattle.msg_frames.specs.Frames.{turn_order}
+use Rattle.msg_frames.specs.Prelude.{Frame, IsSoundState, Moment, RunsAreComplete, State, Totals, after_posts, before_turns, found_at, frame, join_flags, moments, moments_at, post_steps, reader_place, run, totals_from, turns_steps}
+use Rattle.msg_frames.proofs.{EntriesAddUp.with_entries-none, SystemsStay.turns_keep, WrittenOnce.run_writes}
+use Rattle.msg_frames.proofs.BeforeTurns.{Prepares, comes, prepares, stood, waits}
+use Rattle.msg_frames.proofs.HistoriesGrow.{goes_further, stays}
+use Rattle.msg_frames.proofs.ReaderOverJob.{moments_of, passes_nothing, steps_of}
+use Rattle.msg_frames.proofs.ReaderOverTurns.{ReadsFrom, reads_further, steps_of-append, turns_moments, turns_read, turns_skip}
+use Rattle.msg_frames.proofs.StatesStaySound.{joined_alike, frame_sound, has_no_turn, prepared_sound}
+use Rattle.msg_frames.proofs.TellsEachOnce.{are_true, tells_once, tiles_rise}
 
 module _ {V : Type 0} {values : Values V} where
   -- what the host posts goes past nothing

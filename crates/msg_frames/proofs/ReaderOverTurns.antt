@@ -5,7 +5,9 @@ use Rattle.msg_buffer.specs.Prelude.{History, IsSound, count}
 use Rattle.msg_system.specs.{Prelude.Step, Prelude.after_job, declared.reply.Reply.Reply}
 use Rattle.msg_frames.specs.Prelude.{Member, Moment, State, Totals, Turn, after_turn_of, after_turns_of, member_after, moments_at, reader_place, replies_of, turn_of, turns_steps, with_entries}
 use Rattle.msg_order.proofs.Elements.{Contains-head, Contains-tail}
-use Rattle.msg_frames.proofs.{EntriesAddUp.with_entries-append, EntriesAddUp.with_entries-none, HistoriesGrow.Grows, HistoriesGrow.grown, HistoriesGrow.job_changes, HistoriesGrow.stays, ReaderOverJob.Passes, ReaderOverJob.by_system, ReaderOverJob.entries_are, ReaderOverJob.job_passes, ReaderOverJob.moments_of, ReaderOverJob.passes_further, ReaderOverJob.passes_nothing, ReaderOverJob.steps_of}
+use Rattle.msg_frames.proofs.EntriesAddUp.{with_entries-append, with_entries-none}
+use Rattle.msg_frames.proofs.HistoriesGrow.{Grows, grown, job_changes, stays}
+use Rattle.msg_frames.proofs.ReaderOverJob.{Passes, by_system, entries_are, job_passes, moments_of, passes_further, passes_nothing, steps_of}
 use Rattle.msg_world.specs.{Prelude.Values, declared.record.Record.Record}
 
 -- Reader (i, t), which was given so much, goes past these moments from a place in a history on, up to a state.

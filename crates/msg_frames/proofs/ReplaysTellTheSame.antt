@@ -1,6 +1,11 @@
 -- Logs that tell the same tell each system the same.
 use Rattle.std.proofs.Common.{All, AllPairs, Bool, Contains, IsPermutation, List, [], arith, eqb, false, flat_map, if◌then◌else◌, inl, inr, map, refl, suc, ℕ, ◌==◌, ◌∷◌, ◌≡◌, ◌≢◌}
-use Rattle.std.proofs.lemmas.{Bool.cases_Bool, Bool.eqb-true, Bool.Decides.Decides-eqb, Bool.Decides.eqb_tells, List.append-nil, List.get_or-map, List.length-map, List.Folds.list_any_none, List.Sorted.Contains-permutation, List.Sorted.IsPermutation-map, List.Sorted.IsPermutation-sym, List.Sorted.list_any-IsPermutation, Map.Keys.IsDistinct-IsPermutation, Map.Made.AllPairs-from_IsDistinct, Map.Made.IsDistinct-from_AllPairs}
+use Rattle.std.proofs.lemmas.{List.Folds.list_any_none, Map.Keys.IsDistinct-IsPermutation}
+use Rattle.std.proofs.lemmas.Bool.{cases_Bool, eqb-true}
+use Rattle.std.proofs.lemmas.Bool.Decides.{Decides-eqb, eqb_tells}
+use Rattle.std.proofs.lemmas.List.{append-nil, get_or-map, length-map}
+use Rattle.std.proofs.lemmas.List.Sorted.{Contains-permutation, IsPermutation-map, IsPermutation-sym, list_any-IsPermutation}
+use Rattle.std.proofs.lemmas.Map.Made.{AllPairs-from_IsDistinct, IsDistinct-from_AllPairs}
 use Rattle.msg_frames.specs.{Frames.turn_order, Prelude.Frame, Prelude.Log, Prelude.ReplaysTellTheSame, Prelude.State, Prelude.TellsTheSame, Prelude.Turn, Prelude.before_turns, Prelude.frame, Prelude.replies_of}
 use Rattle.msg_frames.proofs.{ElementsAndPairs.pairs_tail, FramesInOrder.in_that_order, ReaderOverTurns.answers_among, StatesStaySound.has_one_turn}
 use Rattle.msg_order.proofs.Elements.{Contains-cases, Contains-list_any, not_in_none}

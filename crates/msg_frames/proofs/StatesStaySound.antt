@@ -2,9 +2,14 @@
 use Rattle.std.proofs.Common.{AllPairs, Contains, IsFalse, List, [], ap, arith, length, map, ℕ, ◌-◌, ◌<◌, ◌∷◌, ◌≡◌, ◌≢◌}
 use Rattle.msg_order.specs.Prelude.{has_joined}
 use Rattle.std.proofs.lemmas.{Bool.false≢true, List.FromFn.length-range_with_len}
-use Rattle.msg_frames.specs.{Frames.settled_order, Frames.turn_order, Prelude.FrameStaysSound, Prelude.IsBalanced, Prelude.IsSoundState, Prelude.Member, Prelude.Moment, Prelude.RunStaysSound, Prelude.SameSystems, Prelude.State, Prelude.after_turns_of, Prelude.before_turns, Prelude.counts, Prelude.frame, Prelude.join_flags, Prelude.joined_member, Prelude.reader_place}
+use Rattle.msg_frames.specs.Frames.{settled_order, turn_order}
+use Rattle.msg_frames.specs.Prelude.{FrameStaysSound, IsBalanced, IsSoundState, Member, Moment, RunStaysSound, SameSystems, State, after_turns_of, before_turns, counts, frame, join_flags, joined_member, reader_place}
 use Rattle.msg_order.proofs.Functions.{turns_differ, turns_joined}
-use Rattle.msg_frames.proofs.{BeforeTurns.Prepares, BeforeTurns.begun_within, BeforeTurns.comes, BeforeTurns.prepares, BeforeTurns.stood, BeforeTurns.waits, EntriesAddUp.all_told, HistoriesGrow.counts_more, ReaderOverTurns.Reads, ReaderOverTurns.turns_moments, ReaderOverTurns.turns_read, ReaderOverTurns.turns_skip, SystemsStay.joined_below, SystemsStay.joined_stay, SystemsStay.no_cycle_stays, SystemsStay.turns_keep, SystemsStay.uses_stay, TellsEachOnce.tells_once, TellsEachOnce.tiles_rise}
+use Rattle.msg_frames.proofs.{EntriesAddUp.all_told, HistoriesGrow.counts_more}
+use Rattle.msg_frames.proofs.BeforeTurns.{Prepares, begun_within, comes, prepares, stood, waits}
+use Rattle.msg_frames.proofs.ReaderOverTurns.{Reads, turns_moments, turns_read, turns_skip}
+use Rattle.msg_frames.proofs.SystemsStay.{joined_below, joined_stay, no_cycle_stays, turns_keep, uses_stay}
+use Rattle.msg_frames.proofs.TellsEachOnce.{tells_once, tiles_rise}
 use Rattle.msg_world.specs.Prelude.{Values}
 
 module _ {V : Type 0} {values : Values V} where

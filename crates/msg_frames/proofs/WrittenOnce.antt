@@ -4,8 +4,11 @@ use Rattle.std.specs.List.{enumerate_from}
 use Rattle.std.proofs.lemmas.{Bool.cases_Bool, Bool.Decides.eqb_tells, Grind.flat_map-append, List.length-map, List.map-append}
 use Rattle.msg_buffer.specs.Prelude.{Entry, History, count, has_room, stamped, write}
 use Rattle.msg_world.specs.{Prelude.Values, Prelude.WorldState, Prelude.after_update, Prelude.by, declared.record.Record.Record, declared.record.TheConstants.HOST}
-use Rattle.msg_system.specs.{Prelude.AfterOp, Prelude.AfterProgram, Prelude.Job, Prelude.Meaning, Prelude.Step, Prelude.after_at_most, Prelude.after_job, Prelude.after_op, Prelude.again_by, Prelude.next_op, Prelude.one_more, Prelude.took, Prelude.turn, declared.limits.TheConstants.MAX_OPS, declared.op.Op.Op, declared.op.Op.TheVariants.Batch, declared.op.Op.TheVariants.Drain, declared.op.Op.TheVariants.Forward, declared.op.Op.TheVariants.Write}
-use Rattle.msg_frames.specs.{Frames.turn_order, Prelude.Frame, Prelude.IsSoundState, Prelude.IsWrittenOnce, Prelude.State, Prelude.after_posts, Prelude.after_turn_of, Prelude.after_turns_of, Prelude.all_written, Prelude.before_turns, Prelude.frame, Prelude.post_steps, Prelude.run, Prelude.turns_steps, Prelude.wrote}
+use Rattle.msg_system.specs.{declared.limits.TheConstants.MAX_OPS, declared.op.Op.Op}
+use Rattle.msg_system.specs.declared.op.Op.TheVariants.{Batch, Drain, Forward, Write}
+use Rattle.msg_system.specs.Prelude.{AfterOp, AfterProgram, Job, Meaning, Step, after_at_most, after_job, after_op, again_by, next_op, one_more, took, turn, wrote}
+use Rattle.msg_frames.specs.Frames.{turn_order}
+use Rattle.msg_frames.specs.Prelude.{Frame, IsSoundState, IsWrittenOnce, State, after_posts, after_turn_of, after_turns_of, all_written, before_turns, frame, post_steps, run, turns_steps}
 use Rattle.msg_order.proofs.Elements.{Contains-head, Contains-tail}
 use Rattle.msg_frames.proofs.{BeforeTurns.prepares, ReaderOverJob.by_system, StatesStaySound.frame_sound, StatesStaySound.prepared_sound, StatesStaySound.turn_below, SystemsStay.joining_world, SystemsStay.one_turn_keeps}
 

@@ -4,7 +4,10 @@ use Rattle.msg_order.specs.Prelude.{has_joined}
 use Rattle.std.specs.List.{range_with_len}
 use Rattle.msg_buffer.specs.Prelude.{History, IsPresent, count}
 use Rattle.msg_world.specs.{Prelude.Values, declared.record.Record.Record}
-use Rattle.msg_frames.specs.{Entries.ReadEntry, Entries.numbers_missed, Entries.numbers_passed, Entries.numbers_told, Entries.totals_from, Entries.with_entries, Frames.State, Frames.join_flags, Frames.run, Moments.Moment, Moments.found_at, Moments.moments, Moments.reader_place, Steps.IsWrittenOnce, declared.frame.Frame.Frame}
+use Rattle.msg_frames.specs.{Steps.IsWrittenOnce, declared.frame.Frame.Frame}
+use Rattle.msg_frames.specs.Entries.{ReadEntry, numbers_missed, numbers_passed, numbers_told, totals_from, with_entries}
+use Rattle.msg_frames.specs.Frames.{State, join_flags, run}
+use Rattle.msg_frames.specs.Moments.{Moment, found_at, moments, reader_place}
 
 -- ---- what an entry says
 

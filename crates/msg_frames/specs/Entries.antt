@@ -1,10 +1,11 @@
 -- What the replies of a system tell of its readers: what each read and each clear went past. A
 -- reader is a system and a type that it reads.
-use Rattle.std.specs.Prelude.{Bool, List, None, Option, Some, [], false, flat_map, if◌then◌else◌, is_some, length, option_to_list, ℕ, ◌++◌, ◌+◌, ◌-◌}
+use Rattle.std.specs.Prelude.{Bool, List, None, Option, Some, [], false, flat_map, if◌then◌else◌, is_some, length, option_map, option_to_list, ℕ, ◌++◌, ◌+◌, ◌-◌}
 use Rattle.std.specs.List.{range_with_len}
+use Rattle.std.specs.Option.{option_or}
 use Rattle.msg_buffer.specs.Prelude.{Stretch}
 use Rattle.msg_world.specs.{Prelude.Values, Prelude.same_part, declared.part.Part.TheVariants.OfType, declared.record.Record.Record}
-use Rattle.msg_system.specs.{Prelude.Step, Prelude.op_parts, declared.op.Op.Op, declared.reply.Reply.Reply, declared.reply.Reply.TheVariants.Cleared, declared.reply.Reply.TheVariants.Forwarded, declared.reply.Reply.TheVariants.Read, declared.reply.Reply.TheVariants.Summed, declared.reply.Took.Took}
+use Rattle.msg_system.specs.{Prelude.Step, Prelude.op_parts, Prelude.reply_took, declared.op.Op.Op, declared.reply.Reply.Reply, declared.reply.Reply.TheVariants.Cleared, declared.reply.Took.Took}
 use Rattle.msg_frames.specs.declared.totals.Totals.{Totals}
 
 -- What a reader went past by one op, and the messages that it was given; None if it cleared them.
@@ -20,17 +21,18 @@ module _ {V : Type 0} where
     given = Some took.items;
   }
 
-  -- the entry that a reply tells of; an op that only asks or writes goes past nothing
-  abbrev pub entry_of : Reply V → Option (ReadEntry V)
-  entry_of (Read took) = Some (entry_of_read took)
-  entry_of (Forwarded took wrote) = Some (entry_of_read took)
-  entry_of (Summed took value) = Some (entry_of_read took)
-  entry_of (Cleared missed first n) =
+  -- the entry of a clear
+  abbrev pub entry_of_clear : Reply V → Option (ReadEntry V)
+  entry_of_clear (Cleared missed first n) =
       Some (record {
         stretch = record { missed = missed; first = first; number = n };
         given = None;
       })
-  entry_of _ = None
+  entry_of_clear _ = None
+
+  -- the entry that a reply tells of; an op that only asks or writes goes past nothing
+  abbrev pub entry_of : Reply V → Option (ReadEntry V)
+  entry_of reply = option_or (option_map entry_of_read (reply_took reply)) (entry_of_clear reply)
 
   -- the op reads the type
   abbrev pub op_reads_type : ℕ → Op V → Bool

@@ -1,11 +1,17 @@
 -- A frame, and frames one after the other.
-use Rattle.std.specs.Prelude.{Bool, IsTrue, List, None, Option, Some, [], if◌then◌else◌, length, map, max, nat_le, nat_lt, suc, ℕ, ◌&&◌, ◌++◌, ◌<◌, ◌==◌, ◌||◌, ◌∷◌, ◌≡◌}
+use Rattle.std.specs.Prelude.{Bool, List, None, Option, Some, [], if◌then◌else◌, length, map, max, nat_le, nat_lt, suc, ℕ, ◌&&◌, ◌++◌, ◌<◌, ◌==◌, ◌||◌, ◌∷◌, ◌≡◌}
 use Rattle.std.specs.List.{list_any, range_with_len}
 use Rattle.msg_buffer.specs.Prelude.{count, write}
-use Rattle.msg_world.specs.{Prelude.HasPart, Prelude.Values, Prelude.WorldState, Prelude.after_update, Prelude.by, Prelude.with_history, declared.access.Access.Access, declared.limits.TheConstants.MAX_RESOURCES, declared.limits.TheConstants.MAX_TYPES, declared.part.Part.Part, declared.part.Part.TheVariants.OfResource, declared.part.Part.TheVariants.OfType, declared.part.Part.TheVariants.Registry, declared.record.TheConstants.HOST}
+use Rattle.msg_world.specs.{declared.access.Access.Access, declared.part.Part.Part, declared.record.TheConstants.HOST}
+use Rattle.msg_world.specs.Prelude.{Values, WorldState, after_update, by, with_history}
+use Rattle.msg_world.specs.declared.limits.TheConstants.{MAX_RESOURCES, MAX_TYPES}
+use Rattle.msg_world.specs.declared.part.Part.TheVariants.{OfResource, OfType, Registry}
 use Rattle.msg_order.specs.{Prelude.Graph, Prelude.access_of, Prelude.settled, Prelude.turns, declared.rule.Rule.Rule}
-use Rattle.msg_system.specs.{Prelude.AfterJob, Prelude.IsAccessOf, Prelude.Job, Prelude.Needs, Prelude.Step, Prelude.after_job, Prelude.after_start, Prelude.asked_started, Prelude.needs_any, Prelude.numbers_for, Prelude.with_conditions, Prelude.write_reply, declared.op.Op.TheVariants.Write, declared.reply.Reply.Reply}
-use Rattle.msg_frames.specs.{Entries.entries_at, Entries.totals_from, Entries.with_entries, declared.frame.Frame.Frame, declared.log.Log.Log, declared.log.Outcome.Outcome, declared.log.Outcome.TheVariants.Ran, declared.log.Outcome.TheVariants.Skipped, declared.log.Turn.Turn, declared.totals.Totals.Totals}
+use Rattle.msg_system.specs.{declared.op.Op.TheVariants.Write, declared.reply.Reply.Reply}
+use Rattle.msg_system.specs.Prelude.{AfterJob, FitsWorld, IsAccessOf, Job, Needs, Step, after_job, after_start, asked_started, needs_any, numbers_for, with_conditions, write_reply}
+use Rattle.msg_frames.specs.{declared.frame.Frame.Frame, declared.log.Log.Log, declared.log.Outcome.Outcome, declared.log.Turn.Turn, declared.totals.Totals.Totals}
+use Rattle.msg_frames.specs.Entries.{entries_at, totals_from, with_entries}
+use Rattle.msg_frames.specs.declared.log.Outcome.TheVariants.{Ran, Skipped}
 
 -- One system of a state: its job with all cursors, the frame that it joins with (with 1 it joins
 -- before any), and of each type what it got, missed and cleared.
@@ -220,8 +226,8 @@ module _ {V : Type 0} {values : Values V} where
 
   -- each system needs only parts that a world may have
   abbrev pub UsesParts : State values → Type 0
-  UsesParts s = (i : ℕ) → i < s.systems → (p : Part)
-      → IsTrue (needs_any (member_needs (s.members i)) p) → HasPart MAX_TYPES MAX_RESOURCES p
+  UsesParts s = (i : ℕ) → i < s.systems
+      → FitsWorld MAX_TYPES MAX_RESOURCES (member_needs (s.members i))
 
 module _ {V : Type 0} where
   -- the systems in the order in which the log has their turns

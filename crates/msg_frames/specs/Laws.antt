@@ -1,6 +1,10 @@
 -- What holds of turns, of frames and of every run. Each law is the contract of a function in
 -- src/laws.rt; that frames keep the systems is that of one in msg_laws.
-use Rattle.msg_frames.specs.{CompleteRun.IsCompleteRun, FirstState.IsNew, FirstState.before_joining, FirstState.default_system, FirstState.first_state, Frames.AreAccessesOf, Frames.Member, Frames.State, Frames.UsesParts, Frames.after_joining, Frames.after_turns_of, Frames.before_turns, Frames.frame, Frames.frame_in, Frames.logged_turn, Frames.member_after, Frames.run, Frames.turn_of, Frames.with_joining, Replays.IsLawfulFor, Replays.TellsTheSame, Soundness.IsSoundState, Soundness.NoCycle, Steps.answers_in, declared.frame.Frame.Frame, declared.log.Log.Log, declared.place.Place.Place}
+use Rattle.msg_frames.specs.{CompleteRun.IsCompleteRun, Steps.answers_in, declared.frame.Frame.Frame, declared.log.Log.Log, declared.place.Place.Place}
+use Rattle.msg_frames.specs.FirstState.{IsNew, before_joining, default_system, first_state}
+use Rattle.msg_frames.specs.Frames.{AreAccessesOf, Member, State, UsesParts, after_joining, after_turns_of, before_turns, frame, frame_in, logged_turn, member_after, run, turn_of, with_joining}
+use Rattle.msg_frames.specs.Replays.{IsLawfulFor, TellsTheSame}
+use Rattle.msg_frames.specs.Soundness.{IsSoundState, NoCycle}
 use Rattle.msg_buffer.specs.Prelude.{IsSound}
 use Rattle.msg_order.specs.{Order.access_of, Prelude.NoneConflict, declared.rule.Rule.Rule}
 use Rattle.msg_system.specs.Prelude.{Meaning, conditions_of}

@@ -7,7 +7,7 @@ pub use Rattle.msg_frames.specs.Frames.{post_steps, turns_steps, AfterFrame, Aft
 pub use Rattle.msg_frames.specs.Laws.{AreNew, BatchesRunSideBySide, FirstIsSound, FrameKeeps, FrameStaysSound, FramesAgreeInLawfulOrders, FramesKeepSystems, ReplaysTellTheSame, RunStaysSound, RunsAreComplete, SameMember, SameSystems, all_home, home, with_member}
 pub use Rattle.msg_frames.specs.Replays.{IsLawfulFor, TellsTheSame}
 pub use Rattle.msg_frames.specs.Soundness.{IsBalanced, IsSoundState, NoCycle}
-pub use Rattle.msg_frames.specs.Steps.{IsWrittenOnce, all_written, answers_in, replies_of, told, wrote}
+pub use Rattle.msg_frames.specs.Steps.{IsWrittenOnce, all_written, answers_in, replies_of, told}
 pub use Rattle.msg_frames.specs.Moments.{GivesItsStretch, Moment, found_at, messages_of, moments, moments_at, reader_place}
 unfoldable pub use Rattle.msg_frames.specs.Frames.{parts, settled_order, turn_order}
 pub use Rattle.msg_frames.specs.LogEntries.{entries_for, entries_told, ops_by}

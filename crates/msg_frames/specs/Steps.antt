@@ -1,21 +1,12 @@
 -- The steps of a run: each op and each post as it was done, and what they wrote.
 use Rattle.std.specs.List.{enumerate_from}
-use Rattle.std.specs.Prelude.{List, Some, [], flat_map, if◌then◌else◌, map, ℕ, ◌++◌, ◌==◌, ◌∷◌, ◌≡◌}
+use Rattle.std.specs.Prelude.{List, [], flat_map, if◌then◌else◌, map, ℕ, ◌++◌, ◌==◌, ◌∷◌, ◌≡◌}
 use Rattle.msg_buffer.specs.Prelude.{History}
-use Rattle.msg_world.specs.{Prelude.Values, Prelude.WorldState, Prelude.by, declared.record.Record.Record}
-use Rattle.msg_system.specs.{Prelude.Step, Prelude.again_by, declared.op.Op.Op, declared.op.Op.TheVariants.Batch, declared.op.Op.TheVariants.Forward, declared.op.Op.TheVariants.Write, declared.reply.Reply.Reply, declared.reply.Reply.TheVariants.Forwarded, declared.reply.Reply.TheVariants.Wrote}
+use Rattle.msg_world.specs.{Prelude.Values, Prelude.WorldState, declared.record.Record.Record}
+use Rattle.msg_system.specs.{Prelude.Step, Prelude.wrote, declared.reply.Reply.Reply}
 use Rattle.msg_frames.specs.{declared.log.Log.Log, declared.log.Outcome.Outcome, declared.log.Outcome.TheVariants.Ran, declared.log.Outcome.TheVariants.Skipped}
 
 -- ---- what was written
-
-module _ {V : Type 0} where
-  -- what an op of system i that was answered so wrote to type t, each message with its number
-  abbrev pub wrote : ℕ → ℕ → Op V → Reply V → List (ℕ × Record V)
-  wrote t i (Write u v) (Wrote n) = if u == t then enumerate_from n.first (by i v ∷ []) else []
-  wrote t i (Batch u vs) (Wrote n) = if u == t then enumerate_from n.first (map (by i) vs) else []
-  wrote t i (Forward a u) (Forwarded took (Some n)) =
-      if u == t then enumerate_from n.first (again_by i took.items) else []
-  wrote t i _ _ = []
 
 module _ {V : Type 0} {values : Values V} where
   -- the messages that steps tell were written to type t

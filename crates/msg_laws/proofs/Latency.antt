@@ -4,12 +4,22 @@ use Rattle.std.proofs.lemmas.{Bool.cases_Bool, Bool.false≢true, Bool.Decides.e
 use Rattle.std.specs.List.{enumerate_from}
 use Rattle.msg_buffer.specs.Prelude.{GoesOn, count}
 use Rattle.msg_world.specs.{Prelude.Values, Prelude.WorldState, Prelude.after_update, declared.record.Record.Record}
-use Rattle.msg_system.specs.Prelude.{Step}
+use Rattle.msg_system.specs.Prelude.{Step, wrote}
 use Rattle.msg_order.specs.Prelude.{Path, has_joined}
 use Rattle.msg_order.proofs.Elements.{Contains-cases, Contains-flat_map, Contains-head, Contains-range, Contains-tail, filter-Contains, flat_map-Contains, map-Contains, not_in_none}
-use Rattle.msg_frames.proofs.{BeforeTurns.Prepares, BeforeTurns.begun_within, BeforeTurns.comes, BeforeTurns.prepares, BeforeTurns.stood, BeforeTurns.waits, ElementsAndPairs.Cut, ElementsAndPairs.cut, ElementsAndPairs.pairs_head, ElementsAndPairs.pairs_right, LawfulOrdersAgree.lawful_forward, ReaderOverRun.run_follows, ReaderOverRun.runs_are_complete, ReaderOverTurns.turns_read, StatesStaySound.joined_alike, StatesStaySound.frame_sound, StatesStaySound.prepared_sound, StatesStaySound.turn_below, SystemsStay.frame_keeps, SystemsStay.turns_keep, WrittenOnce.before_writes, WrittenOnce.run_writes, WrittenOnce.turns_write, WrittenOnce.written_further}
-use Rattle.msg_frames.specs.{Frames.settled_order, Frames.turn_order, Prelude.IsSoundState, Prelude.IsTrueEntry, Prelude.IsWrittenOnce, Prelude.Moment, Prelude.State, Prelude.after_turn_of, Prelude.after_turns_of, Prelude.before_turns, Prelude.entries_in_run, Prelude.found_at, Prelude.frame, Prelude.join_flags, Prelude.moments, Prelude.numbers_missed, Prelude.post_steps, Prelude.reader_place, Prelude.run, Prelude.told, Prelude.turn_of, Prelude.turns_steps, Prelude.wrote, declared.frame.Frame.Frame}
-use Rattle.msg_laws.proofs.{OrderOfTurns.are_ordered, ReadersStayUpToDate.caught_up, ReadersStayUpToDate.frame_recent, ReadersStayUpToDate.has_frame_before, ReadersStayUpToDate.is_there, ReadersStayUpToDate.joined_by_turn, ReadersStayUpToDate.new_recent, StampsStayRecent.AreRecent, StampsStayRecent.earlier_recent, WritersInOrder.below_count}
+use Rattle.msg_frames.proofs.{LawfulOrdersAgree.lawful_forward, ReaderOverTurns.turns_read}
+use Rattle.msg_frames.proofs.BeforeTurns.{Prepares, begun_within, comes, prepares, stood, waits}
+use Rattle.msg_frames.proofs.ElementsAndPairs.{Cut, cut, pairs_head, pairs_right}
+use Rattle.msg_frames.proofs.ReaderOverRun.{run_follows, runs_are_complete}
+use Rattle.msg_frames.proofs.StatesStaySound.{joined_alike, frame_sound, prepared_sound, turn_below}
+use Rattle.msg_frames.proofs.SystemsStay.{frame_keeps, turns_keep}
+use Rattle.msg_frames.proofs.WrittenOnce.{before_writes, run_writes, turns_write, written_further}
+use Rattle.msg_frames.specs.declared.frame.Frame.{Frame}
+use Rattle.msg_frames.specs.Frames.{settled_order, turn_order}
+use Rattle.msg_frames.specs.Prelude.{IsSoundState, IsTrueEntry, IsWrittenOnce, Moment, State, after_turn_of, after_turns_of, before_turns, entries_in_run, found_at, frame, join_flags, moments, numbers_missed, post_steps, reader_place, run, told, turn_of, turns_steps}
+use Rattle.msg_laws.proofs.{OrderOfTurns.are_ordered, WritersInOrder.below_count}
+use Rattle.msg_laws.proofs.ReadersStayUpToDate.{caught_up, frame_recent, has_frame_before, is_there, joined_by_turn, new_recent}
+use Rattle.msg_laws.proofs.StampsStayRecent.{AreRecent, earlier_recent}
 use Rattle.msg_laws.specs.Prelude.{AllReadersHaveItNext, HasTaken, LaterReadersHaveItAtOnce, NothingDrained, told_to}
 
 -- ---- the numbers that are told

@@ -1,6 +1,7 @@
 -- What the logs of a run tell of a reader is what it went past.
 use Rattle.msg_frames.proofs.{EntriesOfSteps.job_logged, ReaderOverJob.entries_are, ReaderOverRun.run_further, ReaderOverTurns.answers_among, ReaderOverTurns.own_moments, ReaderOverTurns.turns_further, ReaderOverTurns.turns_moments, SystemsStay.before_keeps, SystemsStay.one_turn_keeps}
-use Rattle.msg_frames.specs.{Frames.turn_order, Prelude.Moment, Prelude.State, Prelude.after_turn_of, Prelude.after_turns_of, Prelude.answers_in, Prelude.before_turns, Prelude.entries_told, Prelude.frame, Prelude.logged_turn, Prelude.moments, Prelude.outcome_of, Prelude.replies_of, Prelude.run, declared.frame.Frame.Frame}
+use Rattle.msg_frames.specs.{Frames.turn_order, declared.frame.Frame.Frame}
+use Rattle.msg_frames.specs.Prelude.{Moment, State, after_turn_of, after_turns_of, answers_in, before_turns, entries_told, frame, logged_turn, moments, outcome_of, replies_of, run}
 use Rattle.msg_laws.specs.Prelude.{LogsTellEntries}
 use Rattle.msg_system.specs.{Prelude.Job, Prelude.Needs, Prelude.Rule, Prelude.after_job, declared.reply.Reply.Reply}
 use Rattle.msg_world.specs.Prelude.{Values, WorldState}

@@ -4,7 +4,12 @@ use Rattle.std.proofs.lemmas.{Bool.Decides.eqb_tells, List.Elements.All-contains
 use Rattle.msg_buffer.specs.Prelude.{GoesOn, count}
 use Rattle.msg_system.specs.Prelude.{after_job}
 use Rattle.msg_world.specs.Prelude.{Values}
-use Rattle.msg_frames.proofs.{BatchesSideBySide.turns_then_more, BeforeTurns.Prepares, BeforeTurns.prepares, ElementsAndPairs.all_middle, ElementsAndPairs.pairs_head, ElementsAndPairs.pairs_middle, ElementsAndPairs.pairs_right, HistoriesGrow.Grows, HistoriesGrow.goes_further, HistoriesGrow.grown, HistoriesGrow.turns_change, ReaderOverTurns.Reads, ReaderOverTurns.turns_moments, ReaderOverTurns.turns_read, ReaderOverTurns.turns_skip, StatesStaySound.has_one_turn, StatesStaySound.prepared_sound}
+use Rattle.msg_frames.proofs.BatchesSideBySide.{turns_then_more}
+use Rattle.msg_frames.proofs.BeforeTurns.{Prepares, prepares}
+use Rattle.msg_frames.proofs.ElementsAndPairs.{all_middle, pairs_head, pairs_middle, pairs_right}
+use Rattle.msg_frames.proofs.HistoriesGrow.{Grows, goes_further, grown, turns_change}
+use Rattle.msg_frames.proofs.ReaderOverTurns.{Reads, turns_moments, turns_read, turns_skip}
+use Rattle.msg_frames.proofs.StatesStaySound.{has_one_turn, prepared_sound}
 use Rattle.msg_frames.specs.{Frames.turn_order, Prelude.AfterTurns, Prelude.IsSoundState, Prelude.State, Prelude.after_turn_of, Prelude.after_turns_of, Prelude.before_turns, Prelude.frame, Prelude.logged_turn, Prelude.reader_place, declared.frame.Frame.Frame, declared.log.Turn.Turn}
 
 module _ {V : Type 0} {values : Values V} (f : Frame V) (s : State values) (i : ℕ) (earlier later : List ℕ)

@@ -1,11 +1,22 @@
 -- A reader that reads all in each frame is up to date, and so it misses nothing.
 use Rattle.std.proofs.Common.{All, Contains, IsTrue, List, [], arith, get_or, inl, inr, map, refl, suc, ℕ, ◌++◌, ◌<◌, ◌∷◌, ◌≡◌, ◌≢◌, ◌≤◌}
 use Rattle.msg_order.specs.Prelude.{has_joined}
-use Rattle.std.proofs.lemmas.{Bool.cases_Bool, Bool.cases_eq, Bool.false≢true, Bool.Decides.nat_tests, List.append-nil, List.Elements.All-append, List.Elements.All-cons, List.Elements.All-head, List.Elements.All-map, List.Elements.All-nil, List.Elements.All-tail, Option.same_Some, Option.slice_get_cases, Option.slice_get_within}
+use Rattle.std.proofs.lemmas.{Bool.Decides.nat_tests, List.append-nil}
+use Rattle.std.proofs.lemmas.Bool.{cases_Bool, cases_eq, false≢true}
+use Rattle.std.proofs.lemmas.List.Elements.{All-append, All-cons, All-head, All-map, All-nil, All-tail}
+use Rattle.std.proofs.lemmas.Option.{same_Some, slice_get_cases, slice_get_within}
 use Rattle.msg_buffer.specs.Prelude.{Fits, GoesOn, History, IsPresent, Stretch, Tile, count, next_place, update}
 use Rattle.msg_world.specs.{Prelude.Values, Prelude.after_update, declared.record.Record.Record}
-use Rattle.msg_frames.proofs.{BeforeTurns.Prepares, BeforeTurns.prepares, ElementsAndPairs.Cut, ElementsAndPairs.cut, HistoriesGrow.Grows, HistoriesGrow.counts_more, HistoriesGrow.frame_goes_on, HistoriesGrow.grown, HistoriesGrow.posts_change, HistoriesGrow.stays, HistoriesGrow.turns_change, ReaderOverJob.IsWritten, ReaderOverJob.tile_of, ReaderOverRun.run_further, ReaderOverTurns.turns_moments, ReaderOverTurns.turns_read, StatesStaySound.joined_alike, StatesStaySound.frame_sound, StatesStaySound.has_no_turn, StatesStaySound.prepared_sound, SystemsStay.frame_keeps, SystemsStay.joining_world, SystemsStay.turns_keep}
-use Rattle.msg_frames.specs.{Frames.turn_order, Prelude.IsSoundState, Prelude.Moment, Prelude.State, Prelude.after_joining, Prelude.after_turns_of, Prelude.before_turns, Prelude.frame, Prelude.join_flags, Prelude.moments, Prelude.reader_place, Prelude.run, declared.frame.Frame.Frame, declared.log.Outcome.TheVariants.Skipped}
+use Rattle.msg_frames.proofs.ReaderOverRun.{run_further}
+use Rattle.msg_frames.proofs.BeforeTurns.{Prepares, prepares}
+use Rattle.msg_frames.proofs.ElementsAndPairs.{Cut, cut}
+use Rattle.msg_frames.proofs.HistoriesGrow.{Grows, counts_more, frame_goes_on, grown, posts_change, stays, turns_change}
+use Rattle.msg_frames.proofs.ReaderOverJob.{IsWritten, tile_of}
+use Rattle.msg_frames.proofs.ReaderOverTurns.{turns_moments, turns_read}
+use Rattle.msg_frames.proofs.StatesStaySound.{joined_alike, frame_sound, has_no_turn, prepared_sound}
+use Rattle.msg_frames.proofs.SystemsStay.{frame_keeps, joining_world, turns_keep}
+use Rattle.msg_frames.specs.{Frames.turn_order, declared.frame.Frame.Frame, declared.log.Outcome.TheVariants.Skipped}
+use Rattle.msg_frames.specs.Prelude.{IsSoundState, Moment, State, after_joining, after_turns_of, before_turns, frame, join_flags, moments, reader_place, run}
 use Rattle.msg_laws.proofs.{OneTurn.goes_to_turn, OneTurn.in_log, OneTurn.job_left, OneTurn.within_turn, ReadersTakeAll.job_takes, StampsStayRecent.AreRecent, StampsStayRecent.StaysRecent, StampsStayRecent.earlier_recent, StampsStayRecent.stays_recent}
 use Rattle.msg_laws.specs.Prelude.{IsUpToDate, ListsOnlyGrow, NothingDrained, ReadsAll, ReadsAllInEach, WhoIsUpToDateMissesNothing, WhoReadsEachFrameMissesNothing}
 

@@ -1,6 +1,7 @@
 -- The steps of a run have the replies of its logs.
 use Rattle.msg_frames.proofs.ReaderOverJob.{by_system}
-use Rattle.msg_frames.specs.{Frames.turn_order, Prelude.State, Prelude.after_posts, Prelude.after_turn_of, Prelude.after_turns_of, Prelude.before_turns, Prelude.frame, Prelude.outcome_of, Prelude.post_replies, Prelude.post_steps, Prelude.replies_of, Prelude.turns_steps, declared.frame.Frame.Frame, declared.log.Turn.Turn}
+use Rattle.msg_frames.specs.{Frames.turn_order, declared.frame.Frame.Frame, declared.log.Turn.Turn}
+use Rattle.msg_frames.specs.Prelude.{State, after_posts, after_turn_of, after_turns_of, before_turns, frame, outcome_of, post_replies, post_steps, replies_of, turns_steps}
 use Rattle.msg_laws.specs.Prelude.{AreAnswered}
 use Rattle.msg_system.specs.{Prelude.AfterProgram, Prelude.Job, Prelude.Meaning, Prelude.Step, Prelude.after_at_most, Prelude.after_job, Prelude.next_op, Prelude.one_more, Prelude.turn, declared.limits.TheConstants.MAX_OPS, declared.op.Op.Op, declared.reply.Reply.Reply}
 use Rattle.msg_world.specs.{Prelude.Values, Prelude.WorldState, Prelude.after_update, declared.record.TheConstants.HOST}

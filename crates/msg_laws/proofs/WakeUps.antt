@@ -8,8 +8,11 @@ use Rattle.msg_buffer.proofs.{Presence.not_present, Unread.length-unread}
 use Rattle.msg_world.specs.{Prelude.Values, Prelude.WorldState, declared.record.Record.Record}
 use Rattle.msg_system.specs.{Prelude.Asked, Prelude.Job, Prelude.after_job, Prelude.all_hold, declared.condition.Probe.TheVariants.OnMessage}
 use Rattle.msg_frames.proofs.{BeforeTurns.prepares, ElementsAndPairs.Cut, ElementsAndPairs.cut, HistoriesGrow.counts_more, ReaderOverRun.run_further, SystemsStay.no_cycle_stays}
-use Rattle.msg_frames.specs.{Frames.turn_order, Prelude.IsSoundState, Prelude.State, Prelude.after_turns_of, Prelude.before_turns, Prelude.frame, Prelude.join_flags, Prelude.moments, Prelude.outcome_of, Prelude.reader_place, Prelude.run, declared.frame.Frame.Frame, declared.log.Outcome.TheVariants.Skipped}
-use Rattle.msg_laws.proofs.{OneTurn.goes_from_turn, OneTurn.goes_to_turn, OneTurn.in_log, OneTurn.job_left, OneTurn.member_found, OneTurn.within_turn, ProgramsReadAll.has_turn, ReadersStayUpToDate.Between, ReadersStayUpToDate.NoneMissed, ReadersStayUpToDate.all_there, ReadersStayUpToDate.between, ReadersStayUpToDate.frame_misses_none, ReadersStayUpToDate.joined_by_turn, ReadersStayUpToDate.past_frame, ReadersTakeAll.job_takes}
+use Rattle.msg_frames.specs.{Frames.turn_order, declared.frame.Frame.Frame, declared.log.Outcome.TheVariants.Skipped}
+use Rattle.msg_frames.specs.Prelude.{IsSoundState, State, after_turns_of, before_turns, frame, join_flags, moments, outcome_of, reader_place, run}
+use Rattle.msg_laws.proofs.{ProgramsReadAll.has_turn, ReadersTakeAll.job_takes}
+use Rattle.msg_laws.proofs.OneTurn.{goes_from_turn, goes_to_turn, in_log, job_left, member_found, within_turn}
+use Rattle.msg_laws.proofs.ReadersStayUpToDate.{Between, NoneMissed, all_there, between, frame_misses_none, joined_by_turn, past_frame}
 use Rattle.msg_laws.specs.Prelude.{IsSkipped, IsUpToDate, IsWokenBy, NoWakeUpIsLost, NothingDrained, NothingUnread, ReadsAllIfWoken, ReadsAllWhenWoken, WhoIsWokenStaysSo, WhoSleepsHasNothingUnread, reads_all}
 use Rattle.msg_order.proofs.Elements.{Contains-head}
 

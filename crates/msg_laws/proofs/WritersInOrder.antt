@@ -4,8 +4,8 @@ use Rattle.std.proofs.lemmas.{Bool.cases_Bool, Bool.Decides.eqb_tells, List.leng
 use Rattle.std.specs.List.{enumerate_from, range_with_len}
 use Rattle.msg_buffer.specs.Prelude.{Entry, History}
 use Rattle.msg_world.specs.{Prelude.Values, Prelude.by, declared.record.Record.Record}
-use Rattle.msg_system.specs.{Prelude.Step, declared.op.Op.Op, declared.op.Op.TheVariants.Batch, declared.op.Op.TheVariants.Forward, declared.op.Op.TheVariants.Write, declared.reply.Reply.Reply, declared.reply.Reply.TheVariants.Forwarded, declared.reply.Reply.TheVariants.Wrote}
-use Rattle.msg_frames.specs.Prelude.{IsTrueEntry, Moment, ReadEntry, all_written, message_numbered, moments, numbers_passed, run, told, wrote}
+use Rattle.msg_system.specs.{Prelude.Step, Prelude.wrote, declared.op.Op.Op, declared.op.Op.TheVariants.Batch, declared.op.Op.TheVariants.Forward, declared.op.Op.TheVariants.Write, declared.reply.Reply.Reply, declared.reply.Reply.TheVariants.Forwarded, declared.reply.Reply.TheVariants.Wrote}
+use Rattle.msg_frames.specs.Prelude.{IsTrueEntry, Moment, ReadEntry, all_written, message_numbered, moments, numbers_passed, run, told}
 use Rattle.msg_laws.proofs.OneFateEach.{Rising, is_increasing, rising_from}
 use Rattle.msg_laws.specs.Prelude.{WritersInOrder, numbered_given}
 use Rattle.msg_order.proofs.Elements.{Contains-cases, Contains-filter, Contains-flat_map, Contains-head, Contains-tail, flat_map-Contains, map-Contains, not_in_none}

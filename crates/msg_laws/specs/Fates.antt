@@ -5,7 +5,8 @@ use Rattle.std.specs.Prelude.{All, Contains, IsTrue, List, Some, [], filter, fla
 use Rattle.msg_buffer.specs.Prelude.{History, IsPresent, Tile, count}
 use Rattle.msg_world.specs.{Prelude.Values, declared.record.Record.Record}
 use Rattle.msg_system.specs.Prelude.{Meaning, Step}
-use Rattle.msg_frames.specs.{Prelude.GivesItsStretch, Prelude.IsCompleteRun, Prelude.IsServed, Prelude.IsSoundState, Prelude.Moment, Prelude.ReadEntry, Prelude.State, Prelude.answers_in, Prelude.entries_in_run, Prelude.entries_told, Prelude.found_at, Prelude.join_flags, Prelude.message_numbered, Prelude.moments, Prelude.numbers_cleared, Prelude.numbers_given, Prelude.numbers_missed, Prelude.reader_place, Prelude.run, Prelude.told, declared.frame.Frame.Frame, declared.log.Log.Log}
+use Rattle.msg_frames.specs.{declared.frame.Frame.Frame, declared.log.Log.Log}
+use Rattle.msg_frames.specs.Prelude.{GivesItsStretch, IsCompleteRun, IsServed, IsSoundState, Moment, ReadEntry, State, answers_in, entries_in_run, entries_told, found_at, join_flags, message_numbered, moments, numbers_cleared, numbers_given, numbers_missed, reader_place, run, told}
 
 -- ---- the entries that logs have
 

@@ -1,5 +1,6 @@
 -- What holds of readers over every run.
-use Rattle.msg_frames.specs.{Prelude.IsBalanced, Prelude.IsSoundState, Prelude.State, Prelude.entries_in_run, Prelude.first_state, Prelude.found_at, Prelude.join_flags, Prelude.no_totals, Prelude.reader_place, Prelude.replies_of, Prelude.run, Prelude.totals_from, Prelude.with_entries, declared.frame.Frame.Frame, declared.log.Log.Log, declared.place.Place.Place}
+use Rattle.msg_frames.specs.{declared.frame.Frame.Frame, declared.log.Log.Log, declared.place.Place.Place}
+use Rattle.msg_frames.specs.Prelude.{IsBalanced, IsSoundState, State, entries_in_run, first_state, found_at, join_flags, no_totals, reader_place, replies_of, run, totals_from, with_entries}
 use Rattle.msg_order.specs.Prelude.{has_joined}
 use Rattle.msg_order.specs.declared.rule.Rule.{Rule}
 use Rattle.msg_system.specs.{Prelude.Meaning, declared.reply.Reply.Reply}

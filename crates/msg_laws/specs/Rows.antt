@@ -2,7 +2,11 @@
 use Rattle.std.specs.Prelude.{◌≡◌, ℕ, suc, ℤ, pos, negsuc, List, [], ◌∷◌, ◌++◌, length, map, Some, None, refl}
 use Rattle.msg_world.specs.{Prelude.by, Prelude.held_world, Prelude.new_world, declared.record.Record.Record, declared.record.TheConstants.HOST, Prelude.i64_values}
 use Rattle.msg_order.specs.declared.rule.Rule.{Rule}
-use Rattle.msg_system.specs.{Prelude.Meaning, Prelude.new_system, Prelude.turn, declared.condition.Condition.Condition, declared.condition.Probe.TheVariants.OnMessage, declared.condition.Probe.TheVariants.ResourceEquals, declared.op.Op.Op, declared.op.Op.TheVariants.Write, declared.op.Op.TheVariants.Batch, declared.op.Op.TheVariants.Read, declared.op.Op.TheVariants.Len, declared.op.Op.TheVariants.Missed, declared.op.Op.TheVariants.Forward, declared.op.Op.TheVariants.Sum, declared.op.Op.TheVariants.Set, declared.op.Op.TheVariants.Add, declared.op.Op.TheVariants.Drain, declared.op.Op.TheVariants.Signal, declared.program.Program.Program, declared.reply.Reply.Reply, declared.reply.Took.Took, declared.start.Start.TheVariants.Zero, declared.start.Start.TheVariants.Current}
+use Rattle.msg_system.specs.{declared.condition.Condition.Condition, declared.op.Op.Op, declared.program.Program.Program, declared.reply.Reply.Reply, declared.reply.Took.Took}
+use Rattle.msg_system.specs.Prelude.{Meaning, new_system, turn}
+use Rattle.msg_system.specs.declared.condition.Probe.TheVariants.{OnMessage, ResourceEquals}
+use Rattle.msg_system.specs.declared.op.Op.TheVariants as op
+use Rattle.msg_system.specs.declared.start.Start.TheVariants.{Zero, Current}
 use Rattle.msg_system.specs.declared.reply.Reply.TheVariants as reply
 use Rattle.msg_frames.specs.{declared.log.Log.Log, declared.log.Outcome.TheVariants.Ran, declared.log.Outcome.TheVariants.Skipped, declared.log.Turn.Turn, declared.place.Place.Place, declared.totals.Totals.Totals}
 use Rattle.msg_frames.specs.Frames.{parts, settled_order, turn_order}
@@ -102,7 +106,7 @@ gave start got missed = record { start = Some start; got = got; missed = missed;
 -- ---- no frames: nothing is logged, and the reader stands at its start
 
 abbrev pub alone : State i64_values
-alone = setup (program (Read 0 None ∷ []) ∷ []) (always ∷ []) [] (10 ∷ []) []
+alone = setup (program (op.Read 0 None ∷ []) ∷ []) (always ∷ []) [] (10 ∷ []) []
 
 pub no_frames : ((run_of [] alone).logs ≡ []) × (totals_of (run_of [] alone).state 0 0 ≡ gave 0 0 0)
 unfolding turn turn_order settled_order parts
@@ -112,7 +116,7 @@ no_frames = (refl, refl)
 
 abbrev pub lag : AfterRun i64_values
 lag = run_of ([] ∷ [] ∷ [])
-    (setup (program (Read 0 None ∷ []) ∷ program (Write 0 (pos 5) ∷ []) ∷ [])
+    (setup (program (op.Read 0 None ∷ []) ∷ program (op.Write 0 (pos 5) ∷ []) ∷ [])
     (always ∷ always ∷ []) (record { earlier = 0; later = 1 } ∷ []) (10 ∷ []) (pos 0 ∷ []))
 
 pub one_frames_lag : (lag.logs ≡ log_of [] (did 0 (read_of 0 0 []) ∷ did 1 (wrote 0 1) ∷ [])
@@ -125,21 +129,21 @@ one_frames_lag = (refl, refl)
 
 abbrev pub fourth : List (Op ℤ) → AfterRun i64_values
 fourth ops = run_of (post (pos 10) ∷ post (pos 20) ∷ post (pos 30) ∷ [] ∷ [])
-    (setup (program (Add 0 (pos 1) ∷ []) ∷ program ops ∷ [])
+    (setup (program (op.Add 0 (pos 1) ∷ []) ∷ program ops ∷ [])
     (always ∷ asking (equals 0 (pos 4) ∷ []) ∷ []) [] (10 ∷ []) (pos 0 ∷ []))
 
-pub exactly_two_updates : ((fourth (Read 0 None ∷ [])).logs
+pub exactly_two_updates : ((fourth (op.Read 0 None ∷ [])).logs
     ≡ log_of (wrote 0 1 ∷ []) (did 0 (reply.Value (pos 1)) ∷ skipped 1 ∷ [])
     ∷ log_of (wrote 1 1 ∷ []) (did 0 (reply.Value (pos 2)) ∷ skipped 1 ∷ [])
     ∷ log_of (wrote 2 1 ∷ []) (did 0 (reply.Value (pos 3)) ∷ skipped 1 ∷ [])
     ∷ log_of [] (did 0 (reply.Value (pos 4)) ∷ did 1 (read_of 2 2 (by HOST (pos 30) ∷ [])) ∷ [])
-    ∷ []) × (totals_of (fourth (Read 0 None ∷ [])).state 1 0 ≡ gave 0 1 2)
+    ∷ []) × (totals_of (fourth (op.Read 0 None ∷ [])).state 1 0 ≡ gave 0 1 2)
 unfolding turn turn_order settled_order parts
 exactly_two_updates = (refl, refl)
 
 -- ---- a read of no messages goes past dropped ones
 
-pub read_of_none : (fourth (Read 0 (Some 0) ∷ Read 0 None ∷ [])).logs
+pub read_of_none : (fourth (op.Read 0 (Some 0) ∷ op.Read 0 None ∷ [])).logs
     ≡ log_of (wrote 0 1 ∷ []) (did 0 (reply.Value (pos 1)) ∷ skipped 1 ∷ [])
     ∷ log_of (wrote 1 1 ∷ []) (did 0 (reply.Value (pos 2)) ∷ skipped 1 ∷ [])
     ∷ log_of (wrote 2 1 ∷ []) (did 0 (reply.Value (pos 3)) ∷ skipped 1 ∷ [])
@@ -153,8 +157,8 @@ read_of_none = refl
 
 abbrev pub writers : AfterRun i64_values
 writers = run_of (post (pos 9) ∷ post (pos 8) ∷ [])
-    (setup (program (Write 0 (pos 1) ∷ []) ∷ program (Batch 0 (pos 2 ∷ pos 3 ∷ []) ∷ [])
-    ∷ program (Read 0 None ∷ []) ∷ []) (always ∷ always ∷ always ∷ []) [] (20 ∷ []) (pos 0 ∷ []))
+    (setup (program (op.Write 0 (pos 1) ∷ []) ∷ program (op.Batch 0 (pos 2 ∷ pos 3 ∷ []) ∷ [])
+    ∷ program (op.Read 0 None ∷ []) ∷ []) (always ∷ always ∷ always ∷ []) [] (20 ∷ []) (pos 0 ∷ []))
 
 -- what the reader gets of a frame, after the host's value
 abbrev pub of_three : ℤ → List (Record ℤ)
@@ -171,8 +175,9 @@ host_and_two_writers = refl
 -- ---- rules that go against the order of addition
 
 abbrev pub contrary : AfterRun i64_values
-contrary = run_of ([] ∷ []) (setup (program (Write 0 (pos 1) ∷ []) ∷ program (Write 1 (pos 2) ∷ [])
-    ∷ program (Read 1 None ∷ []) ∷ program (Read 0 None ∷ []) ∷ [])
+contrary = run_of ([] ∷ []) (setup (program (op.Write 0 (pos 1) ∷ [])
+    ∷ program (op.Write 1 (pos 2) ∷ [])
+    ∷ program (op.Read 1 None ∷ []) ∷ program (op.Read 0 None ∷ []) ∷ [])
     (always ∷ always ∷ always ∷ always ∷ [])
     (record { earlier = 3; later = 1 } ∷ record { earlier = 2; later = 0 } ∷ []) (10 ∷ 10 ∷ []) [])
 
@@ -186,7 +191,8 @@ contradictory_order = refl
 
 abbrev pub echo : AfterRun i64_values
 echo = run_of ([] ∷ post (pos 5) ∷ [] ∷ [])
-    (setup (program (Write 0 (pos 1) ∷ []) ∷ []) (asking (on_message 0 ∷ []) ∷ []) [] (9 ∷ []) [])
+    (setup (program (op.Write 0 (pos 1) ∷ []) ∷ [])
+    (asking (on_message 0 ∷ []) ∷ []) [] (9 ∷ []) [])
 
 pub own_message_asked : echo.logs
     ≡ log_of [] (skipped 0 ∷ []) ∷ log_of (wrote 0 1 ∷ []) (did 0 (wrote 1 1) ∷ [])
@@ -199,7 +205,7 @@ own_message_asked = refl
 
 abbrev pub two_conditions : AfterRun i64_values
 two_conditions = run_of (post (pos 1) ∷ [] ∷ post (pos 2) ∷ [])
-    (setup (program (Len 0 ∷ []) ∷ program (Set 0 (pos 1) ∷ []) ∷ [])
+    (setup (program (op.Len 0 ∷ []) ∷ program (op.Set 0 (pos 1) ∷ []) ∷ [])
     (asking (equals 0 (pos 1) ∷ on_message 0 ∷ []) ∷ always ∷ []) [] (9 ∷ []) (pos 0 ∷ []))
 
 pub all_conditions : two_conditions.logs
@@ -213,7 +219,8 @@ all_conditions = refl
 
 abbrev pub tally : AfterRun i64_values
 tally = run_of (((0, pos 1) ∷ (0, negsuc 4) ∷ []) ∷ [])
-    (setup (program (Sum 0 0 ∷ []) ∷ []) (always ∷ []) [] (9 ∷ []) (pos 9223372036854775807 ∷ []))
+    (setup (program (op.Sum 0 0 ∷ []) ∷ [])
+    (always ∷ []) [] (9 ∷ []) (pos 9223372036854775807 ∷ []))
 
 abbrev pub added : Took ℤ
 added = took_of 0 0 (by HOST (pos 1) ∷ by HOST (negsuc 4) ∷ [])
@@ -226,7 +233,8 @@ saturation = refl
 -- ---- systems that join with frame 3, one from the start of the list and one from its end
 
 abbrev pub late : State i64_values
-late = setup (program (Read 0 None ∷ []) ∷ record { ops = Read 0 None ∷ []; start = Current } ∷ [])
+late = setup (program (op.Read 0 None ∷ [])
+    ∷ record { ops = op.Read 0 None ∷ []; start = Current } ∷ [])
     (from_frame 3 ∷ from_frame 3 ∷ []) [] (10 ∷ []) (pos 0 ∷ [])
 
 abbrev pub early_frames : List (List (ℕ × ℤ))
@@ -251,7 +259,8 @@ late_systems = (refl, refl, refl, refl)
 
 abbrev pub gated : AfterRun i64_values
 gated = run_of (post (pos 1) ∷ [] ∷ [] ∷ [] ∷ []) (held
-    (setup (program (Add 0 (pos 1) ∷ []) ∷ program (Signal ∷ []) ∷ program (Len 0 ∷ []) ∷ [])
+    (setup (program (op.Add 0 (pos 1) ∷ []) ∷ program (op.Signal ∷ [])
+    ∷ program (op.Len 0 ∷ []) ∷ [])
     (always ∷ asking (differs 0 (pos 1) ∷ []) ∷ always ∷ []) [] (10 ∷ []) (pos 0 ∷ [])))
 
 pub held_updates : gated.logs
@@ -267,7 +276,8 @@ held_updates = refl
 
 abbrev pub signallers : AfterRun i64_values
 signallers = run_of (post (pos 1) ∷ [] ∷ [] ∷ []) (held
-    (setup (program (Signal ∷ Signal ∷ []) ∷ program (Signal ∷ []) ∷ program (Missed 0 ∷ []) ∷ [])
+    (setup (program (op.Signal ∷ op.Signal ∷ []) ∷ program (op.Signal ∷ [])
+    ∷ program (op.Missed 0 ∷ []) ∷ [])
     (always ∷ always ∷ always ∷ []) [] (10 ∷ []) []))
 
 -- the turns of a frame, in which so many messages were missed
@@ -284,8 +294,8 @@ several_signals = refl
 
 abbrev pub drained : AfterRun i64_values
 drained = run_of (((0, pos 1) ∷ (0, pos 2) ∷ []) ∷ post (pos 3) ∷ [])
-    (setup (program (Read 0 (Some 1) ∷ []) ∷ program (Drain 0 ∷ [])
-    ∷ program (Read 0 None ∷ []) ∷ []) (always ∷ always ∷ always ∷ []) [] (10 ∷ []) [])
+    (setup (program (op.Read 0 (Some 1) ∷ []) ∷ program (op.Drain 0 ∷ [])
+    ∷ program (op.Read 0 None ∷ []) ∷ []) (always ∷ always ∷ always ∷ []) [] (10 ∷ []) [])
 
 pub drain_between_readers : (drained.logs
     ≡ log_of (wrote 0 1 ∷ wrote 1 1 ∷ []) (
@@ -304,8 +314,8 @@ drain_between_readers = (refl, refl, refl)
 
 abbrev pub relay : AfterRun i64_values
 relay = run_of (((0, pos 1) ∷ (0, pos 2) ∷ []) ∷ post (pos 3) ∷ [])
-    (setup (program (Forward 0 1 ∷ []) ∷ program (Read 1 None ∷ []) ∷ []) (always ∷ always ∷ []) []
-    (10 ∷ 1 ∷ []) [])
+    (setup (program (op.Forward 0 1 ∷ []) ∷ program (op.Read 1 None ∷ []) ∷ [])
+    (always ∷ always ∷ []) [] (10 ∷ 1 ∷ []) [])
 
 pub forward_at_the_limit : (relay.logs
     ≡ log_of (wrote 0 1 ∷ wrote 1 1 ∷ []) (

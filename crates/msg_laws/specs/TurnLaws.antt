@@ -1,6 +1,8 @@
 -- What holds of turns, in other orders and by batches, and of frames. Each law is the contract of a
 -- function in src/turn_laws.rt.
-use Rattle.msg_frames.specs.{Frames.settled_order, Frames.turn_order, Prelude.AfterTurns, Prelude.AreAccessesOf, Prelude.NoCycle, Prelude.SameSystems, Prelude.State, Prelude.UsesParts, Prelude.after_turn_of, Prelude.after_turns_of, Prelude.all_home, Prelude.are_in_conflict, Prelude.join_flags, Prelude.logged_turn, Prelude.run, declared.frame.Frame.Frame}
+use Rattle.msg_frames.specs.declared.frame.Frame.{Frame}
+use Rattle.msg_frames.specs.Frames.{settled_order, turn_order}
+use Rattle.msg_frames.specs.Prelude.{AfterTurns, AreAccessesOf, NoCycle, SameSystems, State, UsesParts, after_turn_of, after_turns_of, all_home, are_in_conflict, join_flags, logged_turn, run}
 use Rattle.msg_buffer.specs.Prelude.{GoesOn, IsSound}
 use Rattle.msg_order.specs.{Order.AreBatches, Order.TellsConflicts, Order.access_of, Prelude.IsAcyclic, Prelude.IsLawfulOrder, Prelude.IsTurnOrder, Prelude.NoneConflict, Prelude.Path, Settled.batches, Settled.has_joined, Settled.settled}
 use Rattle.msg_world.specs.{Prelude.Conflict, Prelude.Values, declared.access.Access.Access}

@@ -4,7 +4,8 @@ use Rattle.msg_order.specs.Prelude.{has_joined}
 use Rattle.std.specs.List.{list_any}
 use Rattle.msg_buffer.specs.Prelude.{IsPresent, count, update}
 use Rattle.msg_system.specs.{Prelude.of_program, declared.limits.TheConstants.MAX_OPS, declared.op.Op.Op, declared.op.Op.TheVariants.Forward, declared.op.Op.TheVariants.Read, declared.op.Op.TheVariants.Sum, declared.program.Program.Program}
-use Rattle.msg_frames.specs.{Frames.turn_order, Prelude.IsSoundState, Prelude.NoCycle, Prelude.State, Prelude.after_turns_of, Prelude.before_turns, Prelude.entries_in_run, Prelude.frame, Prelude.join_flags, Prelude.reader_place, Prelude.run, declared.frame.Frame.Frame, declared.log.Outcome.TheVariants.Skipped}
+use Rattle.msg_frames.specs.{Frames.turn_order, declared.frame.Frame.Frame, declared.log.Outcome.TheVariants.Skipped}
+use Rattle.msg_frames.specs.Prelude.{IsSoundState, NoCycle, State, after_turns_of, before_turns, entries_in_run, frame, join_flags, reader_place, run}
 use Rattle.msg_world.specs.Prelude.{Values}
 
 module _ {V : Type 0} where

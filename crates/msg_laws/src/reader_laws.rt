@@ -1,5 +1,5 @@
 //! Laws of readers: facts that hold of every run of frames.
-ghost use Rattle.msg_laws.specs.Prelude.{AccountsBalance, AccountsBeginAtTheStart, AllAreAnswered, AllReadersHaveItNext, EachMeetsOneFate, LaterReadersHaveItAtOnce, LogsTellEntries, NoWakeUpIsLost, NoneBeforeJoining, ReadersTile, WhoIsUpToDateMissesNothing, WhoIsWokenStaysSo, WhoReadsAllCatchesUp, WhoReadsAllHasTheFrameBefore, WhoReadsAllIsUpToDate, WhoReadsEachFrameMissesNothing, WhoSleepsHasNothingUnread, WhoseProgramReadsAll, WhoseProgramReadsAllWhenWoken, WritersInOrder};
+ghost use Rattle.msg_laws.specs.Prelude as Spec;
 
 use msg_system::a_program_is_its_ops_in_order;
 use msg_world::Value;
@@ -7,34 +7,34 @@ use msg_world::Value;
 /// The replies of a run's steps are those of its logs.
 #[tactic(auto, using(crate::proofs::StepsAnswered::run_answered))]
 pub fn logs_have_the_replies<V: Value>()
-    ensures answered { AllAreAnswered V.values }
+    ensures answered { Spec.AllAreAnswered V.values }
 {}
 
 /// Each message that a complete run tells of was given, or cleared, or missed: one of these, and
 /// once. What is given of a writer is what the writer was told that it wrote, under that number and
 /// in that order. And the entries are what the logs tell.
 pub fn each_message_meets_one_fate<V: Value>()
-    ensures fate { EachMeetsOneFate V.values }
-    ensures writers { WritersInOrder V.values }
-    ensures logs { LogsTellEntries V.values }
+    ensures fate { Spec.EachMeetsOneFate V.values }
+    ensures writers { Spec.WritersInOrder V.values }
+    ensures logs { Spec.LogsTellEntries V.values }
 {}
 
 /// The reads and clears of each reader tile over a run.
 pub fn readers_tile_over_runs<V: Value>()
-    ensures law { ReadersTile V.values }
+    ensures law { Spec.ReadersTile V.values }
 {}
 
 /// A reader's totals lead from its start to its place. One that hasn't joined has none.
 pub fn accounts_add_up<V: Value>()
-    ensures balance { AccountsBalance V.values }
-    ensures before_joining { NoneBeforeJoining V.values }
+    ensures balance { Spec.AccountsBalance V.values }
+    ensures before_joining { Spec.NoneBeforeJoining V.values }
 {}
 
 /// From a first state on, the account of a reader counts all that its entries tell since its start,
 /// whether it joined before the first frame or later.
 #[tactic(auto, using(crate::proofs::ReaderLaws::accounts_begin))]
 pub fn accounts_begin_at_the_start<V: Value>()
-    ensures law { AccountsBeginAtTheStart V.values }
+    ensures law { Spec.AccountsBeginAtTheStart V.values }
 {}
 
 /// A system that reads a type without limit in each frame misses nothing of it after the first of
@@ -42,20 +42,20 @@ pub fn accounts_begin_at_the_start<V: Value>()
 /// past, all that had been written when the turn began; so what is written in one frame it has by
 /// the end of the next.
 pub fn who_reads_each_frame_misses_nothing<V: Value>()
-    ensures catches_up { WhoReadsAllCatchesUp V.values }
-    ensures frame_before { WhoReadsAllHasTheFrameBefore V.values }
-    ensures up_to_date { WhoReadsAllIsUpToDate V.values }
-    ensures next_frame { WhoIsUpToDateMissesNothing V.values }
-    ensures law { WhoReadsEachFrameMissesNothing V.values }
+    ensures catches_up { Spec.WhoReadsAllCatchesUp V.values }
+    ensures frame_before { Spec.WhoReadsAllHasTheFrameBefore V.values }
+    ensures up_to_date { Spec.WhoReadsAllIsUpToDate V.values }
+    ensures next_frame { Spec.WhoIsUpToDateMissesNothing V.values }
+    ensures law { Spec.WhoReadsEachFrameMissesNothing V.values }
 {}
 
 /// A system whose one condition is that a message of a type came, and which reads all of the type
 /// if it runs, loses no wake-up. If it was skipped, nothing was unread by it as its turn came. So
 /// if it is up to date, it misses nothing over a run, unless a system drains the type.
 pub fn no_wake_up_is_lost<V: Value>()
-    ensures sleeps { WhoSleepsHasNothingUnread V.values }
-    ensures woken { WhoIsWokenStaysSo V.values }
-    ensures law { NoWakeUpIsLost V.values }
+    ensures sleeps { Spec.WhoSleepsHasNothingUnread V.values }
+    ensures woken { Spec.WhoIsWokenStaysSo V.values }
+    ensures law { Spec.NoWakeUpIsLost V.values }
 {}
 
 /// What a system is told that it wrote in a frame, a reader that comes after it in the settled
@@ -63,15 +63,15 @@ pub fn no_wake_up_is_lost<V: Value>()
 /// and reads all in the next one, takes it by the end of that. It is missed only if the type is
 /// drained.
 pub fn what_is_written_is_read_in_time<V: Value>()
-    ensures at_once { LaterReadersHaveItAtOnce V.values }
-    ensures next { AllReadersHaveItNext V.values }
+    ensures at_once { Spec.LaterReadersHaveItAtOnce V.values }
+    ensures next { Spec.AllReadersHaveItNext V.values }
 {}
 
 /// A system whose program of at most `MAX_OPS` ops reads a type without limit does so if it runs;
 /// if it has joined and has no conditions, in each frame.
 pub fn programs_read_all<V: Value>()
-    ensures law { WhoseProgramReadsAll V.values }
-    ensures woken { WhoseProgramReadsAllWhenWoken V.values }
+    ensures law { Spec.WhoseProgramReadsAll V.values }
+    ensures woken { Spec.WhoseProgramReadsAllWhenWoken V.values }
 {
     a_program_is_its_ops_in_order::<V>();
 }

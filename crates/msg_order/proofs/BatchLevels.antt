@@ -4,7 +4,10 @@ use Rattle.std.specs.List.{Sorted.IsStrictlyIncreasing, range_with_len}
 use Rattle.std.proofs.lemmas.{Bool.cases_Bool, Bool.cases_eq, Bool.false_from_ne_true, List.Elements.All-cons, List.Filters.length-filter_both, List.FromFn.get_or-range_with_len, List.FromFn.length-range_with_len, List.Kept.IsStrictlyIncreasing-filter}
 use Rattle.msg_world.specs.declared.limits.TheConstants.{MAX_SYSTEMS}
 use Rattle.msg_order.specs.{Graph.path, Prelude.Graph, Prelude.IsAcyclic, Prelude.IsBatchNumber, Prelude.SystemSet, Prelude.batch_at, Prelude.batches_of, Prelude.follows, inner.Paths.ArePaths, inner.Paths.set_at, inner.SystemSet.has, inner.SystemSet.meets}
-use Rattle.msg_order.proofs.{Chains.Ends, Chains.ends_along, Chains.ends_at_most, Chains.ends_less, Chains.ends_number, Chains.number_ends, Elements.Contains-filter, Elements.Contains-list_any, Elements.Contains-range, Elements.filter-Contains, Elements.list_any-Contains, Elements.not_in_none, PathTest.edge_path, PathTest.no_path, PathTest.path_trans, PathTest.same_test, PathTest.to_Path, SystemSets.meets-found, SystemSets.meets-true}
+use Rattle.msg_order.proofs.Chains.{Ends, ends_along, ends_at_most, ends_less, ends_number, number_ends}
+use Rattle.msg_order.proofs.Elements.{Contains-filter, Contains-list_any, Contains-range, filter-Contains, list_any-Contains, not_in_none}
+use Rattle.msg_order.proofs.PathTest.{edge_path, no_path, path_trans, same_test, to_Path}
+use Rattle.msg_order.proofs.SystemSets.{meets-found, meets-true}
 
 filter_twice : (p q : ℕ → Bool) (xs : List ℕ) → filter q (filter p xs) ≡ filter (λ i. p i && q i) xs
 filter_twice p q [] = refl

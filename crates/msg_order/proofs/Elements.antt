@@ -1,7 +1,11 @@
 -- What stands in a list that was made from others.
 use Rattle.std.proofs.Common.{All, AllPairs, Bool, Contains, List, [], ap, arith, false, filter, flat_map, get_or, inl, inr, map, refl, suc, true, zero, ℕ, ◌++◌, ◌+◌, ◌-◌, ◌<◌, ◌∙◌, ◌∷◌, ◌≡◌, ◌≤◌, ◌⊎◌}
 use Rattle.std.specs.List.{concat, list_any, range_with_len}
-use Rattle.std.proofs.lemmas.{Bool.cases_Bool, List.append-nil, List.get_or-map, List.length-map, List.map-id, List.Elements.All-contains, List.Elements.All-contains_itself, List.Elements.All-filter, List.Elements.All-map, List.Elements.Contains-append_cases, List.Elements.Contains-append_left, List.Elements.Contains-append_right, List.Elements.Contains-get_or, List.Elements.filter-append, List.Elements.filter_passes, List.Folds.Any-from_list_any, List.Folds.list_any_at, List.FromFn.get_or-range_with_len, List.FromFn.length-range_with_len, List.FromFn.map-range_with_len_more}
+use Rattle.std.proofs.lemmas.Bool.{cases_Bool}
+use Rattle.std.proofs.lemmas.List.{append-nil, get_or-map, length-map, map-id}
+use Rattle.std.proofs.lemmas.List.Elements.{All-contains, All-contains_itself, All-filter, All-map, Contains-append_cases, Contains-append_left, Contains-append_right, Contains-get_or, filter-append, filter_passes}
+use Rattle.std.proofs.lemmas.List.Folds.{Any-from_list_any, list_any_at}
+use Rattle.std.proofs.lemmas.List.FromFn.{get_or-range_with_len, length-range_with_len, map-range_with_len_more}
 use Rattle.msg_order.specs.Prelude.{batch_at}
 
 module _ {X : Type 0} where

@@ -3,7 +3,10 @@ use Rattle.std.proofs.Common.{AllPairs, Bool, Contains, IsTrue, List, [], ap, ap
 use Rattle.std.specs.List.{concat, range_with_len}
 use Rattle.std.proofs.lemmas.{Bool.and_parts, Bool.cases_Bool, Bool.cases_eq, List.Elements.Contains-append_cases, List.FromFn.get_or-range_with_len, List.FromFn.length-range_with_len, List.Kept.AllPairs-filter}
 use Rattle.msg_order.specs.Prelude.{AreBatches, Graph, IsAcyclic, IsAmong, IsTurnOrder, batches, batches_of, follows, has_joined, turns}
-use Rattle.msg_order.proofs.{BatchLevels.AreFrom, BatchLevels.AreLeft, BatchLevels.few_left, BatchLevels.fewer_left, BatchLevels.from_more, BatchLevels.from_none, BatchLevels.left_next, BatchLevels.left_of, BatchLevels.level, BatchLevels.level_none, BatchLevels.levels_done, BatchLevels.levels_more, BatchLevels.next, BatchLevels.stops, Elements.filter-Contains, Elements.not_in_none, SetPaths.joined_in, TurnOrders.in_turn_order, TurnOrders.pairs_append}
+use Rattle.msg_order.proofs.SetPaths.{joined_in}
+use Rattle.msg_order.proofs.BatchLevels.{AreFrom, AreLeft, few_left, fewer_left, from_more, from_none, left_next, left_of, level, level_none, levels_done, levels_more, next, stops}
+use Rattle.msg_order.proofs.Elements.{filter-Contains, not_in_none}
+use Rattle.msg_order.proofs.TurnOrders.{in_turn_order, pairs_append}
 pub use Rattle.msg_order.proofs.SettledOrders.{settled_among, settled_no_cycle, settled_only, settled_orders}
 
 -- ---- batches

@@ -2,7 +2,9 @@
 use Rattle.std.proofs.Common.{Bool, Contains, List, arith, false, filter, length, map, refl, sym, true, ℕ, ◌<◌, ◌↔◌, ◌≡◌, ◌≤◌}
 use Rattle.std.specs.List.{range_with_len}
 use Rattle.std.proofs.lemmas.{Bool.cases_lt, Bool.false_from_ne_true, List.get_or_past, List.FromFn.fill_by_all, List.FromFn.get_or-map-range_with_len, List.FromFn.length-map-range_with_len}
-use Rattle.msg_order.specs.{Prelude.Graph, Prelude.IsAmong, Prelude.IsEdge, Prelude.IsLawfulOrder, Prelude.PlanView, Prelude.Rule, Prelude.SystemSet, Prelude.batches, Prelude.has_joined, Prelude.path, Prelude.plan_of, Prelude.settled, Prelude.square, inner.Paths.AreKept, inner.Paths.ArePaths, inner.Paths.IsSetOf, inner.Paths.comes_before, inner.Paths.view_of, inner.SystemSet.has}
+use Rattle.msg_order.specs.inner.SystemSet.{has}
+use Rattle.msg_order.specs.Prelude.{Graph, IsAmong, IsEdge, IsLawfulOrder, PlanView, Rule, SystemSet, batches, has_joined, path, plan_of, settled, square}
+use Rattle.msg_order.specs.inner.Paths.{AreKept, ArePaths, IsSetOf, comes_before, view_of}
 use Rattle.msg_order.proofs.{Chains.path_among, Elements.Contains-filter, Elements.Contains-flat_map, Elements.Contains-map, Elements.Contains-range, Elements.filter-Contains, PathTest.edge_path, PathTest.to_Path, SetPaths.joined_in, SettledOrders.settled_among, TurnOrders.kept_along}
 use Rattle.msg_world.specs.declared.limits.TheConstants.{MAX_SYSTEMS}
 

@@ -1,10 +1,19 @@
 -- The code's sets as the paths of a graph.
 use Rattle.std.proofs.Common.{Bool, IsFalse, IsTrue, List, MatchOption, None, Option, Some, [], arith, cond, false, get_or, length, map, refl, replicate, suc, sym, take, true, zero, ℕ, ◌&&◌, ◌++◌, ◌+◌, ◌-◌, ◌<◌, ◌==◌, ◌||◌, ◌↔◌, ◌∙◌, ◌∷◌, ◌≡◌, ◌≤◌}
 use Rattle.std.specs.List.{list_any, range_with_len}
-use Rattle.std.proofs.lemmas.{Bool.and_parts, Bool.cases_Bool, Bool.cases_eq, Bool.cases_lt, Bool.eq-eqb, Bool.eqb-true, Bool.false_from_ne_true, Bool.false≢true, Bool.or_cases, Bool.or_left, Bool.or_right, Bool.Decides.eqb_tells, List.append-nil, List.get_or-map, List.get_or-take, List.get_or_past, List.length-map, List.take-map, List.Elements.All-head, List.Elements.All-tail, List.Elements.Contains-append_left, List.Elements.Contains-push, List.Elements.Contains-push_cases, List.Elements.filter_more, Simd.get_or-replicate}
-use Rattle.msg_order.specs.{Graph.path, Prelude.Graph, Prelude.IsAcyclic, Prelude.IsLowestOnCycle, Prelude.NameSystemsBelow, Prelude.Rule, Prelude.SystemSet, Prelude.TellsConflicts, Prelude.edges_of, Prelude.has_joined, Prelude.rules_among, Prelude.settle, inner.Paths.AreInConflict, inner.Paths.ArePaths, inner.Paths.AreStarts, inner.Paths.comes_before, inner.Paths.conflict_among, inner.Paths.set_at, inner.SystemSet.has, inner.SystemSet.meets, inner.SystemSet.no_set}
+use Rattle.std.proofs.lemmas.{Bool.Decides.eqb_tells, Simd.get_or-replicate}
+use Rattle.std.proofs.lemmas.Bool.{and_parts, cases_Bool, cases_eq, cases_lt, eq-eqb, eqb-true, false_from_ne_true, false≢true, or_cases, or_left, or_right}
+use Rattle.std.proofs.lemmas.List.{append-nil, get_or-map, get_or-take, get_or_past, length-map, take-map}
+use Rattle.std.proofs.lemmas.List.Elements.{All-head, All-tail, Contains-append_left, Contains-push, Contains-push_cases, filter_more}
+use Rattle.msg_order.specs.Graph.{path}
+use Rattle.msg_order.specs.Prelude.{Graph, IsAcyclic, IsLowestOnCycle, NameSystemsBelow, Rule, SystemSet, TellsConflicts, edges_of, has_joined, rules_among, settle}
+use Rattle.msg_order.specs.inner.Paths.{AreInConflict, ArePaths, AreStarts, comes_before, conflict_among, set_at}
+use Rattle.msg_order.specs.inner.SystemSet.{has, meets, no_set}
 use Rattle.msg_world.specs.{declared.access.Access.Access, declared.limits.TheConstants.MAX_SYSTEMS}
-use Rattle.msg_order.proofs.{Elements.Contains-cases, Elements.Contains-list_any, Elements.Contains-range, Elements.Contains-tail, Elements.list_any-Contains, Elements.range-Contains, PathTest.no_Path, PathTest.path_trans, PathTest.same_paths, PathTest.same_test, PathTest.to_Path, SettledPairs.grown_paths, SettledPairs.pairs_until, SettledPairs.pairs_until-more, SettledPairs.reaches, SettledPairs.settle_append, SettledPairs.settle_row, SystemSets.has-no_set, SystemSets.meets-found, SystemSets.meets-true}
+use Rattle.msg_order.proofs.Elements.{Contains-cases, Contains-list_any, Contains-range, Contains-tail, list_any-Contains, range-Contains}
+use Rattle.msg_order.proofs.PathTest.{no_Path, path_trans, same_paths, same_test, to_Path}
+use Rattle.msg_order.proofs.SettledPairs.{grown_paths, pairs_until, pairs_until-more, reaches, settle_append, settle_row}
+use Rattle.msg_order.proofs.SystemSets.{has-no_set, meets-found, meets-true}
 
 -- past the last set there is none
 pub set_past : (before : List SystemSet) (j : ℕ) → length before ≤ j → set_at before j ≡ no_set

@@ -3,8 +3,13 @@ use Rattle.std.proofs.Common.{Bool, IsTrue, List, ap, arith, false, inl, inr, le
 use Rattle.std.proofs.lemmas.{Bool.and_from, Bool.and_parts, Bool.cases_Bool, Bool.cases_order, Bool.Decides.eqb_tells}
 use Rattle.msg_world.specs.{Prelude.Conflict, declared.access.Access.Access}
 use Rattle.msg_world.proofs.{Bits.share_bit-and, Conflicts.collides, Conflicts.conflicts_lem}
-use Rattle.msg_order.specs.{Prelude.ConflictingSystemsAreOrdered, Prelude.FewerSystemsMakeNoCycle, Prelude.Graph, Prelude.IsAcyclic, Prelude.IsAmong, Prelude.Path, Prelude.Rule, Prelude.TellsConflicts, Prelude.access_of, Prelude.edges_of, Prelude.has_joined, Prelude.pairs, Prelude.path, Prelude.rules_among, Prelude.settle, Prelude.settled, inner.Paths.conflict_among}
-use Rattle.msg_order.proofs.{Chains.path_grows, Elements.Contains-cases, Elements.Contains-filter, Elements.filter-Contains, PathTest.no_Path, PathTest.no_path, PathTest.path_trans, PathTest.same_test, PathTest.to_Path, SetPaths.joined_in, SetPaths.tells_among, SettledPairs.Contains-pairs, SettledPairs.pairs-Contains, SettledPairs.settle_covers, SettledPairs.settle_keeps}
+use Rattle.msg_order.specs.inner.Paths.{conflict_among}
+use Rattle.msg_order.specs.Prelude.{ConflictingSystemsAreOrdered, FewerSystemsMakeNoCycle, Graph, IsAcyclic, IsAmong, Path, Rule, TellsConflicts, access_of, edges_of, has_joined, pairs, path, rules_among, settle, settled}
+use Rattle.msg_order.proofs.Chains.{path_grows}
+use Rattle.msg_order.proofs.Elements.{Contains-cases, Contains-filter, filter-Contains}
+use Rattle.msg_order.proofs.PathTest.{no_Path, no_path, path_trans, same_test, to_Path}
+use Rattle.msg_order.proofs.SetPaths.{joined_in, tells_among}
+use Rattle.msg_order.proofs.SettledPairs.{Contains-pairs, pairs-Contains, settle_covers, settle_keeps}
 
 module _ (rules : List Rule) (joined : List Bool) (conflict : ℕ → ℕ → Bool) where
   -- it leads only among those that have joined

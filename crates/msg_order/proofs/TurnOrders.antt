@@ -1,7 +1,11 @@
 -- The batches one after the other are the turn order. It is lawful, and no two systems of a batch conflict.
 use Rattle.std.proofs.Common.{All, AllPairs, Bool, Contains, List, [], arith, get_or, length, length-append, suc, sym, ℕ, ◌++◌, ◌-◌, ◌<◌, ◌∙◌, ◌∷◌, ◌≡◌, ◌≢◌}
 use Rattle.std.specs.List.{concat}
-use Rattle.std.proofs.lemmas.{Bool.cases_lt, Bool.cases_order, Grind.get_or_default_zero, List.get_or-append_right, List.get_or_append_left, List.Elements.All-from_get_or, List.Elements.All-head, List.Elements.All-tail, List.Elements.Contains-get_or, List.Kept.AllPairs-from_increasing, Option.get_or_from_slice_get, Option.slice_get-get_or, Option.slice_get_within}
+use Rattle.std.proofs.lemmas.{Grind.get_or_default_zero, List.Kept.AllPairs-from_increasing}
+use Rattle.std.proofs.lemmas.Bool.{cases_lt, cases_order}
+use Rattle.std.proofs.lemmas.List.{get_or-append_right, get_or_append_left}
+use Rattle.std.proofs.lemmas.List.Elements.{All-from_get_or, All-head, All-tail, Contains-get_or}
+use Rattle.std.proofs.lemmas.Option.{get_or_from_slice_get, slice_get-get_or, slice_get_within}
 use Rattle.msg_world.specs.declared.access.Access.{Access}
 use Rattle.msg_order.specs.Prelude.{AreBatches, Graph, IsLawfulOrder, IsTurnOrder, NoneConflict, Path, Rule, RunsBefore, StandsBefore, TellsConflicts, TurnOrderIsLawful, batch_at, settled}
 use Rattle.msg_order.proofs.{Chains.edge_is_path, Chains.number_once, Chains.number_rises, Elements.Contains-concat, Elements.concat-Contains, SettledOrders.conflicts_ordered}

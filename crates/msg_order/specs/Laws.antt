@@ -1,7 +1,10 @@
 -- Laws of the settled order. Each is the contract of a function of the same name in src/laws.rt.
 use Rattle.std.specs.Prelude.{Bool, IsTrue, List, ℕ, ◌<◌, ◌≡◌, ◌≢◌, ◌⊎◌}
 use Rattle.msg_world.specs.{Prelude.Conflict, declared.access.Access.Access}
-use Rattle.msg_order.specs.{Graph.Graph, Graph.IsAcyclic, Graph.IsBatchNumber, Graph.Path, Order.AreBatches, Order.IsAmong, Order.IsLawfulOrder, Order.IsTurnOrder, Order.StandsBefore, Order.TellsConflicts, Order.access_of, Settled.batches, Settled.has_joined, Settled.rules_among, Settled.settled, Settled.turns, declared.rule.Rule.Rule}
+use Rattle.msg_order.specs.declared.rule.Rule.{Rule}
+use Rattle.msg_order.specs.Graph.{Graph, IsAcyclic, IsBatchNumber, Path}
+use Rattle.msg_order.specs.Order.{AreBatches, IsAmong, IsLawfulOrder, IsTurnOrder, StandsBefore, TellsConflicts, access_of}
+use Rattle.msg_order.specs.Settled.{batches, has_joined, rules_among, settled, turns}
 
 -- Rules that make no cycle among some systems make none among fewer of them.
 abbrev pub FewerSystemsMakeNoCycle : Type 0

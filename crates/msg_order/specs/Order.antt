@@ -8,9 +8,20 @@ use Rattle.msg_order.specs.{Graph.Graph, Graph.IsBatchNumber, Graph.IsEdge, Sett
 abbrev pub access_of : List Access → ℕ → Access
 access_of accesses i = slice_index_or accesses i no_access
 
+-- both systems of the rule are below n
+abbrev pub NamesBelow : ℕ → Rule → Type 0
+NamesBelow n rule = (rule.earlier < n) × (rule.later < n)
+
 -- the rules name systems below n
 abbrev pub NameSystemsBelow : ℕ → List Rule → Type 0
-NameSystemsBelow n rules = All (λ rule. (rule.earlier < n) × (rule.later < n)) rules
+NameSystemsBelow n rules = All (NamesBelow n) rules
+
+-- the first rule that names a system from n on
+pub record IsFirstUnknown (n : ℕ) (rules : List Rule) (rule : Rule) : Type 0 where
+  pub index : ℕ
+  pub is : slice_get rules index ≡ Some rule
+  pub unknown : ¬ NamesBelow n rule
+  pub first : (k : ℕ) (r : Rule) → k < index → slice_get rules k ≡ Some r → NamesBelow n r
 
 -- each edge leads from a joined system to a joined system
 abbrev pub IsAmong : List Bool → Graph → Type 0

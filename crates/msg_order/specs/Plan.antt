@@ -2,7 +2,11 @@
 use Rattle.std.specs.Prelude.{AllPairs, Bool, List, filter, flat_map, length, map, ℕ, ⊤, ◌≡◌}
 use Rattle.std.specs.List.{range_with_len}
 use Rattle.msg_world.specs.{Prelude.Conflict, declared.access.Access.Access}
-use Rattle.msg_order.specs.{Graph.Graph, Graph.IsLowestOnCycle, Graph.path, Order.TellsConflicts, Order.access_of, Settled.batches, Settled.settled, declared.plan_refusal.PlanRefusal.PlanRefusal, declared.plan_refusal.PlanRefusal.TheVariants.Cycle, declared.plan_refusal.PlanRefusal.TheVariants.NoMemory, declared.rule.Rule.Rule}
+use Rattle.msg_order.specs.{declared.plan_refusal.PlanRefusal.PlanRefusal, declared.rule.Rule.Rule}
+use Rattle.msg_order.specs.Graph.{Graph, IsLowestOnCycle, path}
+use Rattle.msg_order.specs.Order.{TellsConflicts, access_of}
+use Rattle.msg_order.specs.Settled.{batches, settled}
+use Rattle.msg_order.specs.declared.plan_refusal.PlanRefusal.TheVariants.{Cycle, NoMemory}
 
 -- What callers see of a plan: which systems have joined, each pair of systems of which the first
 -- precedes the second, and the batches.

@@ -14,4 +14,4 @@ mod users;
 pub use cycles::lowest_on_cycle;
 pub use plan::Plan;
 pub use plan_refusal::PlanRefusal;
-pub use rule::Rule;
+pub use rule::{Rule, first_unknown};

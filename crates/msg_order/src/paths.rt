@@ -1,6 +1,9 @@
 // The paths of a growing graph: before each system those from which a path leads to it.
 ghost use Rattle.std.specs.Prelude.{◌≡◌, ◌==◌, ◌||◌, ◌&&◌, ℕ, ◌<◌, ◌≤◌, ◌↔◌, [], true, false, length, nat_le, IsTrue, IsFalse, MatchOption};
-ghost use Rattle.msg_order.specs.{Prelude.Graph, Prelude.IsAcyclic, Prelude.IsLowestOnCycle, Prelude.NameSystemsBelow, Prelude.rules_among, inner.Paths.AreInConflict, inner.Paths.ArePaths, inner.Paths.AreSettled, inner.Paths.AreStarts, inner.Paths.comes_before, inner.Paths.set_at, inner.SystemSet.has, inner.SystemSet.meets, inner.Users.AreUsers};
+ghost use Rattle.msg_order.specs.Prelude.{Graph, IsAcyclic, IsLowestOnCycle, NameSystemsBelow, rules_among};
+ghost use Rattle.msg_order.specs.inner.Paths.{AreInConflict, ArePaths, AreSettled, AreStarts, comes_before, set_at};
+ghost use Rattle.msg_order.specs.inner.SystemSet.{has, meets};
+ghost use Rattle.msg_order.specs.inner.Users.{AreUsers};
 
 use crate::Rule;
 use crate::system_set::SystemSet;

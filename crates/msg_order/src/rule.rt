@@ -1,4 +1,5 @@
-ghost use Rattle.std.specs.Prelude.{◌≡◌};
+ghost use Rattle.std.specs.Prelude.{◌≡◌, IfNone, IfSome};
+ghost use Rattle.msg_order.specs.Order.{IsFirstUnknown, NameSystemsBelow};
 
 /// One system runs before another. Systems are named by their number, by order of addition.
 #[derive(Clone, Copy, Debug, PartialEq, Eq)]
@@ -29,4 +30,17 @@ impl Rule {
             later: system,
         }
     }
+}
+
+/// The first rule that names a system which isn't among so many; None if there is no such rule.
+pub fn first_unknown(systems: usize, rules: &[Rule]) -> Option<Rule>
+    ensures unknown { IfSome result (IsFirstUnknown systems rules.now) }
+    ensures named { IfNone result (NameSystemsBelow systems rules.now) }
+{
+    for rule in rules {
+        if rule.earlier as usize >= systems || rule.later as usize >= systems {
+            return Some(*rule);
+        }
+    }
+    None
 }

@@ -2,10 +2,9 @@
 use Rattle.std.proofs.Common.{◌≡◌, ℕ, ℤ, ◌+◌, ◌≤◌, ◌<◌, List, length, refl, Option, Some, Ok, arith, All, IfOk, IsTrue, option_and_then}
 use Rattle.std.proofs.lemmas.{Grind.common_steps, Result.IfOk-at_ok}
 use Rattle.serde_json.specs.{Data.Data, Data.number, Data.unsigned, Find.as_i64}
-use Rattle.msg_world.specs.{declared.part.Part.Part, Prelude.HasPart}
-use Rattle.msg_system.specs.Prelude.{job_needs, needs_any}
+use Rattle.msg_system.specs.Prelude.{FitsWorld, job_needs}
 use Rattle.msg_system.specs.{declared.condition.Condition.Condition, declared.op.Op.Op}
-use Rattle.msg_order.specs.Prelude.{IsAcyclic, NameSystemsBelow, edges_of}
+use Rattle.msg_order.specs.Prelude.{IsAcyclic, NameSystemsBelow, NamesBelow, edges_of}
 use Rattle.msg_frames.specs.declared.frame.Frame.{Frame}
 use Rattle.msg_json.specs.Prelude.{Reading, at_key, elements, in_element, in_item, in_key, in_part, known_keys, limit, not_negative, number_of, only_below, whole}
 use Rattle.msg_text.specs.Prelude.{Text}
@@ -19,7 +18,7 @@ use Rattle.msg_reading.specs.declared.limits.TheConstants.{MAX_CONDITIONS, MAX_F
 use Rattle.msg_reading.specs.ScenarioFormat as Spec
 use Rattle.msg_reading.specs.Prelude.{Declared, NoneClash, frames_of, held_of, resources_of, rules_of, scenario_of, systems_of, types_of}
 use Rattle.msg_reading.proofs.FitsOfReadings.{in_then, list_fits, of_found, of_wanted, within}
-use Rattle.msg_reading.proofs.WhatIsUsedIsThere.{ConditionFits, HasNames, IsBelow, OpFits, condition_fits, job_fits, op_fits, post_fits, rule_fits}
+use Rattle.msg_reading.proofs.WhatIsUsedIsThere.{ConditionFits, HasNames, OpFits, condition_fits, job_fits, op_fits, post_fits, rule_fits}
 
 -- ---- types and resources
 
@@ -52,7 +51,7 @@ resource_fits t names k d has =
 pub record SystemFits (t r : ℕ) (x : SystemSpec) : Type 0 where
   pub few_ops : length x.program.ops ≤ MAX_OPS
   pub fit_kind : IsTrue (fits_kind x.kind x.program.ops)
-  pub fits : (p : Part) → IsTrue (needs_any (job_needs x.program.ops x.place.conditions) p) → HasPart t r p
+  pub fits : FitsWorld t r (job_needs x.program.ops x.place.conditions)
   pub joins : (1 ≤ x.place.join) × (x.place.join ≤ LAST_JOIN)
 
 -- elements that declare no name leave the names as they were
@@ -137,10 +136,10 @@ system_fits t r names n d has =
 
 rules_fit : (t r n : ℕ) (names : Declared) (d : Data) → HasNames t r n names
     → IfOk (Spec.each_of MAX_RULES Spec.rule_at names d)
-    (λ x. All (IsBelow n) x.0 × (length x.0 ≤ MAX_RULES) × HasNames t r n x.1)
-rules_fit t r n names d has = list_fits Spec.rule_at (IsBelow n) (λ k. HasNames t r n)
-    (λ m k e h. kept (IsBelow n) (HasNames t r n) m (in_element k (Spec.rule_of m e)) h
-    (within (IsBelow n) (step.Element k) (Spec.rule_of m e) (rule_fits t r n m h e))) MAX_RULES names d has
+    (λ x. All (NamesBelow n) x.0 × (length x.0 ≤ MAX_RULES) × HasNames t r n x.1)
+rules_fit t r n names d has = list_fits Spec.rule_at (NamesBelow n) (λ k. HasNames t r n)
+    (λ m k e h. kept (NamesBelow n) (HasNames t r n) m (in_element k (Spec.rule_of m e)) h
+    (within (NamesBelow n) (step.Element k) (Spec.rule_of m e) (rule_fits t r n m h e))) MAX_RULES names d has
 
 abbrev FrameFits : ℕ → Frame ℤ → Type 0
 FrameFits t frame = All (λ p. p.0 < t) frame.posts

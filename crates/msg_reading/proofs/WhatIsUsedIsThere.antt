@@ -4,9 +4,9 @@ use Rattle.std.proofs.lemmas.{Bool.eqb-true, List.Elements.All-head, List.Elemen
 use Rattle.std.specs.{List.list_any, Str.bytes_eq}
 use Rattle.serde_json.specs.Data.{Data}
 use Rattle.msg_world.specs.{declared.part.Part.Part, Prelude.HasPart}
-use Rattle.msg_system.specs.Prelude.{is_part, job_needs, needs_any, op_parts, probe_part}
+use Rattle.msg_system.specs.Prelude.{FitsWorld, is_part, job_needs, op_parts, probe_part}
 use Rattle.msg_system.specs.{declared.condition.Condition.Condition, declared.condition.Probe.Probe, declared.op.Op.Op}
-use Rattle.msg_order.specs.declared.rule.Rule.{Rule}
+use Rattle.msg_order.specs.Prelude.{NamesBelow}
 use Rattle.msg_json.specs.Prelude.{Reading, elements, headed, in_nots, in_part, only_below, text_in, whole, ◌>>=◌}
 use Rattle.msg_text.specs.Prelude.{Text}
 use Rattle.msg_json.specs.declared.location.Step.TheVariants as step
@@ -47,7 +47,7 @@ module _ (T R : ℕ) where
 
   -- so a job needs nothing else
   pub job_fits : (ops : List (Op ℤ)) (cs : List (Condition ℤ)) → All OpFits ops → All ConditionFits cs
-      → (p : Part) → IsTrue (needs_any (job_needs ops cs) p) → Has p
+      → FitsWorld T R (job_needs ops cs)
   job_fits ops cs ops_fit cs_fit p h =
       let read = some_there (λ op. (op_parts op).read) ops p (All-weaker OpFits _ (λ op fits. fits.0) ops ops_fit) in
       let written = some_there (λ op. (op_parts op).written) ops p
@@ -55,10 +55,6 @@ module _ (T R : ℕ) where
       grind (arith, read, written, some_there (λ c. Some (probe_part c.probe)) cs p cs_fit)
 
 -- ---- ops and conditions
-
--- both systems of a rule are among so many
-abbrev pub IsBelow : ℕ → Rule → Type 0
-IsBelow n rule = (rule.earlier < n) × (rule.later < n)
 
 below_there : (o : Option ℕ) (end : ℕ) → (n : ℕ) → option_and_then (only_below end) o ≡ Some n → o ≡ Some n
 below_there o end n h = grind arith
@@ -209,10 +205,10 @@ module _ (T R n : ℕ) (names : Declared) (of : HasNames T R n names) where
 
   -- ---- rules
 
-  pub rule_fits : (d : Data) → IfOk (Spec.rule_of names d) (IsBelow n)
+  pub rule_fits : (d : Data) → IfOk (Spec.rule_of names d) (NamesBelow n)
   rule_fits d =
-      in_then (IsBelow n) (Spec.two (elements d)) _ (λ pair _.
-      in_then (IsBelow n) (Spec.two_texts 0 pair.0 pair.1) _ (λ p _.
-      in_then (IsBelow n) (in_part 0 (Spec.system_named names p.0)) _ (λ i is.
-      in_then (IsBelow n) (in_part 1 (Spec.system_named names p.1)) _ (λ j at.
+      in_then (NamesBelow n) (Spec.two (elements d)) _ (λ pair _.
+      in_then (NamesBelow n) (Spec.two_texts 0 pair.0 pair.1) _ (λ p _.
+      in_then (NamesBelow n) (in_part 0 (Spec.system_named names p.0)) _ (λ i is.
+      in_then (NamesBelow n) (in_part 1 (Spec.system_named names p.1)) _ (λ j at.
       (here_system 0 p.0 i is, here_system 1 p.1 j at)))))

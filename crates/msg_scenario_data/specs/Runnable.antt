@@ -1,9 +1,9 @@
 -- The state that an engine of a scenario begins in, and what every scenario that was read keeps to.
 use Rattle.std.specs.Prelude.{◌≤◌, ◌<◌, IsTrue, All, Bool, true, false, List, [], ◌∷◌, length, map, if◌then◌else◌, ℤ}
 use Rattle.std.specs.List.{enumerate_from}
-use Rattle.msg_world.specs.{declared.part.Part.Part, Prelude.HasPart, Prelude.WorldState, Prelude.held_world, Prelude.new_world, Prelude.i64_values}
+use Rattle.msg_world.specs.{Prelude.WorldState, Prelude.held_world, Prelude.new_world, Prelude.i64_values}
 use Rattle.msg_order.specs.Prelude.{IsAcyclic, NameSystemsBelow, edges_of}
-use Rattle.msg_system.specs.Prelude.{HasClash, Meaning, job_needs, needs_any, new_system, program_needs}
+use Rattle.msg_system.specs.Prelude.{FitsWorld, HasClash, Meaning, job_needs, new_system, program_needs}
 use Rattle.msg_frames.specs.Prelude.{State, first_state}
 use Rattle.msg_frames.specs.{declared.frame.Frame.Frame, declared.place.Place.Place}
 use Rattle.msg_system.specs.declared.op.Op.{Op}
@@ -49,8 +49,8 @@ fits_kind _ _ = false
 pub record IsRunnableSystem (s : Scenario) (x : SystemSpec) : Type 0 where
   pub few_ops : length x.program.ops ≤ MAX_OPS
   pub fit_kind : IsTrue (fits_kind x.kind x.program.ops)
-  pub fits : (p : Part) → IsTrue (needs_any (job_needs x.program.ops x.place.conditions) p)
-      → HasPart (length s.types) (length s.resources) p
+  pub fits : FitsWorld (length s.types) (length s.resources)
+      (job_needs x.program.ops x.place.conditions)
   pub no_clash : ¬ HasClash (program_needs x.program.ops)
   pub joins : (1 ≤ x.place.join) × (x.place.join ≤ LAST_JOIN)
 

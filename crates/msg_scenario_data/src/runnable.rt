@@ -1,26 +1,13 @@
 // Whether a scenario can be run.
 ghost use Rattle.std.specs.Prelude.{◌≤◌, ◌↔◌, All, IsTrue, length};
-ghost use Rattle.msg_world.specs.{declared.part.Part.Part, Prelude.HasPart};
 ghost use Rattle.msg_order.specs.Prelude.{IsAcyclic, NameSystemsBelow, edges_of};
-ghost use Rattle.msg_system.specs.Prelude.{job_needs, needs_any};
 ghost use Rattle.msg_scenario_data.specs.Prelude.{IsRunnable, IsRunnableSystem, PostsAreToTypes};
 
 use crate::{Scenario, SystemSpec};
 use msg_frames::{Frame, LAST_JOIN};
-use msg_order::{Rule, lowest_on_cycle};
-use msg_system::{MAX_OPS, job_access};
+use msg_order::{Rule, first_unknown, lowest_on_cycle};
+use msg_system::{MAX_OPS, fits_world};
 use msg_world::{MAX_RESOURCES, MAX_SYSTEMS, MAX_TYPES};
-
-/// Whether the system and its conditions use only types below `types`, and resources below
-/// `resources`.
-fn fits(system: &SystemSpec, types: u32, resources: u32) -> bool
-    ensures fit { IsTrue result ↔ ((p : Part)
-        → IsTrue (needs_any (job_needs system.now.program.ops system.now.place.conditions) p)
-        → HasPart types resources p) }
-{
-    let conditions = system.place.conditions.as_slice();
-    job_access(&system.program.access(), conditions).fits(types, resources)
-}
 
 /// Whether the system can be made, and added to an engine over the scenario's world.
 fn is_runnable_system(scenario: &Scenario, system: &SystemSpec) -> bool
@@ -30,12 +17,14 @@ fn is_runnable_system(scenario: &Scenario, system: &SystemSpec) -> bool
 {
     let types = scenario.types.as_slice().len() as u32;
     let resources = scenario.resources.as_slice().len() as u32;
+    let access = system.program.access();
+    let conditions = system.place.conditions.as_slice();
     let ops = system.program.ops.as_slice();
     let join = system.place.join;
     ops.len() <= MAX_OPS
         && system.kind.allows(ops)
-        && fits(system, types, resources)
-        && !system.program.access().is_clash()
+        && fits_world(&access, conditions, types, resources)
+        && !access.is_clash()
         && 1 <= join
         && join <= LAST_JOIN
 }
@@ -53,15 +42,11 @@ fn are_runnable_systems(scenario: &Scenario) -> bool
     true
 }
 
+/// Whether the rules name only systems that are among so many.
 fn name_systems_below(systems: usize, rules: &[Rule]) -> bool
     ensures named { IsTrue result ↔ NameSystemsBelow systems rules.now }
 {
-    for rule in rules {
-        if rule.earlier as usize >= systems || rule.later as usize >= systems {
-            return false;
-        }
-    }
-    true
+    first_unknown(systems, rules).is_none()
 }
 
 fn posts_are_to_types(scenario: &Scenario, frame: &Frame) -> bool

@@ -1,6 +1,9 @@
 -- A turn by a program's rule is its ops in order.
 use Rattle.std.proofs.Common.{◌≡◌, ℕ, zero, suc, ◌≤◌, ◌++◌, Bool, true, List, [], ◌∷◌, length, Option, Some, None, take, refl, sym, ap, ◌∙◌, arith, inl, inr, append_assoc, option_to_list, IsTrue, slice_get}
-use Rattle.std.proofs.{Math.Path.fun_ext, lemmas.Bool.and_from, lemmas.Bool.and_parts, lemmas.Bool.eqb-true, lemmas.Bool.false≢true, lemmas.List.append-nil, lemmas.List.append_cancel_left, lemmas.List.length-take-le, lemmas.List.take_more, lemmas.List.take_all, lemmas.List.Folds.list_any_at, lemmas.Option.get_or_from_slice_get, lemmas.Option.none-some, lemmas.Option.same_Some, lemmas.Option.slice_get_cases, lemmas.Option.slice_get_past, lemmas.Option.slice_get_within}
+use Rattle.std.proofs.{Math.Path.fun_ext, lemmas.List.Folds.list_any_at}
+use Rattle.std.proofs.lemmas.Bool.{and_from, and_parts, eqb-true, false≢true}
+use Rattle.std.proofs.lemmas.List.{append-nil, append_cancel_left, length-take-le, take_more, take_all}
+use Rattle.std.proofs.lemmas.Option.{get_or_from_slice_get, none-some, same_Some, slice_get_cases, slice_get_past, slice_get_within}
 use Rattle.msg_world.specs.{declared.part.Part.Part, Prelude.Parts, Prelude.SameLoan, Prelude.WorldState, Prelude.taken_of, declared.lent.Lent.Lent, Prelude.Values}
 use Rattle.msg_system.specs.Prelude.{IsInOrder, Meaning, Needs, OneOpIsATurn, Op, Program, Ran, Reply, after_at_most, after_op, after_program, if_kept, is_none_or, is_part, keeps_to, may_read, next_op, of_program, only, op_needs, op_parts, ops_answered, program_needs, after_replies, turn}
 use Rattle.msg_system.specs.declared.limits.TheConstants.{MAX_OPS}

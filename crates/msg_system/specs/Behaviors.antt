@@ -1,7 +1,7 @@
 -- What a behavior does, turn after turn.
-use Rattle.std.specs.Prelude.{ℕ, List, [], Option, Some, fold}
+use Rattle.std.specs.Prelude.{ℕ, List, [], Option, None, Some, fold}
 use Rattle.msg_world.specs.declared.record.Record.{Record}
-use Rattle.msg_system.specs.{declared.op.Op.Op, declared.reply.Reply.Reply, declared.reply.Reply.TheVariants.Read, declared.reply.Reply.TheVariants.Forwarded, declared.reply.Reply.TheVariants.Summed, declared.start.Start.Start, Needs.Needs, Systems.Meaning, Systems.Rule}
+use Rattle.msg_system.specs.{declared.op.Op.Op, declared.reply.Reply.Reply, declared.start.Start.Start, Needs.Needs, Programs.reply_took, Systems.Meaning, Systems.Rule}
 
 module _ {V : Type 0} where
   -- Its rule: the next op by what it remembers of the turns that it took, one after the other, and
@@ -23,7 +23,5 @@ module _ {V : Type 0} where
 
   -- the messages that a reply brought: those that its op read
   abbrev pub brought : Option (Reply V) → List (Record V)
-  brought (Some (Read took)) = took.items
-  brought (Some (Forwarded took wrote)) = took.items
-  brought (Some (Summed took z)) = took.items
-  brought _ = []
+  brought None = []
+  brought (Some reply) = elim (reply_took reply) [ None ↦ [] | Some taken ↦ taken.items ]

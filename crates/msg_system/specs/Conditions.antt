@@ -2,7 +2,9 @@
 use Rattle.std.specs.Prelude.{ℕ, zero, suc, Bool, true, not, ◌&&◌, nat_lt, List, [], ◌∷◌, length, map, Option, None, Some, if◌then◌else◌}
 use Rattle.msg_buffer.specs.Prelude.{count, unread}
 use Rattle.msg_world.specs.Prelude.{WorldState, Values}
-use Rattle.msg_system.specs.{declared.condition.Condition.Condition, declared.condition.Probe.Probe, declared.condition.Probe.TheVariants.OnMessage, declared.condition.Probe.TheVariants.ResourceEquals, declared.reply.Reply.Reply, declared.start.Start.Start, Programs.Step, Systems.Meaning, Systems.after_turn, Systems.start_place, Systems.turn}
+use Rattle.msg_system.specs.{declared.condition.Condition.Condition, declared.condition.Probe.Probe, declared.reply.Reply.Reply, declared.start.Start.Start, Programs.Step}
+use Rattle.msg_system.specs.declared.condition.Probe.TheVariants.{OnMessage, ResourceEquals}
+use Rattle.msg_system.specs.Systems.{Meaning, after_turn, start_place, turn}
 
 -- A condition with the place of its own cursor.
 pub record Asked (V : Type 0) : Type 0 where

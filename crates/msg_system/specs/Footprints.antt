@@ -1,7 +1,11 @@
 -- What ops, turns, conditions and jobs depend on, and what they change: no more than they need.
 use Rattle.std.specs.Prelude.{◌≡◌, ℕ, Bool, false, IsTrue, List, Option}
 use Rattle.msg_world.specs.{declared.part.Part.Part, Prelude.WorldState, Prelude.content, Prelude.Values}
-use Rattle.msg_system.specs.{declared.op.Op.Op, declared.reply.Reply.Reply, Conditions.AfterJob, Conditions.Asked, Conditions.Job, Conditions.after_asking, Conditions.after_job, Conditions.answer, Conditions.conditions_of, Needs.Needs, Needs.condition_needs, Needs.needs_any, Needs.op_needs, Needs.program_needs, Needs.with_conditions, Programs.AfterOp, Programs.AfterProgram, Programs.after_op, Programs.after_program, Systems.Meaning, Systems.turn}
+use Rattle.msg_system.specs.{declared.op.Op.Op, declared.reply.Reply.Reply}
+use Rattle.msg_system.specs.Conditions.{AfterJob, Asked, Job, after_asking, after_job, answer, conditions_of}
+use Rattle.msg_system.specs.Needs.{Needs, condition_needs, needs_any, op_needs, program_needs, with_conditions}
+use Rattle.msg_system.specs.Programs.{AfterOp, AfterProgram, after_op, after_program}
+use Rattle.msg_system.specs.Systems.{Meaning, turn}
 
 module _ {V : Type 0} {values : Values V} where
   -- the worlds are the same in each of these parts

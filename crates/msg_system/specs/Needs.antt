@@ -1,29 +1,12 @@
 -- What ops, programs, conditions and jobs read and write, part by part.
-use Rattle.std.specs.Prelude.{◌≡◌, ℕ, Bool, true, false, not, ◌&&◌, ◌||◌, Option, Some, None, List, option_and_then, slice_get}
+use Rattle.std.specs.Prelude.{◌≡◌, ℕ, Bool, true, false, not, ◌&&◌, ◌||◌, IsTrue, Option, Some, None, List, option_and_then, slice_get}
 use Rattle.std.specs.List.{list_any}
-use Rattle.msg_world.specs.{Prelude.Overlap, declared.part.Part.Part, declared.part.Part.TheVariants.OfType, declared.part.Part.TheVariants.OfResource, declared.part.Part.TheVariants.Registry, Prelude.reads, Prelude.same_part, Prelude.writes, declared.access.Access.Access}
-use Rattle.msg_system.specs.{declared.op_parts.OpParts.OpParts, declared.op.Op.Op, declared.op.Op.TheVariants.Write, declared.op.Op.TheVariants.Batch, declared.op.Op.TheVariants.Read, declared.op.Op.TheVariants.Len, declared.op.Op.TheVariants.Missed, declared.op.Op.TheVariants.Clear, declared.op.Op.TheVariants.Forward, declared.op.Op.TheVariants.Sum, declared.op.Op.TheVariants.Get, declared.op.Op.TheVariants.Set, declared.op.Op.TheVariants.Add, declared.op.Op.TheVariants.Drain, declared.op.Op.TheVariants.Signal, declared.condition.Condition.Condition, declared.condition.Probe.Probe, declared.condition.Probe.TheVariants.OnMessage, declared.condition.Probe.TheVariants.ResourceEquals}
+use Rattle.msg_world.specs.{Prelude.HasPart, Prelude.Overlap, declared.part.Part.Part, declared.part.Part.TheVariants.OfType, declared.part.Part.TheVariants.OfResource, declared.part.Part.TheVariants.Registry, Prelude.reads, Prelude.same_part, Prelude.writes, declared.access.Access.Access}
+use Rattle.msg_system.specs.{Programs.op_parts, declared.op.Op.Op, declared.condition.Condition.Condition, declared.condition.Probe.Probe, declared.condition.Probe.TheVariants.OnMessage, declared.condition.Probe.TheVariants.ResourceEquals}
 
 -- true if there is no part, and else what `holds` says of the part
 abbrev pub is_none_or : (Part → Bool) → Option Part → Bool
 is_none_or holds part = elim part [ None ↦ true | Some p ↦ holds p ]
-
-module _ {V : Type 0} where
-  -- the part that an op reads, and the part that it writes
-  abbrev pub op_parts : Op V → OpParts
-  op_parts (Write t v) = record { read = None; written = Some (OfType t) }
-  op_parts (Batch t vs) = record { read = None; written = Some (OfType t) }
-  op_parts (Read t limit) = record { read = Some (OfType t); written = None }
-  op_parts (Len t) = record { read = Some (OfType t); written = None }
-  op_parts (Missed t) = record { read = Some (OfType t); written = None }
-  op_parts (Clear t) = record { read = Some (OfType t); written = None }
-  op_parts (Forward t u) = record { read = Some (OfType t); written = Some (OfType u) }
-  op_parts (Sum t r) = record { read = Some (OfType t); written = Some (OfResource r) }
-  op_parts (Get r) = record { read = Some (OfResource r); written = None }
-  op_parts (Set r v) = record { read = None; written = Some (OfResource r) }
-  op_parts (Add r v) = record { read = None; written = Some (OfResource r) }
-  op_parts (Drain t) = record { read = None; written = Some (OfType t) }
-  op_parts Signal = record { read = None; written = Some Registry }
 
 -- the type, if the part is one
 abbrev pub type_in_part : Part → Option ℕ
@@ -55,6 +38,10 @@ HasClash n = Overlap n.reads n.writes
 -- the part is read or written
 abbrev pub needs_any : Needs → Part → Bool
 needs_any n p = n.reads p || n.writes p
+
+-- a world of so many types and resources has all that is needed
+abbrev pub FitsWorld : ℕ → ℕ → Needs → Type 0
+FitsWorld types resources n = (p : Part) → IsTrue (needs_any n p) → HasPart types resources p
 
 -- whether there is such a part, and p is that part
 abbrev pub is_part : Option Part → Part → Bool

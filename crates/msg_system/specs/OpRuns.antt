@@ -1,8 +1,7 @@
 -- What one op on a loan does, by the cursors of its system.
-use Rattle.std.specs.Prelude.{◌≡◌, ℕ, ◌<◌, IsSome, None, length, slice_index}
-use Rattle.msg_buffer.specs.Prelude.{given, present}
+use Rattle.std.specs.Prelude.{◌≡◌, ℕ, slice_index}
 use Rattle.msg_world.specs.{Prelude.LoanStands, Prelude.WorldState, declared.lent.Lent.Lent, Prelude.Values}
-use Rattle.msg_system.specs.{declared.cursors.Cursors.Cursors, declared.op.Op.Op, declared.op.Op.TheVariants.Write, declared.op.Op.TheVariants.Batch, declared.op.Op.TheVariants.Read, declared.op.Op.TheVariants.Forward, declared.op.Op.TheVariants.Sum, declared.op.Op.TheVariants.Drain, declared.reply.Reply.Reply, Programs.AfterOp, Programs.after_op, Programs.numbers_for}
+use Rattle.msg_system.specs.{declared.cursors.Cursors.Cursors, declared.op.Op.Op, declared.reply.Reply.Reply, Programs.AfterOp, Programs.AsksForMemory, Programs.after_op}
 
 -- the place in each type, by the type's number
 abbrev pub cursor_places : Cursors → ℕ → ℕ
@@ -22,17 +21,6 @@ abbrev pub OpRan : {V : Type 0} (values : Values V) → Op V → ℕ → (ℕ �
 OpRan values op writer old_places new_places old new answer =
     (s : WorldState values) → LoanStands old s
     → IsAfterOp (after_op op writer old_places s) new_places new answer
-
-module _ {V : Type 0} {values : Values V} where
-  -- An op asks for memory only if it writes, gives or drops something.
-  abbrev pub AsksForMemory : Op V → (ℕ → ℕ) → WorldState values → Type 0
-  AsksForMemory (Write t v) places s = IsSome (numbers_for (s.histories t) 1)
-  AsksForMemory (Batch t vs) places s = 0 < length vs
-  AsksForMemory (Read t limit) places s = 0 < length (given (s.histories t) (places t) limit)
-  AsksForMemory (Forward t u) places s = 0 < length (given (s.histories t) (places t) None)
-  AsksForMemory (Sum t r) places s = 0 < length (given (s.histories t) (places t) None)
-  AsksForMemory (Drain t) places s = 0 < length (present (s.histories t))
-  AsksForMemory _ places s = ⊥
 
 -- The op may be refused for want of memory: it asks for memory in each state that the loan stands
 -- for.

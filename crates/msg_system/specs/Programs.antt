@@ -1,11 +1,34 @@
--- What an op does to the places of its system and to the world, and what it answers; and a program,
--- its ops in order.
-use Rattle.std.specs.Prelude.{ℕ, ◌+◌, ◌==◌, Option, None, Some, List, [], ◌∷◌, fold, length, map, if◌then◌else◌}
+-- What an op reads and writes, what it does to the places of its system and to the world, what it
+-- answers, and when it asks for memory; and a program, its ops in order.
+use Rattle.std.specs.List.{enumerate_from}
+use Rattle.std.specs.Prelude.{ℕ, ◌+◌, ◌<◌, ◌==◌, IsSome, Option, None, Some, List, [], ◌∷◌, fold, length, map, if◌then◌else◌}
 use Rattle.msg_buffer.specs.declared.instance.Written.{Written}
 use Rattle.msg_buffer.specs.Prelude.{History, clear, count, first, given, has_room, message_of, missed, oldest, present, unread, write}
-use Rattle.msg_world.specs.{Prelude.WorldState, Prelude.after_signal, Prelude.by, Prelude.with_history, Prelude.with_value_of, declared.record.Record.Record, Prelude.Values}
-use Rattle.msg_system.specs.{declared.op.Op.Op, declared.op.Op.TheVariants.Write, declared.op.Op.TheVariants.Batch, declared.op.Op.TheVariants.Read, declared.op.Op.TheVariants.Len, declared.op.Op.TheVariants.Missed, declared.op.Op.TheVariants.Clear, declared.op.Op.TheVariants.Forward, declared.op.Op.TheVariants.Sum, declared.op.Op.TheVariants.Get, declared.op.Op.TheVariants.Set, declared.op.Op.TheVariants.Add, declared.op.Op.TheVariants.Drain, declared.op.Op.TheVariants.Signal, declared.reply.Reply.Reply, declared.reply.Took.Took}
+use Rattle.msg_world.specs.{Prelude.WorldState, Prelude.after_signal, Prelude.by, Prelude.with_history, Prelude.with_value_of, declared.part.Part.TheVariants.OfResource, declared.part.Part.TheVariants.OfType, declared.part.Part.TheVariants.Registry, declared.record.Record.Record, Prelude.Values}
+use Rattle.msg_system.specs.{declared.op.Op.Op, declared.op_parts.OpParts.OpParts, declared.reply.Reply.Reply, declared.reply.Took.Took}
+use Rattle.msg_system.specs.declared.op.Op.TheVariants as op
 use Rattle.msg_system.specs.declared.reply.Reply.TheVariants as reply
+
+-- ---- what an op reads and writes
+
+module _ {V : Type 0} where
+  -- the part that an op reads, and the part that it writes
+  abbrev pub op_parts : Op V → OpParts
+  op_parts (op.Write t v) = record { read = None; written = Some (OfType t) }
+  op_parts (op.Batch t vs) = record { read = None; written = Some (OfType t) }
+  op_parts (op.Read t limit) = record { read = Some (OfType t); written = None }
+  op_parts (op.Len t) = record { read = Some (OfType t); written = None }
+  op_parts (op.Missed t) = record { read = Some (OfType t); written = None }
+  op_parts (op.Clear t) = record { read = Some (OfType t); written = None }
+  op_parts (op.Forward t u) = record { read = Some (OfType t); written = Some (OfType u) }
+  op_parts (op.Sum t r) = record { read = Some (OfType t); written = Some (OfResource r) }
+  op_parts (op.Get r) = record { read = Some (OfResource r); written = None }
+  op_parts (op.Set r v) = record { read = None; written = Some (OfResource r) }
+  op_parts (op.Add r v) = record { read = None; written = Some (OfResource r) }
+  op_parts (op.Drain t) = record { read = None; written = Some (OfType t) }
+  op_parts op.Signal = record { read = None; written = Some Registry }
+
+-- ---- what an op does
 
 -- What an op leaves, and what it answers. A system has a place in each type, by the type's number.
 pub record AfterOp {V : Type 0} (values : Values V) : Type 0 where
@@ -68,18 +91,18 @@ module _ {V : Type 0} {values : Values V} where
 
   -- One op of the system that writes as `w`.
   abbrev pub after_op : Op V → ℕ → (ℕ → ℕ) → WorldState values → AfterOp values
-  after_op (Write t v) w ps s = writes_all t (by w v ∷ []) ps s
-  after_op (Batch t vs) w ps s = writes_all t (map (by w) vs) ps s
-  after_op (Read t limit) w ps s =
+  after_op (op.Write t v) w ps s = writes_all t (by w v ∷ []) ps s
+  after_op (op.Batch t vs) w ps s = writes_all t (map (by w) vs) ps s
+  after_op (op.Read t limit) w ps s =
       answers (reply.Read (took (s.histories t) (ps t) limit))
       (with_place ps t (place_after_read (s.histories t) (ps t) limit)) s
-  after_op (Len t) w ps s = answers (reply.Len (length (unread (s.histories t) (ps t)))) ps s
-  after_op (Missed t) w ps s = answers (reply.Missed (missed (s.histories t) (ps t))) ps s
-  after_op (Clear t) w ps s =
+  after_op (op.Len t) w ps s = answers (reply.Len (length (unread (s.histories t) (ps t)))) ps s
+  after_op (op.Missed t) w ps s = answers (reply.Missed (missed (s.histories t) (ps t))) ps s
+  after_op (op.Clear t) w ps s =
       let h : History (Record V) = s.histories t in
       answers (reply.Cleared (missed h (ps t)) (first h (ps t)) (length (unread h (ps t))))
       (with_place ps t (count h)) s
-  after_op (Forward t u) w ps s =
+  after_op (op.Forward t u) w ps s =
       let taken : Took V = took (s.histories t) (ps t) None in
       let ms : List (Record V) = again_by w taken.items in
       record {
@@ -87,7 +110,7 @@ module _ {V : Type 0} {values : Values V} where
         state = with_history s u (write ms (s.histories u));
         reply = reply.Forwarded taken (numbers_for (s.histories u) (length ms));
       }
-  after_op (Sum t r) w ps s =
+  after_op (op.Sum t r) w ps s =
       let taken : Took V = took (s.histories t) (ps t) None in
       let z : V = sum_onto values (s.resources r) taken.items in
       record {
@@ -95,15 +118,50 @@ module _ {V : Type 0} {values : Values V} where
         state = with_value_of s r z;
         reply = reply.Summed taken z;
       }
-  after_op (Get r) w ps s = answers (reply.Value (s.resources r)) ps s
-  after_op (Set r v) w ps s = sets_to r v ps s
-  after_op (Add r v) w ps s = sets_to r (values.plus (s.resources r) v) ps s
-  after_op (Drain t) w ps s = record {
+  after_op (op.Get r) w ps s = answers (reply.Value (s.resources r)) ps s
+  after_op (op.Set r v) w ps s = sets_to r v ps s
+  after_op (op.Add r v) w ps s = sets_to r (values.plus (s.resources r) v) ps s
+  after_op (op.Drain t) w ps s = record {
     places = ps;
     state = with_history s t (clear (s.histories t));
     reply = reply.Drained (oldest (s.histories t)) (map message_of (present (s.histories t)));
   }
-  after_op Signal w ps s = record { places = ps; state = after_signal s; reply = reply.Signalled }
+  after_op op.Signal w p s = record { places = p; state = after_signal s; reply = reply.Signalled }
+
+-- ---- what a reply tells
+
+module _ {V : Type 0} where
+  -- what the op took, if it read messages
+  abbrev pub reply_took : Reply V → Option (Took V)
+  reply_took (reply.Read taken) = Some taken
+  reply_took (reply.Forwarded taken numbers) = Some taken
+  reply_took (reply.Summed taken value) = Some taken
+  reply_took _ = None
+
+  -- what an op of system i that was answered so wrote to type t, each message with its number
+  abbrev pub wrote : ℕ → ℕ → Op V → Reply V → List (ℕ × Record V)
+  wrote t i (op.Write u v) (reply.Wrote n) =
+      if u == t then enumerate_from n.first (by i v ∷ []) else []
+  wrote t i (op.Batch u vs) (reply.Wrote n) =
+      if u == t then enumerate_from n.first (map (by i) vs) else []
+  wrote t i (op.Forward a u) (reply.Forwarded taken (Some n)) =
+      if u == t then enumerate_from n.first (again_by i taken.items) else []
+  wrote t i _ _ = []
+
+-- ---- when an op asks for memory
+
+module _ {V : Type 0} {values : Values V} where
+  -- An op asks for memory only if it writes, gives or drops something.
+  abbrev pub AsksForMemory : Op V → (ℕ → ℕ) → WorldState values → Type 0
+  AsksForMemory (op.Write t v) places s = IsSome (numbers_for (s.histories t) 1)
+  AsksForMemory (op.Batch t vs) places s = 0 < length vs
+  AsksForMemory (op.Read t limit) places s = 0 < length (given (s.histories t) (places t) limit)
+  AsksForMemory (op.Forward t u) places s = 0 < length (given (s.histories t) (places t) None)
+  AsksForMemory (op.Sum t r) places s = 0 < length (given (s.histories t) (places t) None)
+  AsksForMemory (op.Drain t) places s = 0 < length (present (s.histories t))
+  AsksForMemory _ places s = ⊥
+
+-- ---- programs
 
 -- One op as it was done: which, from which places and on which world, and what it was answered.
 pub record Step {V : Type 0} (values : Values V) : Type 0 where
@@ -123,12 +181,12 @@ module _ {V : Type 0} {values : Values V} where
   -- the ops one after the other
   abbrev pub after_program : List (Op V) → ℕ → (ℕ → ℕ) → WorldState values → AfterProgram values
   after_program [] w ps s = record { places = ps; state = s; replies = []; steps = [] }
-  after_program (op ∷ ops) w ps s =
-      let here : AfterOp values = after_op op w ps s in
+  after_program (this ∷ ops) w ps s =
+      let here : AfterOp values = after_op this w ps s in
       let rest : AfterProgram values = after_program ops w here.places here.state in
       record {
         places = rest.places;
         state = rest.state;
         replies = here.reply ∷ rest.replies;
-        steps = record { op = op; places = ps; world = s; reply = here.reply } ∷ rest.steps;
+        steps = record { op = this; places = ps; world = s; reply = here.reply } ∷ rest.steps;
       }

@@ -1,8 +1,11 @@
 -- What a system promises of its runs, in a box or not.
 use Rattle.std.specs.Prelude.{All, ◌≡◌, ℕ, ◌++◌, false, None, IfSome, IsSome, IsTrue, List, [], ◌∷◌, length}
 use Rattle.msg_world.specs.declared.lent.Lent.{Lent}
-use Rattle.msg_world.specs.{declared.part.Part.Part, Prelude.IsComplete, Prelude.LoanStands, Prelude.Parts, Prelude.PartsStand, Prelude.SameLoan, Prelude.StuffStands, Prelude.WorldState, Prelude.access_of_loan, Prelude.content, Prelude.shown, Prelude.slot, Prelude.taken_of, Prelude.uses, Prelude.writable, Prelude.writes, Prelude.Values}
-use Rattle.msg_system.specs.{declared.condition.Condition.Condition, declared.op.Op.Op, declared.reply.Reply.Reply, declared.start.Start.Start, Needs.IsAccessOf, Needs.Needs, Needs.condition_needs, Needs.op_needs, Needs.program_needs, Needs.with_conditions, OpRuns.OpRan, Systems.Meaning, Systems.of_program, Systems.only, Systems.after_replies, Systems.turn}
+use Rattle.msg_world.specs.declared.part.Part.{Part}
+use Rattle.msg_world.specs.Prelude.{IsComplete, LoanStands, Parts, PartsStand, SameLoan, StuffStands, WorldState, access_of_loan, content, shown, slot, taken_of, uses, writable, writes, Values}
+use Rattle.msg_system.specs.{declared.condition.Condition.Condition, declared.op.Op.Op, declared.reply.Reply.Reply, declared.start.Start.Start, OpRuns.OpRan}
+use Rattle.msg_system.specs.Needs.{IsAccessOf, Needs, condition_needs, op_needs, program_needs, with_conditions}
+use Rattle.msg_system.specs.Systems.{Meaning, of_program, only, after_replies, turn}
 
 -- A loan covers what is needed: it shows what is read, and lets be written what is written. It may
 -- lend more.

@@ -1,7 +1,10 @@
 -- What a system means, and what its turn is.
 use Rattle.std.specs.Prelude.{◌≡◌, ℕ, zero, suc, ◌≤◌, ◌++◌, Option, Some, None, option_and_then, option_to_list, unwrap_or, List, [], ◌∷◌, length, slice_get, if◌then◌else◌}
 use Rattle.msg_world.specs.{declared.part.Part.TheVariants.OfType, Prelude.WorldState, Prelude.Values}
-use Rattle.msg_system.specs.{declared.limits.TheConstants.MAX_OPS, declared.op.Op.Op, declared.program.Program.Program, declared.reply.Reply.Reply, declared.start.Start.Start, declared.start.Start.TheVariants.Zero, declared.start.Start.TheVariants.Current, Needs.Needs, Needs.keeps_to, Needs.program_needs, Programs.AfterOp, Programs.AfterProgram, Programs.after_op, Programs.after_program}
+use Rattle.msg_system.specs.{declared.limits.TheConstants.MAX_OPS, declared.op.Op.Op, declared.program.Program.Program, declared.reply.Reply.Reply, declared.start.Start.Start}
+use Rattle.msg_system.specs.declared.start.Start.TheVariants.{Zero, Current}
+use Rattle.msg_system.specs.Needs.{Needs, keeps_to, program_needs}
+use Rattle.msg_system.specs.Programs.{AfterOp, AfterProgram, after_op, after_program}
 
 -- What a system does next, by the replies of its turns from now on, and by those so far of this
 -- turn; None ends the turn.

@@ -29,7 +29,7 @@ pub use behavior_system::BehaviorSystem;
 pub use condition::{Condition, Probe};
 pub use cursors::Cursors;
 pub use guard::Guard;
-pub use job::job_access;
+pub use job::{fits_world, job_access};
 pub use laws::{
     a_program_is_its_ops_in_order, nothing_else_is_used, one_op_is_a_turn, open_loans_cover,
     what_is_given_back_stands,

@@ -41,7 +41,7 @@ pub enum Op<V = i64> {
 
 impl<V: Value> Op<V> {
     ghost use Rattle.msg_world.specs.Prelude.{SameLoan};
-    ghost use Rattle.msg_system.specs.{Needs.keeps_to, Needs.needs_of, Needs.op_needs, Needs.op_parts, Needs.type_read, Needs.type_written, OpRuns.MayBeRefused, OpRuns.OpRan, OpRuns.cursor_places, Promises.Covers};
+    ghost use Rattle.msg_system.specs.{Needs.keeps_to, Needs.needs_of, Needs.op_needs, Needs.type_read, Needs.type_written, Programs.op_parts, OpRuns.MayBeRefused, OpRuns.OpRan, OpRuns.cursor_places, Promises.Covers};
 
     /// The part that it reads, and the part that it writes.
     fn parts(&self) -> OpParts

@@ -1,5 +1,6 @@
 ghost use Rattle.std.specs.Prelude.{◌≡◌, slice_get};
-ghost use Rattle.msg_system.specs.Prelude.{brought};
+ghost use Rattle.std.specs.Option.{option_copied};
+ghost use Rattle.msg_system.specs.Prelude.{brought, reply_took};
 
 use crate::Items;
 use msg_buffer::Written;
@@ -53,15 +54,30 @@ pub enum Reply<V = i64> {
     Signalled,
 }
 
+impl<V> Reply<V> {
+    /// What its op took, if that read messages.
+    pub fn took(&self) -> Option<&Took<V>>
+        ensures took { option_copied result ≡ reply_took self.now }
+    {
+        match self {
+            Reply::Read(took) => Some(took),
+            Reply::Forwarded { took, .. } => Some(took),
+            Reply::Summed { took, .. } => Some(took),
+            _ => None,
+        }
+    }
+}
+
 /// The messages that the op of reply `k` read. There are none if it read none, or if there is
 /// no such reply.
 pub fn brought<V>(replies: &[Reply<V>], k: usize) -> &[Record<V>]
     ensures brought { result.now ≡ brought (slice_get replies.now k) }
 {
-    match replies.get(k) {
-        Some(Reply::Read(took)) => took.items.as_slice(),
-        Some(Reply::Forwarded { took, .. }) => took.items.as_slice(),
-        Some(Reply::Summed { took, .. }) => took.items.as_slice(),
-        _ => &[],
+    let Some(reply) = replies.get(k) else {
+        return &[];
+    };
+    match reply.took() {
+        Some(took) => took.items.as_slice(),
+        None => &[],
     }
 }

@@ -2,7 +2,8 @@
 // both are as they were.
 ghost use Rattle.std.specs.Prelude.{◌≡◌, ℕ, IfOk, IsSome, OnErr, OnOk};
 ghost use Rattle.msg_world.specs.{declared.part.Part.TheVariants.OfResource, declared.part.Part.TheVariants.OfType, declared.part.Part.TheVariants.Registry, Prelude.SameLoan, Prelude.shown, Prelude.writable};
-ghost use Rattle.msg_system.specs.Prelude.{Add, Batch, Clear, Drain, Forward, Get, Len, MayBeRefused, Missed, OpRan, Read, Set, Signal, Sum, Write, with_place, write_reply};
+ghost use Rattle.msg_system.specs.declared.op.Op.TheVariants.{Add, Batch, Clear, Drain, Forward, Get, Len, Missed, Read, Set, Signal, Sum, Write};
+ghost use Rattle.msg_system.specs.Prelude.{MayBeRefused, OpRan, with_place, write_reply};
 
 use crate::lending::{
     added_up, drain_all, messages_of, set_value, value_of, write_each, write_one,

@@ -1,7 +1,10 @@
 -- Bits of masks, as tests.
 use Rattle.std.proofs.Common.{◌≡◌, ◌≢◌, ℕ, zero, suc, ◌+◌, ◌*◌, ◌-◌, ◌/◌, ◌^◌, ◌%◌, ◌<◌, ◌≤◌, Bool, true, false, not, ◌&&◌, ◌||◌, inl, inr, ap, sym, ◌∙◌, arith, w64, ◌==◌, ◌↔◌, IsTrue, bit_and, bit_or, count_ones, nat_lt}
 use lib.Count.{ones_step}
-use Rattle.std.proofs.{Math.Bool.and-true, Math.Nat.div-le_self, lemmas.Bool.cases_lt, lemmas.Bool.cases_eq, lemmas.Bool.eqb-true, lemmas.Bool.eq-eqb, lemmas.Bool.ne_eqb, lemmas.Bool.eqb-false, lemmas.Bool.le-ltb, lemmas.Bool.lt-ltb, lemmas.Bool.not-true, lemmas.Bool.false≢true, lemmas.Bool.Decides.eqb_tells, lemmas.Bool.Decides.nat_tests, lemmas.Nat.shr-shr, lemmas.Nat.Bits.bit_at_lowest, lemmas.Nat.Bits.bit_at-suc, lemmas.Nat.Bits.bit_at_and, lemmas.Nat.Bits.bit_at_or, lemmas.Nat.Bits.bit_at_not, lemmas.Nat.Bits.bit_at_above, lemmas.Nat.Bits.bit_at-zero, lemmas.Nat.Bits.bit_at-lt, lemmas.Nat.Bits.bit_at_set_same, lemmas.Nat.Bits.bit_at_set_other, lemmas.Nat.Bits.bit_at_clear_same, lemmas.Nat.Bits.bit_at_clear_other, lemmas.Nat.Bits.bit_at-trailing_zeros}
+use Rattle.std.proofs.{Math.Bool.and-true, Math.Nat.div-le_self, lemmas.Nat.shr-shr}
+use Rattle.std.proofs.lemmas.Bool.{cases_lt, cases_eq, eqb-true, eq-eqb, ne_eqb, eqb-false, le-ltb, lt-ltb, not-true, false≢true}
+use Rattle.std.proofs.lemmas.Bool.Decides.{eqb_tells, nat_tests}
+use Rattle.std.proofs.lemmas.Nat.Bits.{bit_at_lowest, bit_at-suc, bit_at_and, bit_at_or, bit_at_not, bit_at_above, bit_at-zero, bit_at-lt, bit_at_set_same, bit_at_set_other, bit_at_clear_same, bit_at_clear_other, bit_at-trailing_zeros}
 use Rattle.std.specs.Int.{bit_at, bit_not, trailing_zeros}
 use Rattle.msg_world.specs.{Prelude.has_bit, inner.Masks.ShareBit, inner.Masks.IsBelow}
 

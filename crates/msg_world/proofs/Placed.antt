@@ -1,7 +1,9 @@
 -- Parts in their slots, one part after the other.
 use Rattle.std.proofs.Common.{◌≡◌, ℕ, zero, suc, ◌<◌, List, [], ◌∷◌, ◌++◌, length, get_or, refl, sym, ap, ◌∙◌, arith, inl, ◌⊎◌, Option, Some, None, ◌==◌, ◌||◌, if◌then◌else◌, All, Bool, true, false, replicate, slice_set}
 use Rattle.std.specs.Option.{option_or}
-use Rattle.std.proofs.lemmas.{Grind.common_steps, List.nil_from_length, List.Elements.All-pop, Bool.cases_lt, Bool.cases_eq, Bool.eq-eqb, Bool.ne_eqb, Option.slice_get-get_or, List.get_or-replicate, List.get_or-set_same, List.get_or-set_other, List.get_or_past, List.length-replicate, List.length-set, List.set-set, List.set_comm}
+use Rattle.std.proofs.lemmas.{Grind.common_steps, List.Elements.All-pop, Option.slice_get-get_or}
+use Rattle.std.proofs.lemmas.List.{nil_from_length, get_or-replicate, get_or-set_same, get_or-set_other, get_or_past, length-replicate, length-set, set-set, set_comm}
+use Rattle.std.proofs.lemmas.Bool.{cases_lt, cases_eq, eq-eqb, ne_eqb}
 use Rattle.msg_world.specs.{Prelude.Moved, inner.Moved.IsFirstOf, inner.Moved.NoneOf, inner.Moved.placed, inner.Slots.at}
 
 -- a borrow that gives back alike

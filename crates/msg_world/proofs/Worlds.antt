@@ -1,7 +1,9 @@
 -- What a world stands for after each change, part by part.
 use Rattle.std.proofs.Common.{◌≡◌, ℕ, ◌<◌, Bool, true, false, List, length, map, refl, sym, ◌∙◌, arith, inl, inr, Option, Some, None, get_or, ◌&&◌, ◌||◌, ◌↔◌, not, IsSome, IsSomeAnd, IsTrue, is_some, unwrap_or, slice_index, if◌then◌else◌, ◌==◌, replicate, slice_set}
 use Rattle.std.specs.Option.{option_or}
-use Rattle.std.proofs.{Math.ListN.length-set, lemmas.Bool.cases_eq, lemmas.Bool.cases_lt, lemmas.Bool.false≢true, lemmas.Bool.Decides.eqb_tells, lemmas.List.get_or_default, lemmas.List.get_or-set_same, lemmas.List.get_or-set_other, lemmas.List.get_or_past, lemmas.List.get_or-map, lemmas.List.length-map, lemmas.List.length-replicate}
+use Rattle.std.proofs.{Math.ListN.length-set, lemmas.Bool.Decides.eqb_tells}
+use Rattle.std.proofs.lemmas.Bool.{cases_eq, cases_lt, false≢true}
+use Rattle.std.proofs.lemmas.List.{get_or_default, get_or-set_same, get_or-set_other, get_or_past, get_or-map, length-map, length-replicate}
 use Rattle.msg_buffer.specs.Prelude.{History, Kept, StandsFor, empty}
 use Rattle.msg_world.specs.Prelude.{Access, IsHome, IsWhole, LendsOut, Marks, OfResource, OfType, Parts, PartsStand, Record, Registry, SameShape, TakesBack, Values, WorldState, after_update, has_bit, new_world, with_history}
 use Rattle.msg_world.specs.inner.{Slots.AllUpdated, Slots.BufferStands, Slots.HaveEach, Slots.at, Taken.MovesHome, Taken.MovesOut}

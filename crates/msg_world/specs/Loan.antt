@@ -4,7 +4,11 @@ use Rattle.std.specs.Prelude.{◌≡◌, ℕ, Option, None, IsSome, IfSome, IsTr
 use mir.Syntax.{named}
 use Rattle.std.specs.Borrow.{LendsIf, MutBor, Fml, RattleType}
 use Rattle.msg_buffer.specs.Prelude.{Kept}
-use Rattle.msg_world.specs.{declared.access.Access.Access, declared.record.Record.Record, declared.lent.Lent.Lent, contracts.lent.Lent.the_row as lent_row, Access.Part, Access.reads, Access.writes, Access.uses, WritingThrough.messages_row, WritingThrough.with_type, WritingThrough.with_value, Parts.Parts, Parts.SameShape, Parts.SameSize, Parts.Stuff, Parts.StuffStands, Parts.slot, World.Values, World.WorldState, World.content}
+use Rattle.msg_world.specs.{declared.access.Access.Access, declared.record.Record.Record, declared.lent.Lent.Lent, contracts.lent.Lent.the_row as lent_row}
+use Rattle.msg_world.specs.Access.{Part, reads, writes, uses}
+use Rattle.msg_world.specs.WritingThrough.{messages_row, with_type, with_value}
+use Rattle.msg_world.specs.Parts.{Parts, SameShape, SameSize, Stuff, StuffStands, slot}
+use Rattle.msg_world.specs.World.{Values, WorldState, content}
 
 module _ {V : Type 0} where
   -- the access that it was made for

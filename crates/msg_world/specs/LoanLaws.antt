@@ -1,7 +1,11 @@
 -- What holds of parts that are lent and taken back, one after the other or side by side.
 use Rattle.std.specs.Prelude.{◌≡◌, ◌||◌, ℕ, false, None, IsSome, IsTrue, is_some}
 use Rattle.msg_buffer.specs.Prelude.{History, Kept, StandsFor}
-use Rattle.msg_world.specs.{declared.access.Access.Access, declared.lent.Lent.Lent, declared.record.Record.Record, Access.Part, Access.OfType, Access.OfResource, Access.Conflict, Access.writes, Loan.IsComplete, Loan.IsLoanOf, Loan.LoanStands, Loan.SameLoan, Loan.access_of_loan, Loan.taken_of, Loan.with_messages, Loan.with_resource, Loan.writable, Parts.IsApart, Parts.IsHome, Parts.LendsOut, Parts.Parts, Parts.PartsStand, Parts.SameShape, Parts.TakesBack, Parts.slot, World.Values, World.WorldState, World.merge, World.with_history, World.with_value_of}
+use Rattle.msg_world.specs.{declared.access.Access.Access, declared.lent.Lent.Lent, declared.record.Record.Record}
+use Rattle.msg_world.specs.Access.{Part, OfType, OfResource, Conflict, writes}
+use Rattle.msg_world.specs.Loan.{IsComplete, IsLoanOf, LoanStands, SameLoan, access_of_loan, taken_of, with_messages, with_resource, writable}
+use Rattle.msg_world.specs.Parts.{IsApart, IsHome, LendsOut, Parts, PartsStand, SameShape, TakesBack, slot}
+use Rattle.msg_world.specs.World.{Values, WorldState, merge, with_history, with_value_of}
 
 -- What was moved out is a loan of its access, and the world and the loan still stand for what the
 -- world stood for.

@@ -27,7 +27,10 @@ pub struct Lent<'a, V = i64> {
 impl<'a, V: Value> Lent<'a, V> {
     ghost use Rattle.std.specs.Prelude.{◌≡◌, IsTrue, is_some, not};
     ghost use Rattle.std.specs.{Borrow.sem, Option.option_copied, Option.option_copied_mut};
-    ghost use Rattle.msg_world.specs.{Access.OfResource, Access.OfType, Access.Registry, Loan.IsComplete, Loan.IsLoanOf, Loan.LendsResource, Loan.LendsWriter, Loan.LoanStands, Loan.SameLoan, Loan.access_of_loan, Loan.shown, Loan.taken_of, Loan.writable, Parts.PartsStand, World.WorldState, World.after_signal};
+    ghost use Rattle.msg_world.specs.Parts.{PartsStand};
+    ghost use Rattle.msg_world.specs.Access.{OfResource, OfType, Registry};
+    ghost use Rattle.msg_world.specs.Loan.{IsComplete, IsLoanOf, LendsResource, LendsWriter, LoanStands, SameLoan, access_of_loan, shown, taken_of, writable};
+    ghost use Rattle.msg_world.specs.World.{WorldState, after_signal};
 
     /// Opens the loan of what was moved out of the world for this access.
     pub fn open(world: &'a World<V>, access: &'a Access, taken: Taken<V>) -> Lent<'a, V>

@@ -259,6 +259,14 @@ impl<V: Value> World<V> {
         self.types.len()
     }
 
+    /// How many resources it has, at home or out.
+    pub fn resources(&self) -> usize
+        ensures resources { result ≡ length self.now.resources }
+        ensures few { result ≤ MAX_RESOURCES }
+    {
+        self.resources.len()
+    }
+
     /// How many messages of each type were ever written.
     pub fn counts(&self) -> Counts
         requires whole { IsWhole self.now }

@@ -3,7 +3,9 @@ use Rattle.std.specs.Prelude.{ℕ, ◌==◌, ◌||◌, ◌-◌, nat_le, List, fo
 use Rattle.msg_world.specs.declared.record.Record.{Record}
 use Rattle.msg_system.specs.{declared.op.Op.Op, declared.op.Op.TheVariants.Read, declared.op.Op.TheVariants.Sum, declared.op.Op.TheVariants.Write, declared.reply.Reply.Reply}
 use Rattle.msg_system.specs.Prelude.{brought}
-use Rattle.tower.specs.{declared.event.Event.Event, declared.event.Event.TheVariants.Walked, declared.event.Event.TheVariants.Shot, declared.event.Event.TheVariants.Broke, declared.part.Creep.Creep as CreepOf, declared.part.Part.Part, declared.part.Part.TheVariants.Creep, declared.part.Part.TheVariants.Tower, declared.part.Part.TheVariants.Gate}
+use Rattle.tower.specs.{declared.event.Event.Event, declared.part.Creep.Creep as CreepOf, declared.part.Part.Part}
+use Rattle.tower.specs.declared.event.Event.TheVariants.{Walked, Shot, Broke}
+use Rattle.tower.specs.declared.part.Part.TheVariants.{Creep, Tower, Gate}
 
 -- the health that an event leaves to a creep
 abbrev pub hurt : ℕ → ℕ → Event → ℕ

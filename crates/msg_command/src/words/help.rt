@@ -94,9 +94,8 @@ Each frame is told, and at the end what each reader got, missed and cleared:
   w write hit 2+1
   reader r hit start 0 got 2 missed 0 cleared 0 place 2
 
-A file may also have resources and held updates, and a system a kind, conditions (if), a
-frame to join with and a start. The ops: write, batch, read, len, missed, clear, forward,
-sum, get, set, add, drain, signal. docs/FORMATS.md describes all of it.";
+A file may also have resources and held updates, and a system other ops, a kind, conditions
+(if), a frame to join with and a start. `msgrun help run` describes all of it.";
 
 pub(crate) const RUN_IN_FULL: &str = "\
 FILE is JSON: message types with limits, systems with their ops, rules of order, and

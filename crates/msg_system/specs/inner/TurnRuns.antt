@@ -1,7 +1,9 @@
 -- What the private functions of programs and turns say. No public contract cites these.
 use Rattle.std.specs.Prelude.{◌≡◌, ℕ, ◌++◌, List, [], ◌∷◌, Option, length}
 use Rattle.msg_world.specs.{Prelude.LoanStands, Prelude.WorldState, declared.lent.Lent.Lent, Prelude.Values}
-use Rattle.msg_system.specs.{declared.behavior_system.BehaviorSystem.BehaviorSystem, declared.limits.TheConstants.MAX_OPS, declared.op.Op.Op, declared.reply.Reply.Reply, Needs.Needs, OpRuns.OpRan, Programs.AfterProgram, Programs.after_program, Systems.after_at_most, Systems.if_kept, Systems.ops_answered}
+use Rattle.msg_system.specs.{declared.behavior_system.BehaviorSystem.BehaviorSystem, declared.limits.TheConstants.MAX_OPS, declared.op.Op.Op, declared.reply.Reply.Reply, Needs.Needs, OpRuns.OpRan}
+use Rattle.msg_system.specs.Programs.{AfterProgram, after_program}
+use Rattle.msg_system.specs.Systems.{after_at_most, if_kept, ops_answered}
 
 -- the places, the loan and the replies are those after a program
 pub record IsAfterProgram {V : Type 0} {values : Values V} (after : AfterProgram values)

@@ -14,11 +14,12 @@ loop-i-preserved g c j x place lt sx sp =
             ← get_or_from_slice_get c.args.places.now i place c.index-places-i.result (rw at at sp),
             ← c.index-systems-i.is,
             ← c.index-places-i.is,
-          ) (c.fits.ensures.fit.0 c.if-not-fits.false)
+          ) (rw (c.types-types.ensures.types, c.resources-resources.ensures.resources, c.as_slice-conditions.ensures.items, ← c.index-places-i.is)
+          at ((c.fits_world.ensures.fit _ c.access.ensures.needs).0 c.if-not-fits_world.false))
     ]
 
-pub returns-then-not-fits-clause-misfit : goal.returns-then-not-fits-clause-misfit
-returns-then-not-fits-clause-misfit g c = (
+pub returns-then-not-fits_world-clause-misfit : goal.returns-then-not-fits_world-clause-misfit
+returns-then-not-fits_world-clause-misfit g c = (
   _,
   refl,
   record {
@@ -28,7 +29,8 @@ returns-then-not-fits-clause-misfit g c = (
     placed =
         let within : c.loop-i.i < length c.args.places.now = omega (arith, c.loop-i-test.true, c.requires.one_place_each) in
         slice_get_read c.args.places.now _ c.loop-i.i _ refl within c.index-places-i.is;
-    misfit = λ fit. false≢true (sym c.if-not-fits.true ∙ c.fits.ensures.fit.1 fit);
+    misfit = λ fit. false≢true (sym c.if-not-fits_world.true ∙ (c.fits_world.ensures.fit _ c.access.ensures.needs).1
+        (rw (c.types-types.ensures.types, c.resources-resources.ensures.resources, c.as_slice-conditions.ensures.items, ← c.index-places-i.is) fit));
     lowest = c.loop-i.invariant;
   },
 )

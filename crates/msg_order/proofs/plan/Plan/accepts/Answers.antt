@@ -1,7 +1,10 @@
 use Rattle.std.proofs.Common.{Bool, arith, get_or, length, refl, ℕ, ◌≡◌}
 use Rattle.std.proofs.lemmas.{Bool.false_from_ne_true, Bool.false≢true, List.get_or_read}
 use Rattle.msg_order.specs.{inner.Paths.set_at, inner.SystemSet.has, inner.SystemSet.no_set}
-use Rattle.msg_order.proofs.{SystemSets.meets-found, SystemSets.meets-true, PlanViews.seen_edges, PlanViews.seen_joined, PlanViews.settled_lawful, AcceptedOrders.goes_on, AcceptedOrders.not_all, AcceptedOrders.taken_all, AcceptedOrders.taken_first, AcceptedOrders.taken_next, plan.Plan.accepts.Goals.then-system-len-via-then-system-len, plan.Plan.accepts.Goals.then-system-len-via-else-system-len+then-not-contains, plan.Plan.accepts.Goals.then-system-len-via-else-system-len+else-not-contains+then-meets}
+use Rattle.msg_order.proofs.SystemSets.{meets-found, meets-true}
+use Rattle.msg_order.proofs.PlanViews.{seen_edges, seen_joined, settled_lawful}
+use Rattle.msg_order.proofs.AcceptedOrders.{goes_on, not_all, taken_all, taken_first, taken_next}
+use Rattle.msg_order.proofs.plan.Plan.accepts.Goals.{then-system-len-via-then-system-len, then-system-len-via-else-system-len+then-not-contains, then-system-len-via-else-system-len+else-not-contains+then-meets}
 use Rattle.msg_order.proofs.plan.Plan.accepts.Goals as goal
 
 pub loop-system-init : goal.loop-system-init

@@ -1,6 +1,6 @@
 use Rattle.std.proofs.{Common.rules, Common.refl, lemmas.Result.IfOk-weaker, lemmas.Result.on_err_weaker}
 use Rattle.msg_world.specs.{declared.part.Part.TheVariants.OfResource, declared.part.Part.TheVariants.OfType, declared.part.Part.TheVariants.Registry}
-use Rattle.msg_system.specs.Prelude.{Clear, Forward, Read, Sum}
+use Rattle.msg_system.specs.declared.op.Op.TheVariants.{Clear, Forward, Read, Sum}
 use Rattle.msg_system.proofs.Runs.{covers_read, covers_written, place_at, ran_at}
 use Rattle.msg_system.proofs.op.Op.run.Goals as goal
 
