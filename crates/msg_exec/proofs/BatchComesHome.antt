@@ -1,5 +1,5 @@
 -- The systems of a batch come home, one after the other.
-use Rattle.std.proofs.Common.{◌≡◌, ◌≢◌, ℕ, ◌<◌, false, List, [], ◌∷◌, ◌++◌, length, map, None, Result, Ok, IfOk, append_assoc, refl, sym, ap, ◌∙◌, subst, arith, All, AllPairs, Contains, IsSomeAnd, IsTrue, is_some, slice_get, if◌then◌else◌, inl, inr}
+use Rattle.std.proofs.Common.{◌≡◌, ◌≢◌, ◌||◌, ℕ, ◌<◌, false, List, [], ◌∷◌, ◌++◌, length, map, None, Result, Ok, IfOk, append_assoc, refl, sym, ap, ◌∙◌, subst, arith, All, AllPairs, Contains, IsSomeAnd, IsTrue, is_some, slice_get, if◌then◌else◌, inl, inr}
 use Rattle.std.proofs.lemmas.{Bool.cases_Bool, Bool.Decides.eqb_tells, Result.IfOk-weaker}
 use Rattle.std.proofs.lemmas.List.{append-nil, get_or-set_other, get_or-set_same, length-set, map-append, nil_from_length}
 use Rattle.std.proofs.lemmas.List.Elements.{All-cons, All-contains, All-head, All-tail, Contains-append_right}
@@ -7,7 +7,7 @@ use Rattle.std.proofs.lemmas.Slice.Zip.{AllZip-long, AllZip-left}
 use Rattle.std.proofs.lemmas.Option.{get_or_from_slice_get, slice_get_within}
 use Rattle.std.specs.List.{AllZip}
 use Rattle.msg_world.specs.declared.access.Access.{Access}
-use Rattle.msg_world.specs.{declared.part.Part.Part, Prelude.HomeMerges, Prelude.HomeWhereEither, Prelude.IsApart, Prelude.PartsStand, Prelude.SameShape, Prelude.SameSize, Prelude.slot, Prelude.writes, Prelude.Values}
+use Rattle.msg_world.specs.{declared.part.Part.Part, Prelude.IsApart, Prelude.PartsStand, Prelude.SameShape, Prelude.SameSize, Prelude.slot, Prelude.writes, Prelude.Values}
 use Rattle.msg_order.specs.Prelude.{access_of}
 use Rattle.msg_system.specs.Prelude.{Job as JobState, Meaning, after_job}
 use Rattle.msg_exec.specs.Prelude.{IsAfterJob, IsDone, JobView, Lender, LenderStands, TotalsStand, job_state, system_at}
@@ -20,6 +20,7 @@ use Rattle.msg_exec.proofs.SystemAfterTurn.{few_replies, its_own, of_another, to
 use Rattle.msg_exec.proofs.ItemsOfLists.{get_other, get_same, some_of, zip_of_each}
 use Rattle.msg_exec.proofs.BatchWritesApart.{later_write_not, written_is_used, Free}
 use Rattle.msg_frames.proofs.{SystemsStay.turns_keep_systems, ElementsAndPairs.pairs_head, ElementsAndPairs.pairs_right}
+use Rattle.msg_world.proofs.Loans.{home_merges}
 use Rattle.msg_order.proofs.Elements.{Contains-cases, Contains-head, Contains-tail, not_in_none}
 
 -- the first beside one that is there, and none beside none
@@ -104,8 +105,7 @@ module _ {S V : Type 0} {values : Values V} (meaning : S → Meaning V) where
     may_come = grind (arith, few_replies, out_of_world)
 
     module _ (new : Lender S V) (comes : ComesHome meaning now d new) (fresh : ¬ Contains rest i)
-        (free : All (Free whole.accesses.items i) rest)
-        (merges : HomeMerges values) (either : HomeWhereEither V) where
+        (free : All (Free whole.accesses.items i) rest) where
       totals_back : IsSomeAnd (slice_get new.totals.items i)
           (λ v. TotalsStand s.types v.items (member_after (turn_of s i) (s.members i)).totals)
       totals_back =
@@ -131,15 +131,16 @@ module _ {S V : Type 0} {values : Values V} (meaning : S → Meaning V) where
         ];
         totals = λ k below. grind (arith, eqb_tells, get_other, its_own, of_another, totals_back);
         untouched = λ k there. grind (arith, Contains-tail, of_another);
-        world = merges (access_of whole.accesses.items i) d.taken now.world new.world (turn_of s i).state u.world
+        world = home_merges (access_of whole.accesses.items i) d.taken now.world new.world (turn_of s i).state u.world
             (λ p isnt. none_there (slot p d.taken) (back.there p ∙ isnt)) out_of_world comes.taken_back
             back.after.written half.world;
         size = grind (arith, comes.taken_back.size, half.size);
         there = λ p.
             let later = later_write_not whole.accesses.items rest i p free in
             let here = (stands.members i lt).home p in
-            either d.taken now.world new.world comes.taken_back p
-            ∙ elim (cases_Bool (writes (access_of whole.accesses.items i) p)) [
+            let either : is_some (slot p new.world) ≡ (is_some (slot p d.taken) || is_some (slot p now.world)) =
+            grind (arith, comes.taken_back.joined p) in
+            either ∙ elim (cases_Bool (writes (access_of whole.accesses.items i) p)) [
               | inl is ↦ grind (arith, back.there p, here (written_is_used _ p is), later (written_is_used _ p is))
               | inr isnt ↦ grind (arith, back.there p, half.there p)
             ];
@@ -191,9 +192,8 @@ module _ {S V : Type 0} {values : Values V} (meaning : S → Meaning V) where
         may_come whole now s _ i rest d far.of.stands (in_batch rest i (rw at at far.all)) (rw at at far.half) back
 
     pub next_comes : {new : Lender S V} {turn : Turn V} → ComesHome meaning now d new
-        → turn ≡ record { system = d.number; outcome = d.outcome } → HomeMerges values → HomeWhereEither V
-        → ComingHome whole batch s rs new before (turns ++ turn ∷ [])
-    next_comes {new} {turn} comes tells merges either =
+        → turn ≡ record { system = d.number; outcome = d.outcome } → ComingHome whole batch s rs new before (turns ++ turn ∷ [])
+    next_comes {new} {turn} comes tells =
         let (i, rest, at, back, others_back) =
         first_beside (IsResultBack whole s) far.rest (Ok d) rs (rw is at far.back) in
         let all : far.come ++ i ∷ rest ≡ batch = rw at at far.all in
@@ -210,7 +210,7 @@ module _ {S V : Type 0} {values : Values V} (meaning : S → Meaning V) where
           half = rw (all_home_more whole.accesses.items s far.come i s)
               (one_home whole now s _ i rest d far.of.stands (in_batch rest i all) (rw at at far.half) back new comes
               (λ there. All-contains (λ j. i ≢ j) rest i (later (λ i j. i ≢ j) far.of.once) there refl)
-              (later (Free whole.accesses.items) far.of.apart) merges either);
+              (later (Free whole.accesses.items) far.of.apart));
           logged_so_far = rw (far.logged_so_far, map-append, append_assoc, same) refl;
         }
 

@@ -3,7 +3,7 @@ use Rattle.std.proofs.Common.{◌≡◌, ◌≢◌, ℕ, ◌<◌, [], ◌∷◌,
 use Rattle.std.proofs.Math.Bool.{or-false}
 use Rattle.std.specs.{Bool.⊤, Global.Box}
 use Rattle.msg_world.specs.declared.access.Access.{Access}
-use Rattle.msg_world.specs.Prelude.{HomeMerges, HomeWhereEither, LendsOut, Parts, Values}
+use Rattle.msg_world.specs.Prelude.{LendsOut, Parts, Values}
 use Rattle.msg_system.specs.Prelude.{Meaning}
 use Rattle.msg_exec.specs.Prelude.{GuardedSystem, HasTakenTurn, JobView, Lender, LenderStands, MayRun}
 use Rattle.msg_frames.specs.declared.log.Outcome.{Outcome}
@@ -65,10 +65,9 @@ module _ {S V : Type 0} {values : Values V} (meaning : S → Meaning V) {g : Len
       pub may_come_home : MayCome mid its_done
       may_come_home = next_may_come meaning refl begun
 
-      pub turn_taken : {new : Lender S V} → ComesHome meaning mid its_done new → HomeMerges values → HomeWhereEither V
-          → BatchesRunSideBySide values → LenderStands meaning new (after_turn_of i s)
-      turn_taken comes merges either law =
-          (all_came meaning law refl (next_comes meaning refl begun comes refl merges either)).0
+      pub turn_taken : {new : Lender S V} → ComesHome meaning mid its_done new → BatchesRunSideBySide values
+          → LenderStands meaning new (after_turn_of i s)
+      turn_taken comes law = (all_came meaning law refl (next_comes meaning refl begun comes refl)).0
 
       pub turn_is_logged : record { system = i; outcome = came } ≡ logged_turn s i
       turn_is_logged = λ k. record { system = i; outcome = back.after.outcome k }

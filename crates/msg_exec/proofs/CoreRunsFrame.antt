@@ -8,8 +8,9 @@ use Rattle.msg_system.specs.Prelude.{Meaning}
 use Rattle.msg_exec.specs.Prelude.{AreJoins, Core, CoreStands, Lender, LenderStands, FixedParts}
 use Rattle.msg_frames.specs.{declared.frame.Frame.Frame}
 use Rattle.msg_exec.specs.{inner.FrameSteps.HasLeft, inner.FrameSteps.HasOpened, inner.FrameSteps.NobodyJoins, inner.FrameSteps.one_frame_more, inner.SystemsOut.HaveReadNothing, inner.FrameSteps.PlansNext}
-use Rattle.msg_frames.specs.Prelude.{FrameStaysSound, IsLawfulFor, IsSoundState, SameSystems, State, after_joining, are_in_conflict, before_turns, frame, join_flags}
+use Rattle.msg_frames.specs.Prelude.{IsLawfulFor, IsSoundState, SameSystems, State, after_joining, are_in_conflict, before_turns, frame, join_flags}
 use Rattle.msg_frames.specs.Frames.{settled_order, turn_order}
+use Rattle.msg_frames.proofs.StatesStaySound.{frame_sound}
 use Rattle.msg_frames.proofs.Functions.{batches_apart, plan_is}
 use Rattle.msg_frames.proofs.SystemsStay.{accesses_stay, before_keeps, joined_is, joined_stay, joining_keeps, joining_makes_no_frame, no_cycle_stays, turns_keep_systems, turns_make_no_frame, uses_stay}
 use Rattle.msg_world.specs.Prelude.{Values}
@@ -78,10 +79,9 @@ module _ {S V : Type 0} {values : Values V} (meaning : S → Meaning V) where
         rw (planned sound) (batches_apart bt b.lender.accesses.items (uses_stay s bt keeps sound.uses)
         (grind (arith, has.lender)) (no_cycle_stays s bt keeps sound.no_cycle))
 
-    pub frame_ran : {new : Lender S V} {Told : Type 0} → IsSoundState s → FrameStaysSound values
-        → LenderStands meaning new (frame f s).state → Told → new.accesses.items ≡ b.lender.accesses.items
-        → HasLeft meaning Told f s (record b { lender = new })
-    frame_ran sound stays lender told accesses =
+    pub frame_ran : {new : Lender S V} {Told : Type 0} → IsSoundState s → LenderStands meaning new (frame f s).state → Told
+        → new.accesses.items ≡ b.lender.accesses.items → HasLeft meaning Told f s (record b { lender = new })
+    frame_ran sound lender told accesses =
         let bt : State values = before_turns f.posts s in
         let order : List ℕ = turn_order bt in
         let same = turns_keep_systems order bt in
@@ -91,7 +91,7 @@ module _ {S V : Type 0} {values : Values V} (meaning : S → Meaning V) where
             lender = lender;
             fixed = fixed_along refl refl same has.fixed;
             plan = rw (accesses, same.rules, joined_stay bt _ same (turns_make_no_frame order bt)) has.plan;
-            sound = stays f s sound;
+            sound = frame_sound f s sound;
           };
           frames = turns_make_no_frame order bt ∙ ap suc (joining_makes_no_frame s);
         }

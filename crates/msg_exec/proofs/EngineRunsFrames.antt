@@ -4,7 +4,7 @@ use Rattle.std.proofs.lemmas.Bool.{false≢true}
 use Rattle.msg_system.specs.Prelude.{Meaning}
 use Rattle.msg_exec.specs.Prelude.{Core, CoreStands, EngineOf, IsEngine, IsSpoiled, PostsFit, EngineStands, frame_count, frame_number}
 use Rattle.msg_frames.specs.{declared.frame.Frame.Frame, declared.log.Log.Log}
-use Rattle.msg_frames.specs.Prelude.{AreAccessesOf, State, run}
+use Rattle.msg_frames.specs.Prelude.{AreAccessesOf, IsSoundState, State, run}
 use Rattle.msg_exec.proofs.ItemsOfLists.{some_of}
 use Rattle.msg_world.specs.Prelude.{Values}
 
@@ -13,6 +13,14 @@ module _ {S V : Type 0} {values : Values V} (meaning : S → Meaning V) where
   pub core_of : (e : EngineOf S V) (s : State values) → EngineStands meaning e s → (c : Core S V)
       × ((e.core ≡ Some c) × CoreStands meaning c s)
   core_of e s stands = some_of e.core stands.core
+
+  -- it has counted the frames of the state
+  pub has_counted : (e : EngineOf S V) (s : State values) → EngineStands meaning e s → frame_number e ≡ frame_count s
+  has_counted e s stands = stands.frames
+
+  -- and the state is sound
+  pub is_sound : (e : EngineOf S V) (s : State values) → EngineStands meaning e s → IsSoundState s
+  is_sound e s stands = (core_of e s stands).1.1.sound
 
   -- its accesses are those of the systems
   pub accesses_of : {c : Core S V} {s : State values} → CoreStands meaning c s → AreAccessesOf s c.lender.accesses.items

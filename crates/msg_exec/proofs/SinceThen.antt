@@ -5,9 +5,9 @@ use Rattle.std.proofs.lemmas.List.{Elements.AllZip-push, Sorted.IsPermutation-re
 use Rattle.msg_system.specs.Prelude.{Meaning}
 use Rattle.msg_exec.specs.Prelude.{EngineOf, EngineStands, HasReplayed, HasRunFrame, HasRunFrames, HasRunSince}
 use Rattle.msg_frames.specs.{declared.frame.Frame.Frame, declared.log.Log.Log}
-use Rattle.msg_frames.specs.Prelude.{RunsAreComplete, State, TellsTheSame, run}
-use Rattle.msg_frames.proofs.Functions.{run_append}
-use Rattle.msg_exec.proofs.EngineRunsFrames.{core_of}
+use Rattle.msg_frames.specs.Prelude.{State, TellsTheSame, run}
+use Rattle.msg_frames.proofs.{Functions.run_append, ReaderOverRun.runs_are_complete}
+use Rattle.msg_exec.proofs.EngineRunsFrames.{is_sound}
 use Rattle.msg_world.specs.Prelude.{Values}
 
 module _ {V : Type 0} where
@@ -27,11 +27,10 @@ module _ {V : Type 0} where
 
 module _ {S V : Type 0} {values : Values V} (meaning : S → Meaning V) where
   -- an engine that stands for a state has run nothing since
-  pub since_none : RunsAreComplete values → (e : EngineOf S V) (s : State values) → EngineStands meaning e s
-      → HasRunSince meaning s [] [] e
-  since_none law e s stands = record {
+  pub since_none : (e : EngineOf S V) (s : State values) → EngineStands meaning e s → HasRunSince meaning s [] [] e
+  since_none e s stands = record {
     tell = tt;
-    complete = λ frames. law frames s (core_of meaning e s stands).1.1.sound;
+    complete = λ frames. runs_are_complete frames s (is_sound meaning e s stands);
     stands = stands;
   }
 

@@ -15,7 +15,6 @@ use crate::spares::Spares;
 use crate::{Gate, NoMemory, Turn};
 use msg_frames::laws::batches_run_side_by_side;
 use msg_system::SystemOf;
-use msg_world::laws::written_parts_come_home;
 use msg_world::{MAX_SYSTEMS, Value};
 use std::alloc::Global;
 use std::thread::Threads;
@@ -62,7 +61,6 @@ fn run_many<R: Threads + Sync, V: Value + Send + Sync, S: SystemOf<Value = V> + 
         batch.now) }
 {
     batches_run_side_by_side::<V>();
-    written_parts_come_home::<V>();
     let jobs = lend_out_all(crew.alloc, lender, batch, spares)?;
     let results = run_side_by_side(crew, &lender.world, jobs, spares.habit())?;
     for result in results {

@@ -8,7 +8,6 @@ ghost use Rattle.msg_exec.specs.inner.EngineParts.{AreNoTotals, IsAccessAt, IsPr
 use crate::engine_core::plan_by;
 use crate::job::GuardedSystem;
 use crate::{BuildRefusal, NoMemory, Place, Totals};
-use msg_order::laws::fewer_systems_make_no_cycle;
 use msg_order::{Plan, Rule, lowest_on_cycle};
 use msg_system::{Condition, Guard, SystemOf, job_access};
 use msg_world::{Access, MAX_SYSTEMS, Value};
@@ -161,7 +160,6 @@ pub(crate) fn prepare<V: Value, S: SystemOf<Value = V>>(
     ensures prepared { IfOk result
         (IsPreparedFor S.meaning types systems.now places.now rules.now) }
 {
-    fewer_systems_make_no_cycle();
     let accesses = accesses_of(alloc, systems, places)?;
     let joins = joins_of(alloc, places)?;
     let plan = plan_by(alloc, &accesses, rules, &joins, 1)?;

@@ -6,9 +6,7 @@ use crate::replay::{accepts_next, replay_one};
 use crate::side_by_side::Crew;
 use crate::spares::Spares;
 use crate::{BuildRefusal, Frame, Gate, Log, Place, RunFault, Workers};
-use msg_frames::laws::{first_states_are_sound, replays_tell_the_same, runs_are_complete};
 use msg_order::Rule;
-use msg_order::laws::fewer_systems_make_no_cycle;
 use msg_system::{System, SystemOf};
 use msg_world::{MAX_SYSTEMS, Value, World};
 use std::alloc::Global;
@@ -80,9 +78,6 @@ impl<V: Value, S: SystemOf<Value = V>> EngineOf<S, V> {
         ensures no_cycle { OnOk result (IsAcyclic (edges_of rules.items)) }
         ensures refusal { IfErr result (RefusesFor S.meaning systems.items rules.items) }
     {
-        first_states_are_sound::<V>();
-        runs_are_complete::<V>();
-        fewer_systems_make_no_cycle();
         world.stands_for_some();
         check_build(&systems, &rules)?;
         let Prepared {
@@ -188,8 +183,6 @@ impl<V: Value, S: SystemOf<Value = V>> EngineOf<S, V> {
             → frame_number self.new ≡ frame_number self.old }
         ensures engine { IsEngine V.values S.meaning self.new }
     {
-        replays_tell_the_same::<V>();
-        runs_are_complete::<V>();
         let Some(core) = &self.core else {
             return Err(RunFault::Spoiled);
         };
@@ -289,9 +282,10 @@ impl<V: Value + Send + Sync, S: SystemOf<Value = V> + Send> EngineOf<S, V> {
     /// Runs one frame: those that join do so, the types are updated, the host's posts are written,
     /// and all that have joined take their turns.
     ///
-    /// A `for` in which each round runs a frame needs an invariant of one line: in
-    /// `crates/msg_engine_tests` `expect_frames` (`src/expecting.rt`) is such a loop, and
-    /// `proofs/expecting/expect_frames/Invariants.antt` has its line.
+    /// A `for` in which each round runs a frame needs an invariant: `go_on` of `crates/tower` is
+    /// such a loop, which says what its frames came to, and `proofs/go_on/Invariants.antt` there
+    /// has its invariant. If nothing is to be said of them, one line does: `expect_frames` of
+    /// `crates/msg_engine_tests` (`src/expecting.rt`).
     ///
     /// # Errors
     ///
@@ -332,7 +326,6 @@ impl<V: Value + Send + Sync, S: SystemOf<Value = V> + Send> EngineOf<S, V> {
         ensures no_bad_order { ¬ (result ≡ Err BadOrder) }
         ensures engine { IsEngine V.values S.meaning self.new }
     {
-        runs_are_complete::<V>();
         let Some(core) = &mut self.core else {
             return Err(RunFault::Spoiled);
         };
@@ -395,7 +388,6 @@ impl<V: Value + Send + Sync, S: SystemOf<Value = V> + Send> EngineOf<S, V> {
         ensures no_bad_order { ¬ (result ≡ Err BadOrder) }
         ensures engine { IsEngine V.values S.meaning self.new }
     {
-        runs_are_complete::<V>();
         if self.core.is_none() {
             return Err(RunFault::Spoiled);
         }

@@ -13,7 +13,6 @@ use crate::posts::post_all;
 use crate::side_by_side::Crew;
 use crate::spares::Spares;
 use crate::{Frame, Gate, Items, Log, NoMemory};
-use msg_frames::laws::states_stay_sound;
 use msg_order::{Plan, PlanRefusal, Rule};
 use msg_system::{Reply, SystemOf};
 use msg_world::{Access, MAX_SYSTEMS, Value};
@@ -155,7 +154,6 @@ pub(crate) fn run_one<
         (λ log. EachPassedGate (G.passed crew.now.gate.now) crew.now.workers
         (turn_order_in log)) }
 {
-    states_stay_sound::<V>();
     let posts = open_frame(crew.alloc, core, frames, frame)?;
     let batches = core.plan.batches();
     let turns = run_batches(crew, &mut core.lender, batches, spares)?;

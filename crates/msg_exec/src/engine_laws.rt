@@ -5,7 +5,6 @@ ghost use Rattle.msg_exec.specs.Prelude.{EngineOf as EngineView, EngineStands, H
 ghost use Rattle.msg_frames.specs.Prelude.{IsSoundState, State};
 ghost use Rattle.msg_frames.specs.declared.frame.Frame.{Frame as FrameView};
 
-use msg_frames::laws::runs_are_complete;
 use msg_system::SystemOf;
 
 /// An engine that stands for a state isn't spoiled, has counted the state's frames, and takes posts
@@ -29,6 +28,4 @@ pub fn engines_stand<S: SystemOf>()
     ensures sound { (e : EngineView S S.Value) (s : State S.Value.values)
         → EngineStands S.meaning e s
         → IsSoundState s }
-{
-    runs_are_complete::<S::Value>();
-}
+{}

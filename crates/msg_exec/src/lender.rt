@@ -9,7 +9,6 @@ use crate::totals::enter;
 use crate::{NoMemory, Outcome, Totals, Turn};
 use msg_frames::laws::batches_run_side_by_side;
 use msg_system::SystemOf;
-use msg_world::laws::written_parts_come_home;
 use msg_world::{Access, Taken, Value, World};
 use std::alloc::Global;
 use std::mem::replace;
@@ -100,7 +99,6 @@ pub(crate) fn run_turn<V: Value, S: SystemOf<Value = V>>(
     ensures accesses { OnOk result (lender.new.accesses.items ≡ lender.old.accesses.items) }
 {
     batches_run_side_by_side::<V>();
-    written_parts_come_home::<V>();
     let i = number as usize;
     let access = lender.accesses[i];
     let taken = lender.world.lend_out(&access)?;

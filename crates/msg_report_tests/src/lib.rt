@@ -14,6 +14,8 @@ mod equal;
 #[cfg(test)]
 mod file_faults;
 #[cfg(test)]
+mod from_bytes;
+#[cfg(test)]
 mod made;
 #[cfg(test)]
 mod narrow;

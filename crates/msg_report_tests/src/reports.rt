@@ -13,10 +13,10 @@ use std::sync::atomic::{AtomicU64, Ordering};
 use std::thread::Threads;
 
 /// A reader that runs before the writer, in two frames.
-const LAG: &str =
+pub const LAG: &str =
     r#"{"types":[["hit",10]],"systems":[{"name":"r","ops":[["read","hit"]]},{"name":"w","ops":[["write","hit",5]]}],"rules":[["r","w"]],"frames":[[],[]]}"#;
 
-const LAG_REPORT: &str = "\
+pub const LAG_REPORT: &str = "\
     frame 1\n\
     r read hit missed 0: none\n\
     w write hit 0+1\n\

@@ -1,7 +1,10 @@
 -- From the bytes of a file to what is answered.
-use Rattle.std.specs.Prelude.{◌≡◌, ℕ, List, Ok, Some}
+use Rattle.std.specs.Prelude.{◌≡◌, ◌≢◌, ℕ, List, Ok, Some}
 use Rattle.serde_json.specs.Data.{Data}
-use Rattle.msg_json.specs.Prelude.{IsJsonOf}
+use Rattle.msg_json.specs.Prelude.{IsJsonOf, IsNotJson, IsRefusedFor}
+use Rattle.msg_json.specs.declared.fault.Fault.{Fault}
+use Rattle.msg_json.specs.declared.refusal.Refusal.{Refusal}
+use Rattle.msg_json.specs.declared.refusal.Refusal.TheVariants as refusal
 use Rattle.msg_files.specs.Prelude.{file_of}
 use Rattle.msg_files.specs.declared.calls.Calls.{Calls}
 use Rattle.msg_reading.specs.Prelude.{IsReadAs}
@@ -23,6 +26,13 @@ pub record AreOfCalls (bytes : List ℕ) (Holds : Calls → Type 0) : Type 0 whe
   pub calls : Calls
   pub read : file_of value ≡ Ok calls
   pub holds : Holds calls
+
+-- The bytes are refused for this, if it is told which faults a value has: they are no JSON text, or
+-- they are the text of a value with such a fault; or memory was refused.
+abbrev pub IsRefusedFile : (Data → Fault → Type 0) → List ℕ → Refusal → Type 0
+IsRefusedFile has bytes why = (why ≡ refusal.NotJson → IsNotJson bytes)
+    × (why ≢ refusal.NotJson → why ≢ refusal.NoMemory
+    → (d : Data) × IsJsonOf bytes d × IsRefusedFor (has d) why)
 
 -- A scenario file has one report, whoever runs it, on however many workers.
 abbrev pub EachFileHasOneReport : Type 0

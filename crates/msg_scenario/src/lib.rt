@@ -2,8 +2,13 @@
 //! The parts are crates of their own: reading and reports need nothing of one another.
 #![tactic(auto)]
 
+mod answer_fault;
+mod answering;
 pub mod laws;
+mod scenario_system;
 
+pub use answer_fault::AnswerFault;
+pub use answering::{answer_bytes, report_bytes};
 pub use msg_files::{Call, Calls, check_calls, read_calls, run_calls};
 pub use msg_json::{Fault, FileFault, Key, Location, Reason, Refusal, Step, add_told};
 pub use msg_plans::{Cause, Clash, Form, User, add_unfit, clash_of, put_plan, round};

@@ -1,2 +1,1 @@
 pub mod CheckedFiles
-mod EndedRuns

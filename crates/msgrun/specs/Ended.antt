@@ -1,16 +1,16 @@
--- How the program ends by what a run of a scenario came to.
+-- How the program ends.
 use Rattle.std.specs.Prelude.{ℕ, Result, Ok, Err}
-use Rattle.msg_text.specs.declared.report_fault.ReportFault.{ReportFault}
+use Rattle.msg_scenario.specs.declared.answer_fault.AnswerFault.{AnswerFault}
+use Rattle.msg_scenario.specs.declared.answer_fault.AnswerFault.TheVariants as answer
 use Rattle.msg_command.specs.Prelude.{status_of}
 use Rattle.msg_command.specs.declared.fault.MainFault.{MainFault}
-use Rattle.msg_command.specs.declared.fault.MainFault.TheVariants.{Built, Report}
+use Rattle.msg_command.specs.declared.fault.MainFault.TheVariants as main
 
--- the fault that ends the program, by what a run of a scenario came to
-abbrev pub main_fault : {E : Type 0} → Result (Result (Unit {0}) ReportFault) E
-    → Result (Unit {0}) MainFault
-main_fault (Ok (Ok u)) = Ok u
-main_fault (Ok (Err fault)) = Err (Report fault)
-main_fault (Err e) = Err Built
+-- the fault that ends the program, by why a file wasn't answered to its end
+abbrev pub main_fault : AnswerFault → MainFault
+main_fault (answer.Refused why) = main.Refused why
+main_fault answer.NoMemory = main.Built
+main_fault (answer.Report fault) = main.Report fault
 
 -- the status that the program ends with
 abbrev pub status_after : Result (Unit {0}) MainFault → ℕ

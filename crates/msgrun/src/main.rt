@@ -9,19 +9,16 @@
 
 ghost use Rattle.std.specs.Prelude.{◌≡◌, ◌<◌, ◌≤◌, IfOk};
 ghost use Rattle.msg_scenario_data.specs.Prelude.{IsRunnable};
-ghost use Rattle.msgrun.specs.Prelude.{status_after};
+ghost use Rattle.msgrun.specs.Prelude.{main_fault, status_after};
 
-mod answering;
-mod boxes;
-mod building;
 mod checking;
 
-use answering::{answer_bytes, report_bytes};
 use checking::check;
 use msg_command::{Action, InputFault, MainFault, WordFault, parse_words, print_fault, read_all};
 use msg_exec::{MAX_WORKERS, Workers};
 use msg_plans::{Form, put_plan};
 use msg_reading::read_scenario;
+use msg_scenario::{AnswerFault, answer_bytes, report_bytes};
 use msg_scenario_data::Scenario;
 use msg_text::{StdSink, put_all, put_text};
 use std::env::Env;
@@ -68,7 +65,7 @@ fn answer_calls<R: AllocGlobal + Files + Input + Print>(
 ) -> Result<(), MainFault> {
     let bytes = bytes_of(rt, file)?;
     let mut output = StdSink::new(io::writer(rt));
-    answer_bytes(rt.alloc(), bytes.as_slice(), &mut output)
+    answer_bytes(rt.alloc(), bytes.as_slice(), &mut output).map_err(as_main_fault)
 }
 
 /// Runs a scenario file on 1 to 64 workers, and reports on standard output.
@@ -85,7 +82,18 @@ fn answer_scenario<R: AllocGlobal + Files + Input + Print + Sync + Threads>(
     };
     let bytes = bytes_of(rt, Some(file))?;
     let mut output = StdSink::new(io::writer(rt));
-    report_bytes(rt, bytes.as_slice(), workers, &mut output)
+    report_bytes(rt, bytes.as_slice(), workers, &mut output).map_err(as_main_fault)
+}
+
+/// Why a file wasn't answered to its end, as the fault that ends the program.
+fn as_main_fault(fault: AnswerFault) -> MainFault
+    ensures fault { result ≡ main_fault fault }
+{
+    match fault {
+        AnswerFault::Refused(refusal) => MainFault::Refused(refusal),
+        AnswerFault::NoMemory => MainFault::Built,
+        AnswerFault::Report(fault) => MainFault::Report(fault),
+    }
 }
 
 /// Checks a file, and puts its counts on standard output.

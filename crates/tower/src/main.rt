@@ -2,11 +2,13 @@
 //! that decide, put together by a builder and run on four workers.
 #![tactic(auto)]
 
-ghost use Rattle.std.specs.Prelude.{◌<◌, [], IfOk, length, map};
+ghost use Rattle.std.specs.Prelude.{◌<◌, ◌++◌, [], IfOk, List, OnOk, length, map};
 ghost use Rattle.msg_world.specs.Prelude.{IsWhole, PartsStand, WorldState};
-ghost use Rattle.msg_frames.specs.Prelude.{first_state};
-ghost use Rattle.msg_exec.specs.Prelude.{HasRunFrames, numbered_from};
+ghost use Rattle.msg_frames.specs.Prelude.{State, first_state};
+ghost use Rattle.msg_frames.specs.declared.frame.Frame.{Frame as FrameView};
+ghost use Rattle.msg_exec.specs.Prelude.{HasRunFrames, HasRunSince, IsEngine, numbered_from};
 ghost use Rattle.tower.specs.Events.{event_values};
+ghost use Rattle.tower.specs.declared.event.Event.{Event as EventView};
 
 mod event;
 mod part;
@@ -125,6 +127,8 @@ fn defend<R: Threads + Sync>(
         (numbered_from 0
         (map ⟦<BehaviorSystem<Part> as SystemOf>⟧.meaning parts.systems)) parts.places
         parts.rules (length world.types) w) [] r.1.items r.0) }
+    ensures engine { IfOk result
+        (λ r. IsEngine event_values ⟦<BehaviorSystem<Part> as SystemOf>⟧.meaning r.0) }
 {
     let mut engine = parts.build(world)?;
     anyhow::ensure!(
@@ -134,6 +138,33 @@ fn defend<R: Threads + Sync>(
     let mut logs = Vec::new(alloc);
     engine.run_frames(rt, frames, workers, &NoGate, &mut logs)?;
     Ok((engine, logs))
+}
+
+/// Runs more frames one by one, as a game does that draws after each of them, and appends their
+/// logs. What holds after each round stands in `proofs/go_on/Invariants.antt`.
+fn go_on<R: Threads + Sync, S: SystemOf<Value = Event> + Send>(
+    rt: &R,
+    engine: &mut EngineOf<S, Event>,
+    frames: &[Frame<Event>],
+    workers: Workers,
+    logs: &mut Vec<Log<Event>>,
+) -> anyhow::Result<()>
+    requires engine { IsEngine event_values S.meaning engine.old }
+
+    // Whatever was run before: these frames go on with that run, and all logs are those of one
+    // thread.
+    ensures since { OnOk result ((s : State event_values) (before : List (FrameView EventView))
+        → HasRunSince S.meaning s before logs.old.items engine.old
+        → HasRunSince S.meaning s (before ++ frames.now) logs.new.items engine.new) }
+{
+    anyhow::ensure!(
+        engine.all_fit(frames),
+        "a post is to a type that isn't there"
+    );
+    for frame in frames {
+        logs.push(engine.run_frame(rt, frame, workers, &NoGate)?)?;
+    }
+    Ok(())
 }
 
 /// Frames before which the host posts nothing.
@@ -179,7 +210,8 @@ fn tell<R: Print>(rt: &R, engine: &EngineOf<BehaviorSystem<Part>, Event>) -> any
     tell_lives(rt, engine)
 }
 
-/// Plays these frames on four workers, and prints what came of them.
+/// Plays these frames on four workers, the first half as a list and the others one by one, and
+/// prints what came of them.
 fn play<R: Threads + AllocGlobal + Print + Sync>(
     rt: &R,
     frames: &[Frame<Event>],
@@ -187,7 +219,9 @@ fn play<R: Threads + AllocGlobal + Print + Sync>(
     let (alloc, workers) = (rt.alloc(), Workers::new(4).unwrap());
     let parts = lanes(alloc)?;
     let world = World::new(alloc, &[100; 9], &[Event::Lives(LIVES)])?;
-    let (engine, _logs) = defend(rt, alloc, parts, world, frames, workers)?;
+    let (first, others) = frames.split_at(frames.len() / 2);
+    let (mut engine, mut logs) = defend(rt, alloc, parts, world, first, workers)?;
+    go_on(rt, &mut engine, others, workers, &mut logs)?;
     tell(rt, &engine)
 }
 

@@ -8,7 +8,6 @@ ghost use Rattle.msg_reports.specs.{inner.LineStarts.AreLines, inner.SoFar.IsAft
 
 use crate::reports::lines::make_lines;
 use crate::reports::put::{Reporter, put_accounts, put_frame};
-use msg_exec::engine_laws::engines_stand;
 use msg_exec::{EngineOf, Gate, Workers};
 use msg_scenario_data::Scenario;
 use msg_system::SystemOf;
@@ -82,7 +81,6 @@ pub fn report<R: Threads + Sync + AllocGlobal, X: SystemOf<Value = i64> + Send, 
         scenario.now result sink.old sink.new)
         × LeavesEngine X.meaning left engine.old engine.new }
 {
-    engines_stand::<X>();
     let lines = make_lines(rt.alloc(), scenario)?;
     let mut reporter = Reporter {
         scenario,

@@ -50,8 +50,7 @@ pub loop-result-preserved : goal.loop-result-preserved
 loop-result-preserved g c s stands =
     rw c.in_ok-push.ensures.items
     (next_comes g.S.SystemOf.meaning (rw c.in_ok-done.was at c.in-Some.ensures.steps.0) (c.loop-result.invariant s stands)
-    c.take_back.ensures.home c.take_back.ensures.turn c.written_parts_come_home.ensures.meaning
-    c.written_parts_come_home.ensures.either)
+    c.take_back.ensures.home c.take_back.ensures.turn)
 
 pub returns : goal.returns
 returns g c =

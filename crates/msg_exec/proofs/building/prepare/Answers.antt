@@ -4,7 +4,7 @@ use Rattle.msg_exec.proofs.building.prepare.Goals as goal
 
 pub plan_by-requires-clause-no_cycle : goal.plan_by-requires-clause-no_cycle
 plan_by-requires-clause-no_cycle g c joined size =
-    none_more c.fewer_systems_make_no_cycle.ensures.law _ c.args.rules.now c.requires.in_range c.requires.no_cycle joined
+    none_more _ c.args.rules.now c.requires.in_range c.requires.no_cycle joined
     (size ∙ ap length c.deref.ensures.value ∙ c.in_ok-accesses.ensures.as_many)
 
 pub returns : goal.returns

@@ -44,7 +44,7 @@ returns g c =
       ran = λ s stands is.
           let has = c.in_ok-posts.ensures.opened s stands is in
           let same = in_turn g.S.SystemOf.meaning has stands.sound in
-          frame_ran g.S.SystemOf.meaning has stands.sound c.states_stay_sound.ensures.frame
+          frame_ran g.S.SystemOf.meaning has stands.sound
           (rw same at (turns.state _ has.lender)) (rw same at (logged_in frame order s _ replies
           c.from_vec.ensures.items has.posts (c.from_vec-2.ensures.items ∙ turns.turns _ has.lender))) turns.accesses;
       gate_passed =

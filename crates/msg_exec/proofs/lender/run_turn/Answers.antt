@@ -48,7 +48,6 @@ returns-clause-state g c s stands =
             }),
       );
     })
-    c.written_parts_come_home.ensures.meaning c.written_parts_come_home.ensures.either
     c.batches_run_side_by_side.ensures.law
 
 pub returns-clause-logged : goal.returns-clause-logged

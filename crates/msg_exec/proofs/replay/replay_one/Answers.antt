@@ -33,7 +33,7 @@ returns g c = record {
       ∙ ap (λ ts. ts ++ (after_turns_of order bt).turns) c.in_ok-turns.ensures.empty) in
       let alike = c.frames_agree_in_lawful_orders.ensures.law frame s c.args.core.now.lender.accesses.items order
       stands.sound.uses stands.sound.no_cycle (accesses_of m stands) lawful in
-      frame_ran m has stands.sound c.states_stay_sound.ensures.frame
+      frame_ran m has stands.sound
       (rw alike.0 at (c.in_ok-run_turns.ensures.state bt has.lender))
       (record {
         lawful = lawful;

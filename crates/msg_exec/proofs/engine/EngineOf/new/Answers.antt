@@ -3,7 +3,7 @@ use Rattle.std.proofs.lemmas.Result.{err_from_is_err_and}
 use Rattle.msg_exec.specs.Prelude.{Core, FixedParts}
 use Rattle.msg_frames.specs.Prelude.{State, before_joining, with_joining}
 use Rattle.msg_exec.proofs.{FirstEngineStands.are_new, FirstEngineStands.none_more, FirstEngineStands.parts_stand, FirstEngineStands.fixed_first, CoreRunsFrame.joined_by_frame, CoreRunsFrame.fixed_along, SinceThen.since_none}
-use Rattle.msg_frames.proofs.SystemsStay.{joining_on_keeps}
+use Rattle.msg_frames.proofs.{FirstStatesAreSound.first_is_sound, SystemsStay.joining_on_keeps}
 use Rattle.msg_exec.proofs.engine.EngineOf.new.Goals as goal
 
 pub returns-in_err-check_build-clause-refusal : goal.returns-in_err-check_build-clause-refusal
@@ -68,15 +68,15 @@ returns-clause-since g c w stands =
     let fixed : FixedParts core s = fixed_along refl refl (joining_on_keeps 1 first)
     (fixed_first m _ systems places c.requires.whole c.requires.one_place_each c.requires.each core rules w
     c.requires.few c.requires.in_range refl parts.1) in
-    let none = none_more c.fewer_systems_make_no_cycle.ensures.law (length systems) rules c.requires.in_range
+    let none = none_more (length systems) rules c.requires.in_range
     (rw c.deref-2.ensures.value at c.in_ok-check_build.ensures.no_cycle) in
-    since_none m c.runs_are_complete.ensures.law _ s (record {
+    since_none m _ s (record {
       core = record {
         lender = c.join_those.ensures.joined first parts.0 (rw c.deref-7.ensures.value parts.1) parts.2;
         fixed = fixed;
         plan = rw (c.join_those.ensures.accesses, ← joined_by_frame made.joins.items s 1 fixed.joins (omega arith))
             prepared.plan;
-        sound = c.first_states_are_sound.ensures.law (map m systems) places rules (length c.args.world.types) w
+        sound = first_is_sound (map m systems) places rules (length c.args.world.types) w
             (are_new m _ systems places c.requires.whole c.requires.one_place_each c.requires.each rules w stands
             c.stands_for_some.ensures.few none);
       };

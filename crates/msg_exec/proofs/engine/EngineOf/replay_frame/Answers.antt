@@ -2,7 +2,7 @@ use Rattle.std.proofs.Common.{◌≡◌, ◌∷◌, [], refl, sym, ap, ◌∙◌
 use Rattle.std.proofs.lemmas.Bool.{false≢true}
 use Rattle.std.specs.Result.{is_ok}
 use Rattle.msg_exec.proofs.EngineRunsFrames.{is_alive, its_core, still_fit, stood}
-use Rattle.msg_frames.proofs.Functions.{run_keeps}
+use Rattle.msg_frames.proofs.{Functions.run_keeps, ReaderOverRun.runs_are_complete, ReplaysTellTheSame.replays_tell}
 use Rattle.msg_exec.proofs.SinceThen.{since_replay}
 use Rattle.msg_exec.proofs.engine.EngineOf.replay_frame.Goals as goal
 
@@ -30,8 +30,8 @@ returns-clause-replayed g c s stands =
       lawful = replay.lawful;
       tells = replay.tells;
       in_order = replay.in_order;
-      alike = c.replays_tell_the_same.ensures.law (frame ∷ []) s (_ ∷ []) (replay.tells, tt);
-      complete = c.runs_are_complete.ensures.law (frame ∷ []) s core.sound;
+      alike = replays_tell (frame ∷ []) s (_ ∷ []) (replay.tells, tt);
+      complete = runs_are_complete (frame ∷ []) s core.sound;
       stands =
           record { core = rw c.count_frame.ensures.core ran.stands; frames = omega (arith, stands.frames, ran.frames) };
     }

@@ -1,6 +1,6 @@
 use Rattle.std.proofs.Common.{◌∷◌, [], inr, arith, ap, is_some}
 use Rattle.msg_exec.proofs.EngineRunsFrames.{is_alive, its_core, still_fit, stood}
-use Rattle.msg_frames.proofs.Functions.{run_keeps}
+use Rattle.msg_frames.proofs.{Functions.run_keeps, ReaderOverRun.runs_are_complete}
 use Rattle.msg_exec.proofs.SinceThen.{since_frame}
 use Rattle.msg_exec.proofs.engine.EngineOf.run_frame.Goals as goal
 
@@ -14,7 +14,7 @@ returns-clause-ran g c s stands =
     let ran = c.in-Ok.ensures.ran s core stands.frames in
     record {
       tells = ran.told;
-      complete = c.runs_are_complete.ensures.law (c.args.frame.now ∷ []) s core.sound;
+      complete = runs_are_complete (c.args.frame.now ∷ []) s core.sound;
       stands =
           record { core = rw c.count_frame.ensures.core ran.stands; frames = omega (arith, stands.frames, ran.frames) };
     }

@@ -4,8 +4,8 @@ use Rattle.msg_world.specs.declared.run_fault.RunFault.TheVariants.{NoMemory, Sp
 use Rattle.msg_workers.specs.Prelude.{EachPassedGate}
 use Rattle.msg_frames.specs.Prelude.{turn_order_in}
 use Rattle.msg_frames.specs.Prelude.{run}
-use Rattle.msg_frames.proofs.Functions.{run_append}
-use Rattle.msg_exec.proofs.EngineRunsFrames.{core_of}
+use Rattle.msg_frames.proofs.{Functions.run_append, ReaderOverRun.runs_are_complete}
+use Rattle.msg_exec.proofs.EngineRunsFrames.{is_sound}
 use Rattle.msg_exec.proofs.SinceThen.{since_frames}
 use Rattle.msg_exec.proofs.engine.EngineOf.run_frames.Given as given
 use Rattle.msg_exec.proofs.engine.EngineOf.run_frames.Goals as goal
@@ -55,12 +55,11 @@ loop-frame-preserved g c =
 pub returns-clause-ran : goal.returns-clause-ran
 returns-clause-ran g c s stands =
     let far = c.loop-frame.invariant.so_far s stands in
-    let core = (core_of g.S.SystemOf.meaning c.args.self.now s stands).1.1 in
     let frames = c.args.frames.now in
     let all = take_all c.loop-frame.frame-index frames (omega arith) in
     record {
       appended = rw all at far.appended;
-      complete = c.runs_are_complete.ensures.law frames s core.sound;
+      complete = runs_are_complete frames s (is_sound g.S.SystemOf.meaning c.args.self.now s stands);
       stands = rw all at far.stands;
     }
 

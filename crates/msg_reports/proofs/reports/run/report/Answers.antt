@@ -2,6 +2,8 @@ use Rattle.std.proofs.Common.{[], ap, arith, length, refl, ◌∙◌}
 use Rattle.std.proofs.lemmas.Result.{err_from_is_err_and}
 use Rattle.msg_scenario_data.specs.Prelude.{state_of}
 use Rattle.std.proofs.KnownBytes.{Appends-nil}
+use Rattle.msg_frames.proofs.ReaderOverRun.{runs_are_complete}
+use Rattle.msg_exec.proofs.EngineRunsFrames.{has_counted, is_alive, is_sound}
 use Rattle.msg_reports.proofs.{TextsByPieces.zip-nil, Reporting.ended, Reporting.no_memory_for_accounts, Reporting.readers_done, Reporting.stopped_before_all}
 use Rattle.msg_reports.proofs.reports.run.report.Goals as goal
 
@@ -18,8 +20,8 @@ loop-init g c = (
     printed = rw (zip-nil c.args.scenario.now.frames) (Appends-nil _);
     quiet = refl;
     stands = c.requires.engine;
-    counted = c.engines_stand.ensures.counted _ _ c.requires.engine;
-    alive = c.engines_stand.ensures.alive _ _ c.requires.engine;
+    counted = has_counted g.X.SystemOf.meaning _ _ c.requires.engine;
+    alive = is_alive g.X.SystemOf.meaning _ _ c.requires.engine;
   },
   record { scenario = refl; lines = refl; reported = refl },
 )
@@ -31,7 +33,7 @@ returns-in_err-lines g c =
     record {
       leaves = rw passed.1
           (stopped_before_all _ _ _ _ _ passed.0 passed.2 _ c.requires.engine
-          (c.engines_stand.ensures.counted _ _ c.requires.engine));
+          (has_counted g.X.SystemOf.meaning _ _ c.requires.engine));
     }
 
 pub returns-in_err-report_frame : goal.returns-in_err-report_frame
@@ -52,7 +54,7 @@ returns-in-Ok g c =
       leaves = readers_done _ _ _ _ _ _ _ _ _ c.loop.invariant.0 _ c.as_slice.result.now
           (omega (arith, ap length c.as_slice-items.ensures.items))
           (λ u stands. c.as_slice.ensures.value ∙ c.in-Ok.ensures.accounts u stands) _
-          (c.engines_stand.ensures.since _ (state_of c.args.scenario.now) c.requires.engine).complete
+          (λ frames. runs_are_complete frames (state_of c.args.scenario.now) (is_sound g.X.SystemOf.meaning _ _ c.requires.engine))
           (rw same.scenario at put.ok) put.quiet (rw same.scenario at put.prefix) put.write put.memory put.faults;
     }
 

@@ -1,0 +1,50 @@
+ghost use Rattle.std.specs.Prelude.{◌≡◌};
+
+use msg_json::Refusal;
+use msg_text::ReportFault;
+use msg_world::NoMemory;
+use thiserror::Error;
+
+/// Why the bytes of a file weren't answered to the end.
+#[derive(Clone, Copy, Debug, PartialEq, Eq, Error)]
+pub enum AnswerFault {
+    /// They are refused.
+    #[error("refused {0}")]
+    Refused(Refusal),
+    /// Memory was refused while an engine was made of the scenario.
+    #[error("want of memory")]
+    NoMemory,
+    /// The answers or the report weren't put to their end.
+    #[error("{0}")]
+    Report(ReportFault),
+}
+
+impl From<Refusal> for AnswerFault {
+    ghost use Rattle.msg_scenario.specs.declared.answer_fault.AnswerFault.TheVariants.{Refused as IsRefused};
+
+    ghost from_gives = { λ refusal fault. fault ≡ IsRefused refusal };
+
+    fn from(refusal: Refusal) -> Self {
+        AnswerFault::Refused(refusal)
+    }
+}
+
+impl From<NoMemory> for AnswerFault {
+    ghost use Rattle.msg_scenario.specs.declared.answer_fault.AnswerFault.TheVariants.{NoMemory as NoEngine};
+
+    ghost from_gives = { λ _ fault. fault ≡ NoEngine };
+
+    fn from(_error: NoMemory) -> Self {
+        AnswerFault::NoMemory
+    }
+}
+
+impl From<ReportFault> for AnswerFault {
+    ghost use Rattle.msg_scenario.specs.declared.answer_fault.AnswerFault.TheVariants.{Report as NotReported};
+
+    ghost from_gives = { λ came fault. fault ≡ NotReported came };
+
+    fn from(came: ReportFault) -> Self {
+        AnswerFault::Report(came)
+    }
+}

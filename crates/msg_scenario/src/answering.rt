@@ -1,0 +1,95 @@
+// From the bytes of a file to what a sink takes.
+ghost use Rattle.std.specs.Prelude.{◌≡◌, ◌⊎◌, Err, IfOk, OnErr, OnOk};
+ghost use Rattle.std.specs.Io.KnownBytes.{Appends};
+ghost use Rattle.msg_text.specs.Prelude.{AppendsPrefix};
+ghost use Rattle.msg_text.specs.declared.report_fault.ReportFault.{ReportFault as FaultView};
+ghost use Rattle.msg_json.specs.declared.refusal.Refusal.{Refusal as RefusalView};
+ghost use Rattle.msg_files.specs.Prelude.{calls_text, file_of};
+ghost use Rattle.msg_reading.specs.Prelude.{HasFault};
+ghost use Rattle.msg_reports.specs.Prelude.{IsReported, LeavesReport};
+ghost use Rattle.msg_scenario_data.specs.Prelude.{IsRunnable};
+ghost use Rattle.msg_scenario.specs.FromBytes.{AreOfCalls, IsOfScenario, IsRefusedFile};
+
+use crate::AnswerFault;
+use crate::scenario_system::systems_of;
+use msg_exec::{NoGate, NoMemory, Workers};
+use msg_files::{read_calls, run_calls};
+use msg_reading::read_scenario;
+use msg_reports::run_scenario;
+use msg_scenario_data::Scenario;
+use msg_text::{ReportFault, Sink};
+use std::alloc::Global;
+use std::thread::Threads;
+
+/// Answers the calls of a calls file, a line for each.
+///
+/// # Errors
+///
+/// `Refused` if the bytes are no calls file, and then the sink is as it was; `Report` if the sink
+/// failed, or if there was no memory for a call or a line.
+pub fn answer_bytes<S: Sink>(alloc: Global, bytes: &[u8], sink: &mut S) -> Result<(), AnswerFault>
+    ensures ok { OnOk result (AreOfCalls bytes.now (λ calls.
+        Appends (S.contents sink.old) (S.contents sink.new) (calls_text calls))) }
+    ensures front { OnErr result ((sink.new ≡ sink.old) ⊎ AreOfCalls bytes.now (λ calls.
+        (fault : FaultView) × (result ≡ Err (AnswerFault.Report fault))
+        × AppendsPrefix (S.contents sink.old) (S.contents sink.new) (calls_text calls))) }
+    ensures refused { (why : RefusalView) → result ≡ Err (AnswerFault.Refused why)
+        → IsRefusedFile (λ d e. file_of d ≡ Err e) bytes.now why }
+{
+    let calls = read_calls(alloc, bytes)?;
+    let answered = run_calls(alloc, &calls, sink);
+    drop(calls);
+    Ok(answered?)
+}
+
+/// Makes the systems of a scenario, and runs the scenario by them.
+fn run_systems<R: Threads + Sync + AllocGlobal, S: Sink>(
+    rt: &R,
+    scenario: &Scenario,
+    workers: Workers,
+    sink: &mut S,
+) -> Result<Result<(), ReportFault>, NoMemory>
+    requires runnable { IsRunnable scenario.now }
+
+    // Whatever the workers: the text is that of one thread.
+    ensures leaves { IfOk result (λ came.
+        LeavesReport S.contents S.failures scenario.now came sink.old sink.new) }
+    ensures no_engine { OnErr result (sink.new ≡ sink.old) }
+{
+    let systems = systems_of(rt.alloc(), scenario)?;
+    run_scenario(rt, scenario, systems, workers, &NoGate, sink)
+}
+
+/// Runs the scenario of a scenario file, and reports it. The text is a function of the bytes,
+/// whatever the workers: a file has one report (`laws::each_file_has_one_report`).
+///
+/// ```
+/// let mut sink = MemorySink::new();
+/// report_bytes(&rt, file.as_bytes(), workers, &mut sink)?;
+/// ```
+///
+/// # Errors
+///
+/// `Refused` if the bytes are no scenario file, `NoMemory` if there was no engine, and then the
+/// sink is as it was; `Report` with the fault of the report.
+pub fn report_bytes<R: Threads + Sync + AllocGlobal, S: Sink>(
+    rt: &R,
+    bytes: &[u8],
+    workers: Workers,
+    sink: &mut S,
+) -> Result<(), AnswerFault>
+
+    // Whatever the workers: the report is that of one thread.
+    ensures ok { OnOk result (IsOfScenario bytes.now (λ scenario.
+        IsReported scenario (S.contents sink.old) (S.contents sink.new))) }
+    ensures front { OnErr result ((sink.new ≡ sink.old) ⊎ IsOfScenario bytes.now (λ scenario.
+        (fault : FaultView) × (result ≡ Err (AnswerFault.Report fault))
+        × LeavesReport S.contents S.failures scenario (Err fault) sink.old sink.new)) }
+    ensures refused { (why : RefusalView) → result ≡ Err (AnswerFault.Refused why)
+        → IsRefusedFile HasFault bytes.now why }
+{
+    let scenario = read_scenario(rt.alloc(), bytes)?;
+    let came = run_systems(rt, &scenario, workers, sink);
+    drop(scenario);
+    Ok(came??)
+}

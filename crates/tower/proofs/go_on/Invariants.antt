@@ -1,0 +1,17 @@
+use Rattle.std.proofs.Common.{◌++◌, All, List, take}
+use Rattle.msg_exec.specs.Prelude.{HasRunSince, IsEngine, PostsFit}
+use Rattle.msg_frames.specs.Prelude.{State}
+use Rattle.msg_frames.specs.declared.frame.Frame.{Frame}
+use Rattle.tower.specs.Events.{event_values}
+use Rattle.tower.specs.declared.event.Event.{Event}
+use Rattle.tower.proofs.go_on.Given as goal
+
+-- the frames so far go on with the run before
+abbrev pub invariant-loop-frame : goal.invariant-loop-frame
+invariant-loop-frame g l = record {
+  engine : IsEngine event_values g.S.SystemOf.meaning l.engine;
+  fit : All (PostsFit l.engine) l.frames;
+  since : (s : State event_values) (before : List (Frame Event))
+      → HasRunSince g.S.SystemOf.meaning s before l.initial.logs.items l.initial.engine
+      → HasRunSince g.S.SystemOf.meaning s (before ++ take l.frame-index l.frames) l.logs.items l.engine;
+}
