@@ -262,6 +262,10 @@ impl<M: Drop, A: Allocator> Messages<M, A> {
     pub fn update(&mut self)
         ensures meaning { (h : History M) → StandsFor self.old h → StandsFor self.new (update h) }
     {
+        if self.older.start == self.count {
+            // Nothing is kept.
+            return;
+        }
         swap(&mut self.older, &mut self.newer);
         self.newer.restart(self.count);
     }
