@@ -1,6 +1,5 @@
 -- Bits of masks, as tests.
-use Rattle.std.proofs.Common.{◌≡◌, ◌≢◌, ℕ, zero, suc, ◌+◌, ◌*◌, ◌-◌, ◌/◌, ◌^◌, ◌%◌, ◌<◌, ◌≤◌, Bool, true, false, not, ◌&&◌, ◌||◌, inl, inr, ap, sym, ◌∙◌, arith, w64, ◌==◌, ◌↔◌, IsTrue, bit_and, bit_or, count_ones, nat_lt}
-use lib.Count.{ones_step}
+use Rattle.std.proofs.Common.{◌≡◌, ◌≢◌, ℕ, zero, suc, ◌+◌, ◌*◌, ◌-◌, ◌/◌, ◌^◌, ◌%◌, ◌<◌, ◌≤◌, Bool, true, false, not, ◌&&◌, ◌||◌, inl, inr, ap, sym, ◌∙◌, arith, w64, ◌==◌, ◌↔◌, IsTrue, bit_and, bit_or, nat_lt}
 use Rattle.std.proofs.{Math.Bool.and-true, Math.Nat.div-le_self, lemmas.Nat.shr-shr}
 use Rattle.std.proofs.lemmas.Bool.{cases_lt, cases_eq, eqb-true, eq-eqb, ne_eqb, eqb-false, le-ltb, lt-ltb, not-true, false≢true}
 use Rattle.std.proofs.lemmas.Bool.Decides.{eqb_tells, nat_tests}
@@ -93,23 +92,6 @@ shr-is_below mask n fits = (
   λ below. grind (arith, nat_tests, next_is_set mask n fits, below),
 )
 
--- ---- how many bits are set from a number on
-
-ones_from : (mask n : ℕ) → count_ones (mask / 2 ^ n) ≡ mask / 2 ^ n % 2 + count_ones (mask / 2 ^ (n + 1))
-ones_from mask n = ones_step (mask / 2 ^ n) ∙ ap (λ m. mask / 2 ^ n % 2 + count_ones m) (shr-shr mask n 1)
-
--- one less from the next number on, if the bit is set
-pub one_less : (mask n : ℕ) → IsTrue (has_bit mask n) → count_ones (mask / 2 ^ n) ≡ count_ones (mask / 2 ^ (n + 1)) + 1
-one_less mask n set = grind (arith, nat_tests, ones_from mask n)
-
--- as many, if none is set before the next number
-pub as_many_ones : (mask n d : ℕ) → ((k : ℕ) → n ≤ k → k < n + d → has_bit mask k ≡ false)
-    → count_ones (mask / 2 ^ (n + d)) ≡ count_ones (mask / 2 ^ n)
-as_many_ones mask n zero none = grind arith
-as_many_ones mask n (suc d) none =
-    let rest = as_many_ones mask n d (λ k le l. none k le (omega arith)) in
-    grind (arith, nat_tests, ones_from mask (n + d), bit_at-lt mask (n + d), none (n + d), rest)
-
 -- ---- the bits below a number
 
 -- below the next bit after n are those below n, and n
@@ -127,6 +109,6 @@ pub all_below : (mask n : ℕ) → mask < 2 ^ 64 → 64 ≤ n → (k : ℕ) → 
 all_below mask n fits past k = grind (arith, cases_lt, lt-ltb, and-true, has_bit-above)
 
 -- what the functions of masks are proved by
-pub ruleset next_bits = (none_from, next_is_set, next_is_below, none_before_next, as_many_ones)
+pub ruleset next_bits = (none_from, next_is_set, next_is_below, none_before_next)
 
 pub ruleset of_masks = (has_bit-or, has_bit-set, has_bit-clear, share_bit-and, shr-is_below, next_bits)

@@ -1,8 +1,8 @@
 -- Accesses, by their masks
 pub mod Bits
 pub mod Conflicts
--- Parts that were moved out of slots
-pub mod Placed
+-- Slots, and parts that go out of them
+pub mod PartsMove
 -- Worlds, and what is lent of them
 mod Worlds
 pub mod Loans

@@ -6,8 +6,8 @@ use Rattle.std.proofs.lemmas.Bool.{cases_eq, cases_lt, false≢true}
 use Rattle.std.proofs.lemmas.List.{get_or_default, get_or-set_same, get_or-set_other, get_or_past, get_or-map, length-map, length-replicate}
 use Rattle.msg_buffer.specs.Prelude.{History, Kept, StandsFor, empty}
 use Rattle.msg_world.specs.Prelude.{Access, IsHome, IsWhole, LendsOut, Marks, OfResource, OfType, Parts, PartsStand, Record, Registry, SameShape, TakesBack, Values, WorldState, after_update, has_bit, new_world, with_history}
-use Rattle.msg_world.specs.inner.{Slots.AllUpdated, Slots.BufferStands, Slots.HaveEach, Slots.at, Taken.MovesHome, Taken.MovesOut}
-use Rattle.msg_world.proofs.Placed.{equal_items}
+use Rattle.msg_world.specs.inner.{Slots.AllUpdated, Slots.BufferStands, Slots.HaveEach, Slots.at, Moved.MovesHome, Moved.MovesOut}
+use Rattle.msg_world.proofs.PartsMove.{equal_items}
 
 -- a world and parts of which the marks were set
 pub marks_stand : {V : Type 0} {values : Values V} (w : Parts V) (s : WorldState values) (m : Marks) → PartsStand w s

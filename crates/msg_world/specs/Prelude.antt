@@ -10,6 +10,5 @@ pub use Rattle.msg_world.specs.declared.part.Part.{Part}
 pub use Rattle.msg_world.specs.declared.part.Part.TheVariants.{OfResource, OfType, Registry}
 pub use Rattle.msg_world.specs.declared.lent.Lent.{Lent}
 pub use Rattle.msg_world.specs.declared.marks.Marks.{Marks}
-pub use Rattle.msg_world.specs.declared.moved.Moved.{Moved}
 pub use Rattle.msg_world.specs.declared.record.Record.{Record}
 pub use Rattle.msg_world.specs.declared.record.TheConstants.{HOST}

@@ -1,7 +1,7 @@
 // Masks of 64 bits, one for each number below 64.
 #![tactic(auto, using(crate::proofs::Bits::of_masks))]
 
-ghost use Rattle.std.specs.Prelude.{◌≡◌, ◌==◌, ◌||◌, ◌&&◌, not, ℕ, ◌<◌, ◌≤◌, ◌↔◌, IsTrue, false, count_ones, ◌/◌, ◌^◌};
+ghost use Rattle.std.specs.Prelude.{◌≡◌, ◌==◌, ◌||◌, ◌&&◌, not, ℕ, ◌<◌, ◌≤◌, ◌↔◌, IsTrue, false};
 ghost use Rattle.msg_world.specs.{Prelude.has_bit, inner.Masks.ShareBit, inner.Masks.Collide, inner.Masks.IsBelow};
 
 /// Whether bit `k` is set.
@@ -62,7 +62,6 @@ pub fn next_bit(mask: u64, from: u32) -> u32
     ensures at_most { result ≤ 64 }
     ensures is_set { result < 64 → IsTrue (has_bit mask result) }
     ensures none_before { (k : ℕ) → from ≤ k → k < result → has_bit mask k ≡ false }
-    ensures as_many { count_ones (mask / 2 ^ result) ≡ count_ones (mask / 2 ^ from) }
 {
     if from == 64 {
         return 64;

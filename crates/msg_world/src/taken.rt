@@ -2,15 +2,13 @@ ghost use Rattle.std.specs.Prelude.{ℕ, ◌<◌, length};
 ghost use Rattle.msg_buffer.specs.Prelude.{History};
 ghost use Rattle.msg_world.specs.inner.Slots.{BufferStands, at};
 
-use crate::access::Access;
 use crate::marks::Marks;
-use crate::moved::{MovedParts, move_home, move_out};
+use crate::moved::MovedParts;
 use crate::record::Record;
 use crate::{ResNo, TypeNo, Value};
 use msg_buffer::Messages;
 use std::alloc::{AllocError, Global};
 use std::marker::Model;
-use std::mem::replace;
 
 /// The types and the resources that were moved out of a world.
 #[derive(Drop)]
@@ -46,56 +44,21 @@ impl<V> Model for Taken<V> {
 }
 
 impl<V: Value> MovedOut<V> {
-    ghost use Rattle.std.specs.Prelude.{◌≡◌, OnErr, OnOk, vec_len};
-    ghost use Rattle.msg_world.specs.inner.Taken.{MovesHome, MovesOut};
+    ghost use Rattle.std.specs.Prelude.{IfOk};
+    ghost use Rattle.msg_world.specs.inner.Taken.{IsSpare};
 
-    /// Nothing yet.
-    pub(crate) fn none(alloc: Global) -> MovedOut<V> {
-        MovedOut {
-            types: MovedParts::none(alloc),
-            resources: MovedParts::none(alloc),
-        }
-    }
-
-    /// Moves out the types and the resources that the access writes.
-    pub(crate) fn fill(
-        &mut self,
+    /// Nothing yet, of a world of so many types and resources.
+    pub(crate) fn new(
         alloc: Global,
-        access: &Access,
-        types: &mut Vec<Option<Messages<Record<V>>>>,
-        resources: &mut Vec<Option<V>>,
-    ) -> Result<(), AllocError>
-        ensures types { OnOk result
-            (MovesOut access.now.write_types types.old.items types.new.items self.new.types) }
-        ensures resources { OnOk result
-            (MovesOut access.now.write_res resources.old.items resources.new.items
-            self.new.resources) }
-        ensures types_err { OnErr result (types.new ≡ types.old) }
-        ensures resources_err { OnErr result (resources.new ≡ resources.old) }
+        types: usize,
+        resources: usize,
+    ) -> Result<MovedOut<V>, AllocError>
+        ensures spare { IfOk result (IsSpare types resources) }
     {
-        let types_room = self.types.take_room(alloc, access.write_types)?;
-        let resources_room = self.resources.take_room(alloc, access.write_res)?;
-        self.types = move_out(types, types_room, access.write_types);
-        self.resources = move_out(resources, resources_room, access.write_res);
-        Ok(())
-    }
-
-    /// Moves all home, and keeps its lists for what is moved out next.
-    pub(crate) fn move_home(
-        &mut self,
-        alloc: Global,
-        types: &mut Vec<Option<Messages<Record<V>>>>,
-        resources: &mut Vec<Option<V>>,
-    )
-        requires types { length self.old.types ≡ vec_len types.old }
-        requires resources { length self.old.resources ≡ vec_len resources.old }
-        ensures types { MovesHome self.old.types types.old.items types.new.items }
-        ensures resources { MovesHome self.old.resources resources.old.items resources.new.items }
-    {
-        let moved_types = replace(&mut self.types, MovedParts::none(alloc));
-        let moved_resources = replace(&mut self.resources, MovedParts::none(alloc));
-        self.types.keep(move_home(moved_types, types));
-        self.resources.keep(move_home(moved_resources, resources));
+        Ok(MovedOut {
+            types: MovedParts::new(alloc, types)?,
+            resources: MovedParts::new(alloc, resources)?,
+        })
     }
 }
 

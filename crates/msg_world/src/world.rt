@@ -2,8 +2,9 @@ ghost use Rattle.std.specs.Prelude.{◌≡◌, ℕ, ◌+◌, ◌<◌, ◌≤◌,
 ghost use Rattle.std.specs.Option.{option_copied};
 ghost use Rattle.msg_buffer.specs.Prelude.{History, IsSpent, StandsFor, count, empty, message_refused, update, write};
 ghost use Rattle.msg_world.specs.Prelude.{IsApart, IsHome, IsWhole, LendsOut, OfResource, OfType, PartsStand, SameShape, TakesBack, WorldState, WritesTypeOrResource, after_update, by, held_world, new_world, slot, with_history};
-ghost use Rattle.msg_world.specs.inner.Slots.{AllUpdated, BufferStands, at};
-ghost use Rattle.msg_world.specs.inner.Taken.{MovesHome, MovesOut};
+ghost use Rattle.msg_world.specs.inner.Moved.{GoesHome, MovesHome, MovesOut};
+ghost use Rattle.msg_world.specs.inner.Slots.{AllUpdated, BufferStands, HaveEach, at};
+ghost use Rattle.msg_world.specs.inner.Taken.{IsSpare};
 
 use crate::access::Access;
 use crate::counts::Counts;
@@ -36,14 +37,15 @@ pub struct World<V = i64> {
     types: Vec<Option<Messages<Record<V>>>>,
     resources: Vec<Option<V>>,
     marks: Option<Marks>,
-    /// What parts came home in: its memory serves those that go out next. There is room for one of
-    /// each part, since no more can be out at once.
+    /// What parts came home from: it serves those that go out next. There is room for one for each
+    /// part, since no more can be out at once.
     spares: Vec<Box<MovedOut<V>>>,
 }
 
 impl<V> Model for World<V> {
-    ghost use Rattle.std.specs.Prelude.{◌≤◌, length};
+    ghost use Rattle.std.specs.Prelude.{◌≤◌, All, length};
     ghost use Rattle.msg_world.specs.Parts.{Parts};
+    ghost use Rattle.msg_world.specs.inner.Taken.{IsSpare};
     ghost use Rattle.msg_world.specs.declared.limits.TheConstants.{MAX_RESOURCES, MAX_TYPES};
 
     ghost Value = { Parts V };
@@ -55,7 +57,9 @@ impl<V> Model for World<V> {
     } };
 
     ghost invariant = { λ w. (length w.types.items ≤ MAX_TYPES)
-        × (length w.resources.items ≤ MAX_RESOURCES) };
+        × (length w.resources.items ≤ MAX_RESOURCES)
+        × All (λ b. IsSpare (length w.types.items) (length w.resources.items) b.value)
+        w.spares.items };
 }
 
 /// A buffer for each limit.
@@ -324,8 +328,24 @@ impl<V: Value> World<V> {
         })
     }
 
+    /// What parts are moved out into: one that serves again, or a new one.
+    fn spare(&mut self) -> Result<Box<MovedOut<V>>, NoMemory>
+        ensures spare { IfOk result (λ b.
+            IsSpare (length self.old.types) (length self.old.resources) b.value) }
+        ensures same { self.new ≡ self.old }
+    {
+        if let Some(spare) = self.spares.pop() {
+            return Ok(spare);
+        }
+        let alloc = *self.types.allocator();
+        let spare = MovedOut::new(alloc, self.types.len(), self.resources.len())?;
+        Ok(Box::new(alloc, spare)?)
+    }
+
     /// Moves out the types and the resources that the access writes.
     fn move_out(&mut self, access: &Access) -> Result<Box<MovedOut<V>>, NoMemory>
+        requires types { HaveEach self.old.types access.now.write_types }
+        requires resources { HaveEach self.old.resources access.now.write_res }
         ensures types { IfOk result (λ b.
             MovesOut access.now.write_types self.old.types self.new.types b.value.types) }
         ensures resources { IfOk result (λ b.
@@ -334,12 +354,11 @@ impl<V: Value> World<V> {
         ensures marks { self.new.marks ≡ self.old.marks }
         ensures err { OnErr result (self.new ≡ self.old) }
     {
-        let alloc = *self.types.allocator();
-        let mut moved = match self.spares.pop() {
-            Some(moved) => moved,
-            None => Box::new(alloc, MovedOut::none(alloc))?,
-        };
-        moved.fill(alloc, access, &mut self.types, &mut self.resources)?;
+        let mut moved = self.spare()?;
+        moved.types.move_out(&mut self.types, access.write_types);
+        moved
+            .resources
+            .move_out(&mut self.resources, access.write_res);
         Ok(moved)
     }
 
@@ -363,15 +382,15 @@ impl<V: Value> World<V> {
 
     /// Moves types and resources home, and keeps what they were in.
     fn move_home(&mut self, moved: Box<MovedOut<V>>)
-        requires types { length moved.value.types ≡ length self.old.types }
-        requires resources { length moved.value.resources ≡ length self.old.resources }
+        requires types { GoesHome moved.value.types self.old.types }
+        requires resources { GoesHome moved.value.resources self.old.resources }
         ensures types { MovesHome moved.value.types self.old.types self.new.types }
         ensures resources { MovesHome moved.value.resources self.old.resources self.new.resources }
         ensures marks { self.new.marks ≡ self.old.marks }
     {
-        let alloc = *self.types.allocator();
         let mut moved = moved;
-        moved.move_home(alloc, &mut self.types, &mut self.resources);
+        moved.types.move_home(&mut self.types);
+        moved.resources.move_home(&mut self.resources);
         if self.spares.len() < self.spares.capacity() {
             self.spares.push_reserved(moved);
         }

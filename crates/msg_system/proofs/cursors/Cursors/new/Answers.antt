@@ -1,6 +1,6 @@
 use Rattle.std.proofs.Common.{◌∙◌, ap, get_or, replicate}
 use Rattle.msg_world.specs.declared.limits.TheConstants.{MAX_TYPES}
-use Rattle.msg_world.proofs.Placed.{equal_items}
+use Rattle.msg_world.proofs.PartsMove.{equal_items}
 use Rattle.msg_system.proofs.cursors.Cursors.new.Goals as goal
 
 pub returns : goal.returns

@@ -1,7 +1,7 @@
 use Rattle.std.proofs.Common.{None, Option, refl, replicate}
 use Rattle.msg_buffer.specs.Prelude.{Kept, empty}
 use Rattle.msg_world.specs.Prelude.{Record}
-use Rattle.msg_world.proofs.{Placed.equal_items, Worlds.some_state}
+use Rattle.msg_world.proofs.{PartsMove.equal_items, Worlds.some_state}
 use Rattle.msg_world.proofs.taken.Taken.stands_for_some.Goals as goal
 
 pub returns-in-Some : goal.returns-in-Some

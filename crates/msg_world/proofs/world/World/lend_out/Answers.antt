@@ -1,8 +1,14 @@
 use Rattle.std.proofs.Common.{ap, arith, inl, inr, rules, sym, ◌∙◌}
 use Rattle.std.proofs.lemmas.Bool.{false_from_ne_true, false≢true}
-use Rattle.msg_world.specs.Prelude.{Parts, WritesTypeOrResource, has_bit}
+use Rattle.msg_world.specs.Prelude.{OfResource, OfType, Parts, WritesTypeOrResource, has_bit}
 use Rattle.msg_world.proofs.{Worlds.lent_out, Worlds.none_out, world.World.lend_out.Goals.then-writes_type_or_res+in_ok-move_out, world.World.lend_out.Goals.else-writes_type_or_res}
 use Rattle.msg_world.proofs.world.World.lend_out.Goals as goal
+
+pub move_out-requires-clause-types : goal.move_out-requires-clause-types
+move_out-requires-clause-types g c k bit = c.requires.home (OfType k) (grind (arith, bit))
+
+pub move_out-requires-clause-resources : goal.move_out-requires-clause-resources
+move_out-requires-clause-resources g c k bit = c.requires.home (OfResource k) (grind (arith, bit))
 
 pub returns-clause-lent : goal.returns-clause-lent
 returns-clause-lent g c =

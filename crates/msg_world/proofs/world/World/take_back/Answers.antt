@@ -1,7 +1,17 @@
 use Rattle.std.proofs.Common.{ap, arith, ◌∙◌}
-use Rattle.msg_world.specs.{Prelude.Parts}
+use Rattle.msg_world.specs.Prelude.{OfResource, OfType, Parts}
 use Rattle.msg_world.proofs.{Worlds.none_home, Worlds.taken_back, world.World.take_back.Goals.in-Some, world.World.take_back.Goals.in-None}
 use Rattle.msg_world.proofs.world.World.take_back.Goals as goal
+
+pub move_home-requires-clause-types : goal.move_home-requires-clause-types
+move_home-requires-clause-types g c =
+    let apart = rw (← c.taken.view_is, c.in-Some.is) at c.requires.apart in
+    record { number = apart.size.types; free = λ k. apart.out (OfType k) }
+
+pub move_home-requires-clause-resources : goal.move_home-requires-clause-resources
+move_home-requires-clause-resources g c =
+    let apart = rw (← c.taken.view_is, c.in-Some.is) at c.requires.apart in
+    record { number = apart.size.resources; free = λ k. apart.out (OfResource k) }
 
 pub returns : goal.returns
 returns g c =
