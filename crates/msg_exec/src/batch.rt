@@ -90,7 +90,7 @@ pub(crate) fn run_turns<V: Value, S: SystemOf<Value = V>, G: Gate>(
 {
     for &system in systems {
         gate.pass(0, system);
-        turns.push(run_turn(alloc, lender, system, spares)?)?;
+        run_turn(alloc, lender, system, spares, turns)?;
     }
     Ok(())
 }

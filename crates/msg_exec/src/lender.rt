@@ -1,5 +1,5 @@
 // Systems, and the parts of the world that they write, go out for turns and come home.
-ghost use Rattle.std.specs.Prelude.{◌≡◌, ◌<◌, [], IfOk, OnOk};
+ghost use Rattle.std.specs.Prelude.{◌≡◌, ◌<◌, ◌++◌, ◌∷◌, [], IfOk, OnOk};
 ghost use Rattle.msg_frames.specs.Prelude.{after_turn_of, logged_turn, State};
 ghost use Rattle.msg_exec.specs.Prelude.{LenderStands};
 
@@ -83,35 +83,37 @@ impl<V: Value, S: SystemOf<Value = V>> Lender<S, V> {
     }
 }
 
-/// One system's turn, in place.
+/// One system's turn, in place. It is appended to those before it.
 pub(crate) fn run_turn<V: Value, S: SystemOf<Value = V>>(
     alloc: Global,
     lender: &mut Lender<S, V>,
     number: u32,
     spares: &mut Spares<V>,
-) -> Result<Turn<V>, NoMemory>
+    turns: &mut Vec<Turn<V>>,
+) -> Result<(), NoMemory>
     requires stands { (s : State V.values)
         × (LenderStands S.meaning lender.old s × (number < s.systems)) }
-    ensures state { IfOk result (λ turn. (s : State V.values) → LenderStands S.meaning lender.old s
+    ensures state { OnOk result ((s : State V.values) → LenderStands S.meaning lender.old s
         → LenderStands S.meaning lender.new (after_turn_of number s)) }
-    ensures logged { IfOk result (λ turn. (s : State V.values) → LenderStands S.meaning lender.old s
-        → turn ≡ logged_turn s number) }
+    ensures logged { OnOk result ((s : State V.values) → LenderStands S.meaning lender.old s
+        → turns.new.items ≡ turns.old.items ++ (logged_turn s number ∷ [])) }
     ensures accesses { OnOk result (lender.new.accesses.items ≡ lender.old.accesses.items) }
 {
     batches_run_side_by_side::<V>();
     let i = number as usize;
-    let access = lender.accesses[i];
-    let taken = lender.world.lend_out(&access)?;
+    let access = &lender.accesses[i];
+    let taken = lender.world.lend_out(access)?;
     let replies = spares.replies(alloc);
     let Some(mut guarded) = lender.systems[i].take() else {
         unreachable!()
     };
-    let (taken, outcome) = take_turn(alloc, &mut guarded, &lender.world, &access, taken, replies)?;
+    let (taken, outcome) = take_turn(alloc, &mut guarded, &lender.world, access, taken, replies)?;
     lender.world.take_back(taken);
     enter(&guarded.system, &mut lender.totals[i], &outcome);
     lender.systems[i] = Some(guarded);
-    Ok(Turn {
+    turns.push(Turn {
         system: number,
         outcome,
-    })
+    })?;
+    Ok(())
 }

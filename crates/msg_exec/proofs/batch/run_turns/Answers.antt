@@ -19,7 +19,7 @@ loop-system-preserved g c =
           c.pass.ensures.passed);
       turned = λ s stands.
           rw next (turned_more g.S.SystemOf.meaning (_ ∷ []) (c.loop-system.invariant.turned s stands) ran.state
-          (λ u here. rw (← ran.logged u here) c.in_ok-push.ensures.items));
+          ran.logged);
     }
 
 pub returns-clause-state : goal.returns-clause-state

@@ -6,7 +6,7 @@ use Rattle.msg_exec.proofs.lender.run_turn.Goals as goal
 pub take_turn-requires : goal.take_turn-requires
 take_turn-requires g c =
     let (s, (stands, lt)) = c.requires.stands in
-    let may = may_take_turn g.S.SystemOf.meaning c.args.number stands lt c.index.ensures c.index_mut.ensures.value
+    let may = may_take_turn g.S.SystemOf.meaning c.args.number stands lt c.index-access.ensures c.index_mut.ensures.value
     (sym c.take.ensures.value ∙ c.in-Some.is) c.in_ok-taken.ensures.lent in
     record { empty = c.replies-replies.ensures.empty; loan = may.loan; access = rw c.deref_mut.ensures.value may.access }
 
@@ -14,7 +14,7 @@ pub enter-requires : goal.enter-requires
 enter-requires g c =
     let (s, (stands, lt)) = c.requires.stands in
     record {
-      few = (may_come_home g.S.SystemOf.meaning c.args.number stands lt c.index.ensures c.index_mut.ensures.value
+      few = (may_come_home g.S.SystemOf.meaning c.args.number stands lt c.index-access.ensures c.index_mut.ensures.value
           (sym c.take.ensures.value ∙ c.in-Some.is) c.in_ok-taken.ensures.lent
           (rw c.deref_mut.ensures.value at c.in_ok-taken-2.ensures.took)).few;
     }
@@ -26,7 +26,7 @@ returns-clause-state g c s stands =
     let systems = c.args.lender.now.systems.items in
     let out = set systems i c.take.new.self in
     let there : i < length systems = omega (arith, lt, stands.systems) in
-    turn_taken g.S.SystemOf.meaning i stands lt c.index.ensures c.index_mut.ensures.value
+    turn_taken g.S.SystemOf.meaning i stands lt c.index-access.ensures c.index_mut.ensures.value
     (sym c.take.ensures.value ∙ c.in-Some.is) c.in_ok-taken.ensures.lent
     (rw c.deref_mut.ensures.value at c.in_ok-taken-2.ensures.took)
     (record {
@@ -53,6 +53,6 @@ returns-clause-state g c s stands =
 pub returns-clause-logged : goal.returns-clause-logged
 returns-clause-logged g c s stands =
     let lt = rw (sym c.requires.stands.1.0.accesses ∙ stands.accesses) at c.requires.stands.1.1 in
-    turn_is_logged g.S.SystemOf.meaning c.args.number stands lt c.index.ensures c.index_mut.ensures.value
+    rw (← turn_is_logged g.S.SystemOf.meaning c.args.number stands lt c.index-access.ensures c.index_mut.ensures.value
     (sym c.take.ensures.value ∙ c.in-Some.is) c.in_ok-taken.ensures.lent
-    (rw c.deref_mut.ensures.value at c.in_ok-taken-2.ensures.took)
+    (rw c.deref_mut.ensures.value at c.in_ok-taken-2.ensures.took)) c.in_ok-push.ensures.items
