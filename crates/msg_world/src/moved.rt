@@ -5,7 +5,7 @@ ghost use Rattle.msg_world.specs.inner.Moved.{AreEmptyOf, GoesHome, MovesHome, M
 ghost use Rattle.msg_world.specs.inner.Slots.{HaveEach, at};
 
 use crate::masks;
-use crate::slots::{slot_ref, swap_slots};
+use crate::slots::{move_slot, slot_ref};
 use std::alloc::{AllocError, Global};
 use std::marker::Model;
 use std::mem::replace;
@@ -31,7 +31,7 @@ impl<T> Model for MovedParts<T> {
 }
 
 /// Moves what a slot holds home, if it holds anything.
-fn put_home<T>(slots: &mut Vec<Option<T>>, home: &mut Vec<Option<T>>, k: usize)
+fn put_home<T: Drop>(slots: &mut Vec<Option<T>>, home: &mut Vec<Option<T>>, k: usize)
     requires as_many { vec_len slots.old ≡ vec_len home.old }
     requires free { IsSome (at slots.old.items k) → at home.old.items k ≡ None }
     ensures left { (j : ℕ) → at slots.new.items j
@@ -43,7 +43,7 @@ fn put_home<T>(slots: &mut Vec<Option<T>>, home: &mut Vec<Option<T>>, k: usize)
     ensures home_len { vec_len home.new ≡ vec_len home.old }
 {
     if slot_ref(slots, k).is_some() {
-        swap_slots(slots, home, k);
+        move_slot(slots, home, k);
     }
 }
 
@@ -73,7 +73,7 @@ impl<T: Drop> MovedParts<T> {
         self.mask = mask;
         let mut k = masks::next_bit(mask, 0);
         while k < 64 {
-            swap_slots(&mut self.slots, from, k as usize);
+            move_slot(from, &mut self.slots, k as usize);
             k = masks::next_bit(mask, k + 1);
         }
     }

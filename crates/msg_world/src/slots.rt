@@ -1,10 +1,9 @@
 // Slots that hold something or are empty.
-ghost use Rattle.std.specs.Prelude.{◌≡◌, ◌<◌, ◌==◌, ◌↔◌, ℕ, IsTrue, if◌then◌else◌, vec_len};
+ghost use Rattle.std.specs.Prelude.{◌≡◌, ◌<◌, ◌==◌, ◌↔◌, ℕ, IsTrue, None, if◌then◌else◌, vec_len};
 ghost use Rattle.std.specs.Option.{option_copied};
 ghost use Rattle.msg_world.specs.inner.Slots.{HaveEach, at};
 
 use crate::masks;
-use std::mem::swap;
 
 /// What a slot holds; nothing if there is no such slot.
 pub(crate) fn slot_ref<T>(slots: &Vec<Option<T>>, k: usize) -> Option<&T>
@@ -16,18 +15,18 @@ pub(crate) fn slot_ref<T>(slots: &Vec<Option<T>>, k: usize) -> Option<&T>
     }
 }
 
-/// Swaps what two lists hold in the slots of this number.
-pub(crate) fn swap_slots<T>(a: &mut Vec<Option<T>>, b: &mut Vec<Option<T>>, k: usize)
-    requires first { k < vec_len a.old }
-    requires second { k < vec_len b.old }
-    ensures first { (j : ℕ) → at a.new.items j
-        ≡ (if j == k then at b.old.items j else at a.old.items j) }
-    ensures second { (j : ℕ) → at b.new.items j
-        ≡ (if j == k then at a.old.items j else at b.old.items j) }
-    ensures first_len { vec_len a.new ≡ vec_len a.old }
-    ensures second_len { vec_len b.new ≡ vec_len b.old }
+/// Moves what a slot holds into the slot of the same number of another list.
+pub(crate) fn move_slot<T: Drop>(from: &mut Vec<Option<T>>, to: &mut Vec<Option<T>>, k: usize)
+    requires from { k < vec_len from.old }
+    requires to { k < vec_len to.old }
+    ensures moved { (j : ℕ) → at to.new.items j
+        ≡ (if j == k then at from.old.items j else at to.old.items j) }
+    ensures left { (j : ℕ) → at from.new.items j
+        ≡ (if j == k then None else at from.old.items j) }
+    ensures moved_len { vec_len to.new ≡ vec_len to.old }
+    ensures left_len { vec_len from.new ≡ vec_len from.old }
 {
-    swap(&mut a[k], &mut b[k]);
+    to[k] = from[k].take();
 }
 
 /// Whether each slot of a mask holds something.
