@@ -12,14 +12,15 @@ use Rattle.msg_order.specs.Prelude.{access_of}
 use Rattle.msg_system.specs.Prelude.{Job as JobState, Meaning, after_job}
 use Rattle.msg_exec.specs.Prelude.{IsAfterJob, IsDone, JobView, Lender, LenderStands, TotalsStand, job_state, system_at}
 use Rattle.msg_frames.specs.declared.log.Turn.{Turn}
-use Rattle.msg_frames.specs.Prelude.{AreAccessesOf, BatchesRunSideBySide, SameSystems, State, after_turns_of, all_home, home, logged_turn, member_after, turn_of}
+use Rattle.msg_frames.specs.Prelude.{AreAccessesOf, SameSystems, State, after_turns_of, all_home, home, logged_turn, member_after, turn_of}
 use Rattle.msg_exec.specs.{inner.Batches.AreResults, inner.Totals.HasFewReplies, inner.SystemsOut.AreOut, inner.SystemsOut.ComesHome, inner.SystemsOut.IsOut, inner.SystemsOut.any_writes}
 use Rattle.msg_exec.proofs.JobsAreDone.{none_there}
 use Rattle.msg_exec.proofs.BatchGoesOut.{has_written, left_stands, IsBatch}
 use Rattle.msg_exec.proofs.SystemAfterTurn.{few_replies, its_own, of_another, totals_after}
 use Rattle.msg_exec.proofs.ItemsOfLists.{get_other, get_same, some_of, zip_of_each}
 use Rattle.msg_exec.proofs.BatchWritesApart.{later_write_not, written_is_used, Free}
-use Rattle.msg_frames.proofs.{SystemsStay.turns_keep_systems, ElementsAndPairs.pairs_head, ElementsAndPairs.pairs_right}
+use Rattle.msg_frames.proofs.{BatchesSideBySide.side_by_side, SystemsStay.turns_keep_systems, ElementsAndPairs.pairs_head, ElementsAndPairs.pairs_right}
+use Rattle.msg_system.proofs.FootprintsHold.{job_footprint}
 use Rattle.msg_world.proofs.Loans.{home_merges}
 use Rattle.msg_order.proofs.Elements.{Contains-cases, Contains-head, Contains-tail, not_in_none}
 
@@ -217,11 +218,11 @@ module _ {S V : Type 0} {values : Values V} (meaning : S → Meaning V) where
   -- it is one turn after the other
   pub all_came : {E : Type 0} {whole now : Lender S V} {batch : List ℕ} {s : State values} {left : List (Result (JobView S V) E)}
       {before turns : List (Turn V)}
-      → BatchesRunSideBySide values → length left ≡ 0 → ComingHome whole batch s left now before turns
+      → length left ≡ 0 → ComingHome whole batch s left now before turns
       → LenderStands meaning now (after_turns_of batch s).state × (turns ≡ before ++ (after_turns_of batch s).turns)
-  all_came {whole = whole} {now} {batch} {s} law nobody far =
+  all_came {whole = whole} {now} {batch} {s} nobody far =
       let are : AreAccessesOf s whole.accesses.items = grind (arith, far.of.stands) in
-      let side = law s whole.accesses.items batch are far.of.below far.of.once far.of.apart in
+      let side = side_by_side job_footprint s whole.accesses.items batch are far.of.below far.of.once far.of.apart in
       let end = nil_from_length far.rest (sym (AllZip-long (IsResultBack whole s) far.rest _ far.back) ∙ nobody) in
       let come : far.come ≡ batch = rw (end, append-nil) at far.all in (
         stands_again whole now s _ far.of.stands (turns_keep_systems batch s)

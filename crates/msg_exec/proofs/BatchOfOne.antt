@@ -8,7 +8,7 @@ use Rattle.msg_system.specs.Prelude.{Meaning}
 use Rattle.msg_exec.specs.Prelude.{GuardedSystem, HasTakenTurn, JobView, Lender, LenderStands, MayRun}
 use Rattle.msg_frames.specs.declared.log.Outcome.{Outcome}
 use Rattle.msg_frames.specs.declared.log.Outcome.TheVariants.{Skipped}
-use Rattle.msg_frames.specs.Prelude.{BatchesRunSideBySide, State, after_turn_of, logged_turn}
+use Rattle.msg_frames.specs.Prelude.{State, after_turn_of, logged_turn}
 use Rattle.msg_exec.specs.inner.SystemsOut.{AreOut, ComesHome}
 use Rattle.msg_exec.proofs.BatchWritesApart.{Free}
 use Rattle.msg_exec.proofs.BatchComesHome.{ComingHome, MayCome, all_came, begin_home, is_back, next_comes, next_may_come, IsBack}
@@ -65,9 +65,8 @@ module _ {S V : Type 0} {values : Values V} (meaning : S → Meaning V) {g : Len
       pub may_come_home : MayCome mid its_done
       may_come_home = next_may_come meaning refl begun
 
-      pub turn_taken : {new : Lender S V} → ComesHome meaning mid its_done new → BatchesRunSideBySide values
-          → LenderStands meaning new (after_turn_of i s)
-      turn_taken comes law = (all_came meaning law refl (next_comes meaning refl begun comes refl)).0
+      pub turn_taken : {new : Lender S V} → ComesHome meaning mid its_done new → LenderStands meaning new (after_turn_of i s)
+      turn_taken comes = (all_came meaning refl (next_comes meaning refl begun comes refl)).0
 
       pub turn_is_logged : record { system = i; outcome = came } ≡ logged_turn s i
       turn_is_logged = λ k. record { system = i; outcome = back.after.outcome k }

@@ -13,7 +13,6 @@ use crate::side_by_side::{Crew, run_side_by_side};
 use crate::size::size_of_turns;
 use crate::spares::Spares;
 use crate::{Gate, NoMemory, Turn};
-use msg_frames::laws::batches_run_side_by_side;
 use msg_system::SystemOf;
 use msg_world::{MAX_SYSTEMS, Value};
 use std::alloc::Global;
@@ -60,7 +59,6 @@ fn run_many<R: Threads + Sync, V: Value + Send + Sync, S: SystemOf<Value = V> + 
     ensures gate_passed { OnOk result (EachPassedGate (G.passed crew.now.gate.now) crew.now.workers
         batch.now) }
 {
-    batches_run_side_by_side::<V>();
     let jobs = lend_out_all(crew.alloc, lender, batch, spares)?;
     let results = run_side_by_side(crew, &lender.world, jobs, spares.habit())?;
     for result in results {

@@ -5,7 +5,7 @@ ghost use Rattle.msg_system.specs.Prelude.{IsAccessOf};
 ghost use Rattle.msg_exec.specs.Jobs.{HasTakenTurn, guarded_needs};
 
 use crate::{Items, NoMemory, Outcome};
-use msg_system::{Guard, Reply, SystemOf, open_loans_cover, what_is_given_back_stands};
+use msg_system::{Guard, Reply, SystemOf};
 use msg_world::{Access, Lent, Taken, Value, World};
 use std::alloc::Global;
 use std::marker::Model;
@@ -35,8 +35,6 @@ pub(crate) fn take_turn<V: Value, S: SystemOf<Value = V>>(
     ensures took { IfOk result (λ r.
         HasTakenTurn V.values S.meaning world.now taken guarded.old r.0 r.1 guarded.new) }
 {
-    open_loans_cover::<V>();
-    what_is_given_back_stands::<V>();
     let lent = Lent::open(world, access, taken);
     if !Guard::check_all(&mut guarded.guards, &lent) {
         return Ok((lent.into_taken(), Outcome::Skipped));

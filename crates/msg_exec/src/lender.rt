@@ -7,7 +7,6 @@ use crate::job::{GuardedSystem, Job, JobContents, take_turn};
 use crate::spares::Spares;
 use crate::totals::enter;
 use crate::{NoMemory, Outcome, Totals, Turn};
-use msg_frames::laws::batches_run_side_by_side;
 use msg_system::SystemOf;
 use msg_world::{Access, Taken, Value, World};
 use std::alloc::Global;
@@ -99,7 +98,6 @@ pub(crate) fn run_turn<V: Value, S: SystemOf<Value = V>>(
         → turns.new.items ≡ turns.old.items ++ (logged_turn s number ∷ [])) }
     ensures accesses { OnOk result (lender.new.accesses.items ≡ lender.old.accesses.items) }
 {
-    batches_run_side_by_side::<V>();
     let i = number as usize;
     let access = &lender.accesses[i];
     let taken = lender.world.lend_out(access)?;

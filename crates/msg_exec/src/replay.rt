@@ -9,7 +9,6 @@ use crate::batch::run_turns;
 use crate::engine_core::{Core, next_plan, open_frame};
 use crate::spares::Spares;
 use crate::{Frame, Items, Log, NoGate, NoMemory};
-use msg_frames::laws::frames_agree_in_lawful_orders;
 use msg_system::SystemOf;
 use msg_world::Value;
 use std::alloc::Global;
@@ -53,7 +52,6 @@ pub(crate) fn replay_one<V: Value, S: SystemOf<Value = V>>(
         → frames ≡ frame_count s
         → HasLeft S.meaning (IsReplay frame.now order.now s log) frame.now s core.new) }
 {
-    frames_agree_in_lawful_orders::<V>();
     let posts = open_frame(alloc, core, frames, frame)?;
     let mut turns = spares.turns(alloc, order.len())?;
     run_turns(alloc, &mut core.lender, order, &NoGate, spares, &mut turns)?;

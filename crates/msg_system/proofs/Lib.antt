@@ -6,6 +6,8 @@ mod Lendings
 mod Runs
 pub mod Turns
 -- Nothing else is used
-mod FootprintsHold
+pub mod FootprintsHold
+-- What a loan covers, and what is given back of it
+pub mod LoansCover
 -- Turns that a behavior decides
 mod Deciding

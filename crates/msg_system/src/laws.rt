@@ -30,12 +30,14 @@ pub fn one_op_is_a_turn<V: Value>()
 
 /// What a run gives back stands for the world after it, if the loan owned nothing but what its
 /// access writes.
+#[tactic(auto, using(crate::proofs::LoansCover::written_is_all))]
 pub fn what_is_given_back_stands<V: Value>()
     ensures law { WrittenIsAll V.values }
 {}
 
 /// A loan that `Lent::open` makes for an access covers whatever is within that access; for a job's
 /// access, its system and its conditions.
+#[tactic(auto, using(crate::proofs::LoansCover::complete_covers, crate::proofs::LoansCover::jobs_cover))]
 pub fn open_loans_cover<V: Value>()
     ensures law { CompleteCovers V }
     ensures jobs { JobsCover V }

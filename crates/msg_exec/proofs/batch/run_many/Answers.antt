@@ -55,7 +55,6 @@ loop-result-preserved g c s stands =
 pub returns : goal.returns
 returns g c =
     let m = g.S.SystemOf.meaning in
-    let law = c.batches_run_side_by_side.ensures.law in
     let far = c.loop-result.invariant in
     let rest = c.loop-result.result-iterator.rest in
     let none : length rest.items ≡ 0 = sym rest.ok.0 ∙ c.in-None.ensures.steps.0 in
@@ -64,8 +63,8 @@ returns g c =
     let jobs = c.in_ok-jobs.jobs.items in
     let out = c.in_ok-jobs.ensures.out.each in
     record {
-      state = λ s stands. (all_came m law none (far s stands)).0;
-      turns = λ s stands. (all_came m law none (far s stands)).1;
+      state = λ s stands. (all_came m none (far s stands)).0;
+      turns = λ s stands. (all_came m none (far s stands)).1;
       accesses = (far _ c.requires.stands.1.0).half.accesses;
       gate_passed = rw (AllZip-long (IsOut c.args.lender.now) batch jobs out) at
           (of_batch (PassedGate passed (min c.args.crew.now.workers (length jobs))) c.args.lender.now batch jobs out

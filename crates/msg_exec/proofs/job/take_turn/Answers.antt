@@ -2,8 +2,21 @@ use Rattle.std.proofs.Common.{rules, ◌≡◌, refl, sym, ap, ◌∙◌}
 use Rattle.msg_world.specs.declared.access.Access.{Access}
 use Rattle.msg_world.specs.Prelude.{SameShape, writes, slot}
 use Rattle.msg_system.specs.Prelude.{all_hold, turn}
+use Rattle.msg_system.proofs.LoansCover.{jobs_cover, written_is_all}
 use Rattle.msg_exec.proofs.JobsAreDone.{asked_guards, ran_job, skipped_job, none_there}
 use Rattle.msg_exec.proofs.job.take_turn.Goals as goal
+
+pub check_all-requires : goal.check_all-requires
+check_all-requires g c =
+    let l = c.open-lent in
+    let own = rw (← l.ensures.access) at c.requires.access in
+    record { covers = rw c.deref_mut.ensures.value (jobs_cover _ _ l.result l.ensures.complete own).1 }
+
+pub run-requires : goal.run-requires
+run-requires g c =
+    let l = c.open-lent in
+    let own = rw (← l.ensures.access) at c.requires.access in
+    record { covers = (jobs_cover _ _ l.result l.ensures.complete own).0 }
 
 pub returns-then-not-check_all : goal.returns-then-not-check_all
 returns-then-not-check_all g c =
@@ -40,7 +53,7 @@ returns g c =
             (sym c.if-not-check_all.false ∙ c.check_all.ensures.answer w stands ∙ ap (λ gs. all_hold gs w) there)
             (asked_guards old.guards w there c.check_all.ensures.same (c.check_all.ensures.moved w stands))
             ran stands
-            (c.what_is_given_back_stands.ensures.law l taken (turn (g.S.SystemOf.meaning old.system) w).state
+            (written_is_all l taken (turn (g.S.SystemOf.meaning old.system) w).state
             (λ p isnt. none_there (slot p taken) (shape.there p ∙ c.requires.loan.written p
             ∙ ap (λ (a : Access). writes a p) (sym c.open-lent.ensures.access) ∙ isnt))
             (ran.state w stands));

@@ -48,7 +48,6 @@ returns-clause-state g c s stands =
             }),
       );
     })
-    c.batches_run_side_by_side.ensures.law
 
 pub returns-clause-logged : goal.returns-clause-logged
 returns-clause-logged g c s stands =

@@ -2,7 +2,8 @@ use Rattle.std.proofs.Common.{◌++◌, ◌∙◌, ap}
 use Rattle.std.proofs.lemmas.List.Elements.{Contains-get_or}
 use Rattle.msg_frames.specs.declared.log.Log.{Log}
 use Rattle.msg_frames.specs.Prelude.{after_turns_of, before_turns, State}
-use Rattle.msg_frames.proofs.{FramesInOrder.in_that_order, FramesInOrder.logged_in, SystemsStay.joined_below}
+use Rattle.msg_frames.proofs.{FramesInOrder.in_that_order, FramesInOrder.logged_in, LawfulOrdersAgree.frames_agree, SystemsStay.joined_below}
+use Rattle.msg_system.proofs.FootprintsHold.{job_footprint}
 use Rattle.msg_exec.proofs.CoreRunsFrame.{frame_ran}
 use Rattle.msg_exec.proofs.EngineRunsFrames.{accesses_of}
 use Rattle.msg_exec.proofs.replay.replay_one.Goals as goal
@@ -31,7 +32,7 @@ returns g c = record {
       let told = logged_in frame order s _ c.in_ok-posts.posts.items c.from_vec.ensures.items has.posts
       (c.from_vec-2.ensures.items ∙ c.in_ok-run_turns.ensures.turns bt has.lender
       ∙ ap (λ ts. ts ++ (after_turns_of order bt).turns) c.in_ok-turns.ensures.empty) in
-      let alike = c.frames_agree_in_lawful_orders.ensures.law frame s c.args.core.now.lender.accesses.items order
+      let alike = frames_agree job_footprint frame s c.args.core.now.lender.accesses.items order
       stands.sound.uses stands.sound.no_cycle (accesses_of m stands) lawful in
       frame_ran m has stands.sound
       (rw alike.0 at (c.in_ok-run_turns.ensures.state bt has.lender))
