@@ -1,11 +1,12 @@
 -- What a job does: the turn of its system, on each world that it was lent from.
-use Rattle.std.specs.Prelude.{◌≡◌, ℕ, List, [], Result, IfOk}
+use Rattle.std.specs.Prelude.{◌≡◌, ℕ, Bool, true, false, List, [], Result, IfOk}
 use Rattle.msg_world.specs.declared.access.Access.{Access}
 use Rattle.msg_world.specs.Prelude.{IsLoanOf, Parts, PartsStand, SameShape, WorldState, Values}
 use Rattle.msg_system.specs.declared.reply.Reply.{Reply}
 use Rattle.msg_system.specs.Prelude.{AfterJob, IsAccessOf, Job as JobState, Meaning, Needs, after_job, conditions_of, with_conditions}
 use Rattle.msg_exec.specs.{declared.job.GuardedSystem.GuardedSystem}
 use Rattle.msg_frames.specs.declared.log.Outcome.{Outcome}
+use Rattle.msg_frames.specs.declared.log.Outcome.TheVariants.{Ran, Skipped}
 use Rattle.msg_frames.specs.Prelude.{outcome_of}
 
 -- A job: the number of a system, the system with its conditions, its access, what was lent to it in
@@ -18,6 +19,11 @@ pub record JobView (S V : Type 0) : Type 0 where
   pub taken : Parts V
   pub replies : List (Reply V)
   pub outcome : Outcome V
+
+-- what came of a turn, if the system ran and if not
+abbrev pub came : {V : Type 0} → Bool → List (Reply V) → Outcome V
+came true replies = Ran replies
+came false replies = Skipped
 
 module _ {S V : Type 0} (meaning : S → Meaning V) where
   -- a system and its conditions, as the job that they mean

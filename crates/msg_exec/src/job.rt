@@ -2,7 +2,7 @@
 ghost use Rattle.std.specs.Prelude.{◌≡◌, [], IfOk};
 ghost use Rattle.msg_world.specs.Prelude.{IsLoanOf};
 ghost use Rattle.msg_system.specs.Prelude.{IsAccessOf};
-ghost use Rattle.msg_exec.specs.Jobs.{HasTakenTurn, guarded_needs};
+ghost use Rattle.msg_exec.specs.Jobs.{HasTakenTurn, came, guarded_needs};
 
 use crate::{Items, NoMemory, Outcome};
 use msg_system::{Guard, Reply, SystemOf};
@@ -17,30 +17,41 @@ pub struct GuardedSystem<S, V = i64> {
     pub guards: Vec<Guard<V>>,
 }
 
+/// What came of a turn: whether the system ran, and its replies.
+pub(crate) fn came<V: Value>(ran: bool, replies: Vec<Reply<V>>) -> Outcome<V>
+    ensures came { result ≡ came ran replies.items }
+{
+    if ran {
+        Outcome::Ran(Items::from_vec(replies))
+    } else {
+        Outcome::Skipped
+    }
+}
+
 /// Takes the turn of a system on parts that were lent to it: asks its conditions, and runs it if
-/// they hold. Gives back what was lent, and what came of it; replies go into the empty list.
+/// they hold. Gives back what was lent, and whether it ran. Replies go into the empty list.
 pub(crate) fn take_turn<V: Value, S: SystemOf<Value = V>>(
     alloc: Global,
     guarded: &mut GuardedSystem<S, V>,
     world: &World<V>,
     access: &Access,
     taken: Taken<V>,
-    mut replies: Vec<Reply<V>>,
-) -> Result<(Taken<V>, Outcome<V>), NoMemory>
-    requires empty { replies.items ≡ [] }
+    replies: &mut Vec<Reply<V>>,
+) -> Result<(Taken<V>, bool), NoMemory>
+    requires empty { replies.old.items ≡ [] }
 
     // What was lent from the world is what it needs.
     requires loan { IsLoanOf access.now world.now taken }
     requires access { IsAccessOf (guarded_needs S.meaning guarded.old) access.now }
-    ensures took { IfOk result (λ r.
-        HasTakenTurn V.values S.meaning world.now taken guarded.old r.0 r.1 guarded.new) }
+    ensures took { IfOk result (λ r. HasTakenTurn V.values S.meaning world.now taken guarded.old r.0
+        (came r.1 replies.new.items) guarded.new) }
 {
     let lent = Lent::open(world, access, taken);
     if !Guard::check_all(&mut guarded.guards, &lent) {
-        return Ok((lent.into_taken(), Outcome::Skipped));
+        return Ok((lent.into_taken(), false));
     }
-    let taken = guarded.system.run(alloc, lent, &mut replies)?;
-    Ok((taken, Outcome::Ran(Items::from_vec(replies))))
+    let taken = guarded.system.run(alloc, lent, replies)?;
+    Ok((taken, true))
 }
 
 /// What goes with a system to its turn, and comes home with it. It is kept, and serves later jobs.

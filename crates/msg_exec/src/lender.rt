@@ -3,7 +3,7 @@ ghost use Rattle.std.specs.Prelude.{◌≡◌, ◌<◌, ◌++◌, ◌∷◌, [],
 ghost use Rattle.msg_frames.specs.Prelude.{after_turn_of, logged_turn, State};
 ghost use Rattle.msg_exec.specs.Prelude.{LenderStands};
 
-use crate::job::{GuardedSystem, Job, JobContents, take_turn};
+use crate::job::{GuardedSystem, Job, JobContents, came, take_turn};
 use crate::spares::Spares;
 use crate::totals::enter;
 use crate::{NoMemory, Outcome, Totals, Turn};
@@ -101,12 +101,14 @@ pub(crate) fn run_turn<V: Value, S: SystemOf<Value = V>>(
     let i = number as usize;
     let access = &lender.accesses[i];
     let taken = lender.world.lend_out(access)?;
-    let replies = spares.replies(alloc);
+    let mut replies = spares.replies(alloc);
     let Some(mut guarded) = lender.systems[i].take() else {
         unreachable!()
     };
-    let (taken, outcome) = take_turn(alloc, &mut guarded, &lender.world, access, taken, replies)?;
+    let world = &lender.world;
+    let (taken, ran) = take_turn(alloc, &mut guarded, world, access, taken, &mut replies)?;
     lender.world.take_back(taken);
+    let outcome = came(ran, replies);
     enter(&guarded.system, &mut lender.totals[i], &outcome);
     lender.systems[i] = Some(guarded);
     turns.push(Turn {

@@ -4,7 +4,7 @@ ghost use Rattle.std.specs.List.{AllZip};
 ghost use Rattle.msg_exec.specs.{Jobs.IsResult, Jobs.MayRun, inner.Batches.AreResults, inner.Batches.IsWithWorld};
 ghost use Rattle.msg_workers.specs.Prelude.{EachMay, PassedGate};
 
-use crate::job::{Job, take_turn};
+use crate::job::{Job, came, take_turn};
 use crate::{Gate, NoMemory, Runs, Workers};
 use msg_board::Work;
 use msg_system::SystemOf;
@@ -61,17 +61,17 @@ impl<'a, V: Value + Send + Sync, S: SystemOf<Value = V> + Send> Runs for Batch<'
             mut contents,
         } = job;
         let taken = replace(&mut contents.taken, Taken::none());
-        let replies = replace(&mut contents.replies, Vec::new(alloc));
-        let (taken, outcome) = take_turn(
+        let mut replies = replace(&mut contents.replies, Vec::new(alloc));
+        let (taken, ran) = take_turn(
             alloc,
             &mut guarded,
             world,
             &contents.access,
             taken,
-            replies,
+            &mut replies,
         )?;
         contents.taken = taken;
-        contents.outcome = outcome;
+        contents.outcome = came(ran, replies);
         Ok(Job { guarded, contents })
     }
 }

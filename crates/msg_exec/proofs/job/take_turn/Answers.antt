@@ -49,7 +49,7 @@ returns g c =
         shape = shape;
         after = λ w world lent.
             let stands = c.open-lent.ensures.meaning w world lent in
-            ran_job g.S.SystemOf.meaning old _ l taken w _ _ _ c.requires.empty c.from_vec.ensures.items
+            ran_job g.S.SystemOf.meaning old _ l taken w _ _ _ c.requires.empty refl
             (sym c.if-not-check_all.false ∙ c.check_all.ensures.answer w stands ∙ ap (λ gs. all_hold gs w) there)
             (asked_guards old.guards w there c.check_all.ensures.same (c.check_all.ensures.moved w stands))
             ran stands

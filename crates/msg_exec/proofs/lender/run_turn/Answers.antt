@@ -16,7 +16,7 @@ enter-requires g c =
     record {
       few = (may_come_home g.S.SystemOf.meaning c.args.number stands lt c.index-access.ensures c.index_mut.ensures.value
           (sym c.take.ensures.value ∙ c.in-Some.is) c.in_ok-taken.ensures.lent
-          (rw c.deref_mut.ensures.value at c.in_ok-taken-2.ensures.took)).few;
+          (rw (c.deref_mut.ensures.value, ← c.came-outcome.ensures.came) at c.in_ok-taken-2.ensures.took)).few;
     }
 
 pub returns-clause-state : goal.returns-clause-state
@@ -28,7 +28,7 @@ returns-clause-state g c s stands =
     let there : i < length systems = omega (arith, lt, stands.systems) in
     turn_taken g.S.SystemOf.meaning i stands lt c.index-access.ensures c.index_mut.ensures.value
     (sym c.take.ensures.value ∙ c.in-Some.is) c.in_ok-taken.ensures.lent
-    (rw c.deref_mut.ensures.value at c.in_ok-taken-2.ensures.took)
+    (rw (c.deref_mut.ensures.value, ← c.came-outcome.ensures.came) at c.in_ok-taken-2.ensures.took)
     (record {
       as_many = length-set out i _ ∙ length-set systems i _;
       system = rw (get_or-set_same out i _ None (rw length-set there)) refl;
@@ -54,4 +54,4 @@ returns-clause-logged g c s stands =
     let lt = rw (sym c.requires.stands.1.0.accesses ∙ stands.accesses) at c.requires.stands.1.1 in
     rw (← turn_is_logged g.S.SystemOf.meaning c.args.number stands lt c.index-access.ensures c.index_mut.ensures.value
     (sym c.take.ensures.value ∙ c.in-Some.is) c.in_ok-taken.ensures.lent
-    (rw c.deref_mut.ensures.value at c.in_ok-taken-2.ensures.took)) c.in_ok-push.ensures.items
+    (rw (c.deref_mut.ensures.value, ← c.came-outcome.ensures.came) at c.in_ok-taken-2.ensures.took)) c.in_ok-push.ensures.items
