@@ -10,7 +10,6 @@ ghost use Rattle.msg_exec.specs.inner.SystemsOut.{AreOut};
 use crate::job::Job;
 use crate::lender::{Lender, run_turn};
 use crate::side_by_side::{Crew, run_side_by_side};
-use crate::size::size_of_turns;
 use crate::spares::Spares;
 use crate::{Gate, NoMemory, Turn};
 use msg_system::SystemOf;
@@ -60,7 +59,7 @@ fn run_many<R: Threads + Sync, V: Value + Send + Sync, S: SystemOf<Value = V> + 
         batch.now) }
 {
     let jobs = lend_out_all(crew.alloc, lender, batch, spares)?;
-    let results = run_side_by_side(crew, &lender.world, jobs, spares.habit())?;
+    let results = run_side_by_side(crew, &lender.world, jobs, spares.habits.habit())?;
     for result in results {
         let done = result?;
         turns.push(lender.take_back(done, spares))?;
@@ -93,28 +92,8 @@ pub(crate) fn run_turns<V: Value, S: SystemOf<Value = V>, G: Gate>(
     Ok(())
 }
 
-/// Whether the next batch, of so many jobs, goes over workers.
-fn goes_over_workers<V: Value>(workers: u32, jobs: usize, spares: &mut Spares<V>) -> bool {
-    workers > 1 && jobs > 1 && spares.habit().tries_next()
-}
-
-/// Tells the habit of its place how much a batch in place did, whose turns begin with `first`. One
-/// that can't go over workers has no habit.
-fn tell_in_place<V: Value>(
-    workers: u32,
-    jobs: usize,
-    turns: &[Turn<V>],
-    first: usize,
-    spares: &mut Spares<V>,
-) {
-    if workers > 1 && jobs > 1 {
-        spares.habit().did_in_place(size_of_turns(turns, first));
-    }
-}
-
-/// Runs the jobs of one batch, and appends their turns, by order of addition: in place if one
-/// worker runs them all, if there is at most one, and if workers didn't pay lately for the batches
-/// in this place of a frame.
+/// Runs the jobs of one batch over workers, or in place, and appends their turns, by order of
+/// addition.
 fn run_batch<R: Threads + Sync, V: Value + Send + Sync, S: SystemOf<Value = V> + Send, G: Gate>(
     crew: &Crew<R, G>,
     lender: &mut Lender<S, V>,
@@ -135,17 +114,11 @@ fn run_batch<R: Threads + Sync, V: Value + Send + Sync, S: SystemOf<Value = V> +
     ensures gate_passed { OnOk result (EachPassedGate (G.passed crew.now.gate.now) crew.now.workers
         batch.now) }
 {
-    let workers = crew.workers.number();
-    let first = turns.len();
-    if goes_over_workers(workers, batch.len(), spares) {
-        run_many(crew, lender, batch, spares, turns)?;
-        let size = size_of_turns(turns.as_slice(), first);
-        spares.habit().did_over_workers(size);
+    if spares.habits.goes_over_workers(crew.workers, batch.len()) {
+        run_many(crew, lender, batch, spares, turns)
     } else {
-        run_turns(crew.alloc, lender, batch, crew.gate, spares, turns)?;
-        tell_in_place(workers, batch.len(), turns.as_slice(), first, spares);
+        run_turns(crew.alloc, lender, batch, crew.gate, spares, turns)
     }
-    Ok(())
 }
 
 /// Runs the batches one after the other.
@@ -177,10 +150,11 @@ pub(crate) fn run_batches<
         (concat (map (λ batch. batch.items) batches.now))) }
 {
     let mut turns = spares.turns(crew.alloc, lender.accesses.len())?;
-    spares.begin_batches();
+    spares.habits.begin_frame();
     for batch in batches {
+        let first = turns.len();
         run_batch(crew, lender, batch, spares, &mut turns)?;
-        spares.next_batch();
+        spares.end_batch(turns.as_slice(), first);
     }
     Ok(turns)
 }

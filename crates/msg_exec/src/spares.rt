@@ -2,9 +2,10 @@
 ghost use Rattle.std.specs.Prelude.{◌≡◌, [], IfOk};
 
 use crate::job::JobContents;
+use crate::size::size_of_turns;
 use crate::{Log, NoMemory, Outcome, Turn};
 use msg_system::Reply;
-use msg_workers::Habit;
+use msg_workers::Habits;
 use msg_world::{Access, MAX_SYSTEMS, Taken, Value};
 use std::alloc::Global;
 use std::marker::Model;
@@ -14,16 +15,14 @@ use std::mem::replace;
 const MAX_SPARES: usize = MAX_SYSTEMS;
 
 /// What serves frames to come: empty lists with their memory, for their logs; boxes of what goes
-/// with systems to their turns; and for each place of a batch in a frame, whether workers pay
-/// there. That stays if the plan changes. Contracts see nothing of it.
+/// with systems to their turns; and what batches have shown of workers, which stays if the plan
+/// changes. Contracts see nothing of it.
 #[derive(Drop)]
 pub(crate) struct Spares<V = i64> {
     turns: Vec<Turn<V>>,
     replies: Vec<Vec<Reply<V>>>,
     contents: Vec<Box<JobContents<V>>>,
-    habits: [Habit; MAX_SYSTEMS],
-    /// The place of the batch that runs.
-    place: usize,
+    pub(crate) habits: Habits,
 }
 
 impl<V> Model for Spares<V> {
@@ -40,8 +39,7 @@ impl<V: Value> Spares<V> {
             turns: Vec::new(alloc),
             replies: Vec::new(alloc),
             contents: Vec::new(alloc),
-            habits: [Habit::new(); MAX_SYSTEMS],
-            place: 0,
+            habits: Habits::new(),
         }
     }
 
@@ -89,21 +87,13 @@ impl<V: Value> Spares<V> {
         Ok(Box::new(alloc, contents)?)
     }
 
-    /// The first batch of a frame is next.
-    pub(crate) fn begin_batches(&mut self) {
-        self.place = 0;
-    }
-
-    /// The batch in the next place of the frame is next.
-    pub(crate) fn next_batch(&mut self) {
-        self.place = self.place.saturating_add(1);
-    }
-
-    /// What the batches in the place of this one have shown. A frame has no more of them than
-    /// systems.
-    pub(crate) fn habit(&mut self) -> &mut Habit {
-        let place = self.place.min(MAX_SYSTEMS - 1);
-        &mut self.habits[place]
+    /// The batch has run whose turns begin with `first`: its habit learns of it, and the batch in the
+    /// next place is next.
+    pub(crate) fn end_batch(&mut self, turns: &[Turn<V>], first: usize) {
+        if self.habits.asks_size() {
+            self.habits.learn(size_of_turns(turns, first));
+        }
+        self.habits.next_place();
     }
 
     /// Keeps what went with a system, if there is room for it.

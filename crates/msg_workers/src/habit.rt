@@ -11,12 +11,14 @@ const LONGEST_PAUSE: u32 = 256;
 /// it didn't, the first worker ran nearly all by the time that the others had started: so the next
 /// batch runs in place, and after each further try that doesn't pay twice as many do, at most
 /// `LONGEST_PAUSE`. A try that pays ends that, and so does a batch in place that did more than
-/// twice as much as the one of the last try: then the next goes over workers. No result depends on
-/// it.
+/// twice as much as the one of the last try: then the next is tried over workers. No result depends
+/// on it.
 #[derive(Clone, Copy, Debug)]
 pub struct Habit {
     /// How many others the first worker starts before it runs a job.
     pub at_once: u32,
+    /// Whether the last batch over workers paid.
+    pays: bool,
     /// How many batches run in place before workers are tried again.
     in_place: u32,
     /// How many ran in place before the last try; 0 if that paid.
@@ -26,30 +28,37 @@ pub struct Habit {
 }
 
 impl Habit {
-    /// Nothing was tried yet: the next batch goes over workers, which start one another.
+    /// Nothing was tried yet: the next batch is tried over workers, which start one another.
     pub fn new() -> Habit {
         Habit {
             at_once: 1,
+            pays: false,
             in_place: 0,
             pause: 0,
             tried: 0,
         }
     }
 
-    /// Whether the next batch goes over workers. If it doesn't, it counts as one in place.
-    pub fn tries_next(&mut self) -> bool {
-        let tries = self.in_place == 0;
+    /// Whether the last batch over workers paid.
+    pub(crate) fn pays(&self) -> bool {
+        self.pays
+    }
+
+    /// Whether the next batch goes over workers: it is time to, and they paid or there is the price
+    /// of a try. If it doesn't, it counts as one in place.
+    pub(crate) fn tries_next(&mut self, has_price: bool) -> bool {
+        let tries = self.in_place == 0 && (self.pays || has_price);
         self.in_place = self.in_place.saturating_sub(1);
         tries
     }
 
     /// Learns how much the batch did that was tried over workers.
-    pub fn did_over_workers(&mut self, size: u64) {
+    pub(crate) fn did_over_workers(&mut self, size: u64) {
         self.tried = size;
     }
 
     /// Learns how much the batch did that ran in place.
-    pub fn did_in_place(&mut self, size: u64) {
+    pub(crate) fn did_in_place(&mut self, size: u64) {
         if size / 2 > self.tried {
             self.in_place = 0;
         }
@@ -62,7 +71,8 @@ impl Habit {
     {
         let others = jobs.saturating_sub(own);
         self.at_once = if own <= jobs / 2 { workers } else { 1 };
-        self.pause = if others >= jobs.div_ceil(4) {
+        self.pays = others >= jobs.div_ceil(4);
+        self.pause = if self.pays {
             0
         } else {
             self.pause.saturating_mul(2).clamp(1, LONGEST_PAUSE)

@@ -8,6 +8,7 @@
 
 mod gate;
 mod habit;
+mod habits;
 mod limits;
 mod run_workers;
 mod runs;
@@ -15,6 +16,7 @@ mod workers;
 
 pub use gate::{Gate, NoGate};
 pub use habit::Habit;
+pub use habits::Habits;
 pub use limits::MAX_WORKERS;
 pub use msg_board::NoMemory;
 pub use run_workers::run_jobs;

@@ -1,0 +1,108 @@
+// The habits of all places of a frame, and what pays for their tries.
+use crate::{Habit, Workers};
+use msg_board::MAX_JOBS;
+use std::marker::Model;
+
+/// A frame has no more batches than systems, and those are no more than the jobs of a board.
+const PLACES: usize = MAX_JOBS;
+
+/// What a try costs, if it doesn't pay. It takes as long as the start of a thread and its end, some
+/// 25 us; a batch in place that is as large takes about 20 times as long.
+const PRICE: u64 = 131_072;
+
+/// As much is there at first, for 16 tries, and never more.
+const MOST: u64 = 16 * PRICE;
+
+/// How the batch of a place runs.
+#[derive(Clone, Copy, Debug)]
+enum Way {
+    /// There is one worker, or one job.
+    Alone,
+    InPlace,
+    OverWorkers,
+}
+
+/// For each place of a batch in a frame its habit, and one account for all that pays for tries.
+///
+/// A batch in place earns as much as it did, and a batch over workers that didn't pay takes
+/// `PRICE`. It goes over workers if the habit of its place says so, and the price is there or
+/// workers paid there. So all tries together take a small part of the time that the batches in
+/// place take, however many places there are. Contracts see nothing of it.
+#[derive(Drop)]
+pub struct Habits {
+    habits: [Habit; PLACES],
+    /// The place of the batch that runs.
+    place: usize,
+    way: Way,
+    account: u64,
+}
+
+impl Model for Habits {
+    ghost use Rattle.std.specs.Prelude.{⊤};
+
+    ghost Value = { ⊤ };
+
+    ghost view = { λ _. tt };
+}
+
+impl Habits {
+    pub fn new() -> Habits {
+        Habits {
+            habits: [Habit::new(); PLACES],
+            place: 0,
+            way: Way::Alone,
+            account: MOST,
+        }
+    }
+
+    /// The first batch of a frame is next.
+    pub fn begin_frame(&mut self) {
+        self.place = 0;
+    }
+
+    /// Whether the batch in this place, of so many jobs, goes over workers.
+    pub fn goes_over_workers(&mut self, workers: Workers, jobs: usize) -> bool {
+        let has_price = self.account >= PRICE;
+        self.way = if workers.number() == 1 || jobs <= 1 {
+            Way::Alone
+        } else if self.habit().tries_next(has_price) {
+            Way::OverWorkers
+        } else {
+            Way::InPlace
+        };
+        matches!(self.way, Way::OverWorkers)
+    }
+
+    /// What the batches in this place have shown.
+    pub fn habit(&mut self) -> &mut Habit {
+        let place = self.place.min(PLACES - 1);
+        &mut self.habits[place]
+    }
+
+    /// Whether it matters how much the batch in this place did.
+    pub fn asks_size(&self) -> bool {
+        !matches!(self.way, Way::Alone)
+    }
+
+    /// Learns how much the batch in this place did.
+    pub fn learn(&mut self, size: u64) {
+        match self.way {
+            Way::Alone => {}
+            Way::InPlace => {
+                self.habit().did_in_place(size);
+                self.account = self.account.saturating_add(size).min(MOST);
+            }
+            Way::OverWorkers => {
+                self.habit().did_over_workers(size);
+                if !self.habit().pays() {
+                    self.account = self.account.saturating_sub(PRICE);
+                }
+            }
+        }
+    }
+
+    /// The batch in the next place is next.
+    pub fn next_place(&mut self) {
+        self.place = self.place.saturating_add(1);
+    }
+}
