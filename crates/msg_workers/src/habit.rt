@@ -1,5 +1,5 @@
 // Whether workers have paid, and how many to start at once.
-ghost use Rattle.std.specs.Prelude.{◌≡◌, ◌+◌, if◌then◌else◌, nat_le};
+ghost use Rattle.std.specs.Prelude.{◌≡◌, ◌+◌, ◌&&◌, if◌then◌else◌, max, nat_le};
 
 /// At most so many batches run in place between two tries.
 const LONGEST_PAUSE: u32 = 256;
@@ -64,13 +64,16 @@ impl Habit {
         }
     }
 
-    /// Learns from a batch of so many jobs over so many workers, of which the first ran `own` jobs.
-    pub(crate) fn learn(&mut self, workers: u32, jobs: u32, own: u32)
+    /// Learns from a batch of so many jobs, of which the first worker ran `own`, and `came` others
+    /// the rest.
+    pub(crate) fn learn(&mut self, jobs: u32, own: u32, came: u32)
         ensures at_once { self.new.at_once
-            ≡ (if nat_le (own + own) jobs then workers else 1) }
+            ≡ (if nat_le (own + own) jobs && nat_le self.old.at_once (came + came)
+            then max came 1 else 1) }
     {
         let others = jobs.saturating_sub(own);
-        self.at_once = if own <= jobs / 2 { workers } else { 1 };
+        let is_short = own > jobs / 2 || came < self.at_once.div_ceil(2);
+        self.at_once = if is_short { 1 } else { came.max(1) };
         self.pays = others >= jobs.div_ceil(4);
         self.pause = if self.pays {
             0

@@ -1,5 +1,5 @@
 // Workers side by side.
-ghost use Rattle.std.specs.Prelude.{◌≡◌, ◌+◌, ◌-◌, ◌^◌, ◌<◌, ◌≤◌, ◌⊎◌, ℕ, All, IfOk, IfSome, OnOk, Some, length, min, slice_get};
+ghost use Rattle.std.specs.Prelude.{◌≡◌, ◌+◌, ◌-◌, ◌^◌, ◌<◌, ◌≤◌, ℕ, All, IfOk, IfSome, OnOk, Some, length, max, min, slice_get};
 ghost use Rattle.std.specs.Thread.{IsSend, IsSync};
 ghost use Rattle.msg_board.specs.Prelude.{IsLawfulOutcome, IsNewPass, jobs_of};
 ghost use Rattle.msg_workers.specs.Work.{EachMay, PassedGate};
@@ -10,7 +10,7 @@ use crate::runs::{Runs, work_on};
 use crate::{Gate, Habit, NoMemory, Workers};
 use msg_board::{Board, MAX_JOBS, Pass, Work};
 use std::alloc::Global;
-use std::sync::atomic::{AtomicBool, Ordering};
+use std::sync::atomic::{AtomicBool, AtomicU32, Ordering};
 use std::thread::{Threads, join_mut, yield_now};
 
 /// How often, at most, a worker that was started, and may start another, looks whether the jobs
@@ -43,6 +43,8 @@ struct Shared<'a, R, W: Work, G> {
     /// Set once a worker that started another has found no job left. It decides only how long a
     /// worker that was started looks.
     run_out: &'a AtomicBool,
+    /// How many workers but the first got a job. It decides only how many begin at once later.
+    came: &'a AtomicU32,
 }
 
 /// The workers that are yet to begin: they are numbered from `next` on, and `at_once` of them, but
@@ -76,6 +78,9 @@ fn work_from<R: Threads + Sync, W: Runs + Send, G: Gate>(
         return 0;
     };
     let first = shared.board.draw(pass);
+    if worker > 0 && first.is_some() {
+        shared.came.fetch_add(1, Ordering::SeqCst);
+    }
     let next = worker + 1;
     if first.is_none() || others.is_empty() {
         let own = work_on(shared.alloc, shared.board, shared.gate, worker, first, pass);
@@ -185,12 +190,13 @@ pub fn run_jobs<R: Threads + Sync, W: Runs + Send, G: Gate>(
     ensures lawful { IfOk result (λ results. IsLawfulOutcome W.lawful jobs.items results.items) }
     ensures gate_passed { OnOk result ((k : ℕ) (job : W.Job) → slice_get jobs.items k ≡ Some job
         → PassedGate (G.passed gate.now) (min workers (length jobs.items)) (W.system_of job)) }
-    ensures at_once { OnOk result ((habit.new.at_once ≡ 1)
-        ⊎ (habit.new.at_once ≡ min workers (length jobs.items))) }
+    ensures at_once { OnOk result ((0 < habit.new.at_once)
+        × (habit.new.at_once ≤ max 1 (min workers (length jobs.items)))) }
 {
     let number = jobs.len() as u32;
     let most = workers.number().min(number).max(1);
     let run_out = AtomicBool::new(false);
+    let came = AtomicU32::new(0);
     let (board, mut passes) = Board::<W>::new(alloc, jobs, most)?;
     let shared = Shared {
         rt,
@@ -198,8 +204,9 @@ pub fn run_jobs<R: Threads + Sync, W: Runs + Send, G: Gate>(
         board: &board,
         gate,
         run_out: &run_out,
+        came: &came,
     };
     let own = work_from(&shared, 0, habit.at_once, passes.as_mut_slice());
-    habit.learn(most, number, own);
+    habit.learn(number, own, came.load(Ordering::SeqCst).min(most));
     board.close(alloc, passes)
 }
