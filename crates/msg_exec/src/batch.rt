@@ -114,7 +114,8 @@ fn run_batch<R: Threads + Sync, V: Value + Send + Sync, S: SystemOf<Value = V> +
     ensures gate_passed { OnOk result (EachPassedGate (G.passed crew.now.gate.now) crew.now.workers
         batch.now) }
 {
-    if spares.habits.goes_over_workers(crew.workers, batch.len()) {
+    let workers = crew.workers.number();
+    if spares.habits.goes_over_workers(workers, batch.len()) {
         run_many(crew, lender, batch, spares, turns)
     } else {
         run_turns(crew.alloc, lender, batch, crew.gate, spares, turns)

@@ -1,5 +1,5 @@
 // The habits of all places of a frame, and what pays for their tries.
-use crate::{Habit, Workers};
+use crate::Habit;
 use msg_board::MAX_JOBS;
 use std::marker::Model;
 
@@ -60,10 +60,10 @@ impl Habits {
         self.place = 0;
     }
 
-    /// Whether the batch in this place, of so many jobs, goes over workers.
-    pub fn goes_over_workers(&mut self, workers: Workers, jobs: usize) -> bool {
+    /// Whether the batch in this place, of so many jobs, goes over so many workers.
+    pub fn goes_over_workers(&mut self, workers: u32, jobs: usize) -> bool {
         let has_price = self.account >= PRICE;
-        self.way = if workers.number() == 1 || jobs <= 1 {
+        self.way = if workers <= 1 || jobs <= 1 {
             Way::Alone
         } else if self.habit().tries_next(has_price) {
             Way::OverWorkers
