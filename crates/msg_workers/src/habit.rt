@@ -4,15 +4,18 @@ ghost use Rattle.std.specs.Prelude.{◌≡◌, ◌+◌, ◌&&◌, if◌then◌el
 /// At most so many batches run in place between two tries.
 const LONGEST_PAUSE: u32 = 256;
 
+/// One in so many of the batches in place is looked at: how much it did.
+pub(crate) const LOOKED_AT: u32 = 8;
+
 /// What the batches in one place of a frame have shown so far: whether the next of them goes over
 /// workers, and how many of these begin at once.
 ///
 /// A batch over workers paid if others than the first worker ran at least a quarter of its jobs. If
 /// it didn't, the first worker ran nearly all by the time that the others had started: so the next
 /// batch runs in place, and after each further try that doesn't pay twice as many do, at most
-/// `LONGEST_PAUSE`. A try that pays ends that, and so does a batch in place that did more than
-/// twice as much as the one of the last try: then the next is tried over workers. No result depends
-/// on it.
+/// `LONGEST_PAUSE`. A try that pays ends that, and so does a batch in place that is looked at and
+/// did more than twice as much as the one of the last try: then the next is tried over workers. No
+/// result depends on it.
 #[derive(Clone, Copy, Debug)]
 pub struct Habit {
     /// How many others the first worker starts before it runs a job.
@@ -44,12 +47,23 @@ impl Habit {
         self.pays
     }
 
-    /// Whether the next batch goes over workers: it is time to, and they paid or there is the price
-    /// of a try. If it doesn't, it counts as one in place.
+    /// Whether the next batch goes over workers: enough ran in place, and workers paid or there is
+    /// the price of a try. If there isn't, some more run in place.
     pub(crate) fn tries_next(&mut self, has_price: bool) -> bool {
-        let tries = self.in_place == 0 && (self.pays || has_price);
-        self.in_place = self.in_place.saturating_sub(1);
+        if self.in_place > 0 {
+            self.in_place -= 1;
+            return false;
+        }
+        let tries = self.pays || has_price;
+        if !tries {
+            self.in_place = LOOKED_AT - 1;
+        }
         tries
+    }
+
+    /// Whether the batch in place that runs is looked at.
+    pub(crate) fn is_looked_at(&self) -> bool {
+        self.in_place % LOOKED_AT == 0
     }
 
     /// Learns how much the batch did that was tried over workers.

@@ -1,5 +1,6 @@
 // The habits of all places of a frame, and what pays for their tries.
 use crate::Habit;
+use crate::habit::LOOKED_AT;
 use msg_board::MAX_JOBS;
 use std::marker::Model;
 
@@ -24,10 +25,10 @@ enum Way {
 
 /// For each place of a batch in a frame its habit, and one account for all that pays for tries.
 ///
-/// A batch in place earns as much as it did, and a batch over workers that didn't pay takes
-/// `PRICE`. It goes over workers if the habit of its place says so, and the price is there or
-/// workers paid there. So all tries together take a small part of the time that the batches in
-/// place take, however many places there are. Contracts see nothing of it.
+/// Batches in place earn as much as they did, told by those that are looked at, and a batch over
+/// workers that didn't pay takes `PRICE`. A batch goes over workers if the habit of its place says
+/// so, and the price is there or workers paid there. So all tries together take a small part of the
+/// time that the batches in place take, however many places there are. Contracts see nothing of it.
 #[derive(Drop)]
 pub struct Habits {
     habits: [Habit; PLACES],
@@ -80,8 +81,12 @@ impl Habits {
     }
 
     /// Whether it matters how much the batch in this place did.
-    pub fn asks_size(&self) -> bool {
-        !matches!(self.way, Way::Alone)
+    pub fn asks_size(&mut self) -> bool {
+        match self.way {
+            Way::Alone => false,
+            Way::InPlace => self.habit().is_looked_at(),
+            Way::OverWorkers => true,
+        }
     }
 
     /// Learns how much the batch in this place did.
@@ -90,7 +95,8 @@ impl Habits {
             Way::Alone => {}
             Way::InPlace => {
                 self.habit().did_in_place(size);
-                self.account = self.account.saturating_add(size).min(MOST);
+                let earned = size.saturating_mul(LOOKED_AT as u64);
+                self.account = self.account.saturating_add(earned).min(MOST);
             }
             Way::OverWorkers => {
                 self.habit().did_over_workers(size);
