@@ -1,2 +1,3 @@
+pub mod LastRead
 pub mod LineStarts
 pub mod SoFar

@@ -7,5 +7,6 @@ mod op;
 mod put;
 mod reply;
 mod run;
+mod told;
 
 pub use run::report;

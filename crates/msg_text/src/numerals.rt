@@ -12,6 +12,9 @@ const MOST_DIGITS: usize = 20;
 /// How long a value is at most, with its sign.
 const LONGEST_VALUE: usize = 21;
 
+/// How long a range is at most: two numbers and a `+`.
+const LONGEST_RANGE: usize = 41;
+
 /// How long a pair is at most: a space, a number, `=` and a value.
 const LONGEST_PAIR: usize = 43;
 
@@ -38,6 +41,30 @@ pub fn add_count(text: &mut Vec<u8>, head: &[u8], number: u64) -> Result<(), NoM
 {
     text.extend_from_slice(head)?;
     add_number(text, number)
+}
+
+/// Adds a head, and then two numbers in decimal with a `+` between them.
+pub fn add_range(text: &mut Vec<u8>, head: &[u8], first: u64, number: u64) -> Result<(), NoMemory>
+    ensures appends { OnOk result (text.new.items
+        ≡ text.old.items ++ (head.now ++ decimal first ++ codes "+" ++ decimal number)) }
+{
+    text.extend_from_slice(head)?;
+    let at = text.len();
+    text.resize(at + LONGEST_RANGE, 0)?;
+    let end = write_range(text, at, first, number);
+    text.truncate(end);
+    Ok(())
+}
+
+/// Writes a range from `at` on, and returns where it ends.
+fn write_range(text: &mut [u8], at: usize, first: u64, number: u64) -> usize
+    requires room { at + LONGEST_RANGE ≤ length text.old }
+    ensures written { take result text.new
+        ≡ take at text.old ++ (decimal first ++ codes "+" ++ decimal number) }
+{
+    let plus = write_number(text, at, first);
+    text[plus] = b'+';
+    write_number(text, plus + 1, number)
 }
 
 /// Adds a value in decimal, with `-` in front if it is below 0.

@@ -1,10 +1,11 @@
 // The text of one frame.
 ghost use Rattle.std.specs.Prelude.{◌≡◌, ◌<◌, ◌++◌, [], IsOk, OnErr, OnOk, flat_map, length, zip};
 ghost use Rattle.msg_reports.specs.Prelude.{answered_line, frame_text, post_line, posts_text, turn_text};
-ghost use Rattle.msg_reports.specs.inner.LineStarts.{AreLines, finished_outcome, finished_turn};
+ghost use Rattle.msg_reports.specs.inner.{LastRead.IsTold, LineStarts.AreLines, LineStarts.finished_outcome, LineStarts.finished_turn};
 
 use crate::reports::lines::SystemLines;
 use crate::reports::reply::add_reply;
+use crate::reports::told::{Told, add_read};
 use msg_buffer::NoMemory;
 use msg_exec::{Frame, Log, Outcome, Turn};
 use msg_scenario_data::Scenario;
@@ -75,73 +76,90 @@ fn add_turns(
         (text.new.items ≡ text.old.items ++ flat_map (turn_text scenario.now) turns.now) }
     ensures no_memory { turns.now ≡ [] → IsOk result }
 {
+    let mut last = None;
     for turn in turns {
-        add_turn(text, scenario, lines, turn)?;
+        add_turn(text, &mut last, scenario, lines, turn)?;
     }
     Ok(())
 }
 
-fn add_turn(
+fn add_turn<'a>(
     text: &mut Vec<u8>,
+    last: &mut Option<Told<'a>>,
     scenario: &Scenario,
     lines: &[SystemLines],
-    turn: &Turn,
+    turn: &'a Turn,
 ) -> Result<(), NoMemory>
-    ensures { OnOk result
+    requires told { IsTold scenario.now last.old text.old.items }
+    ensures appends { OnOk result
         (text.new.items ≡ text.old.items ++ finished_turn scenario.now lines.now turn.now) }
+    ensures told { OnOk result (IsTold scenario.now last.new text.new.items) }
 {
     match lines.get(turn.system as usize) {
-        Some(lines) => add_outcome(text, scenario, lines, &turn.outcome),
+        Some(lines) => add_outcome(text, last, scenario, lines, &turn.outcome),
         None => Ok(()),
     }
 }
 
 /// What came of a system's turn.
-fn add_outcome(
+fn add_outcome<'a>(
     text: &mut Vec<u8>,
+    last: &mut Option<Told<'a>>,
     scenario: &Scenario,
     lines: &SystemLines,
-    outcome: &Outcome,
+    outcome: &'a Outcome,
 ) -> Result<(), NoMemory>
-    ensures { OnOk result
+    requires told { IsTold scenario.now last.old text.old.items }
+    ensures appends { OnOk result
         (text.new.items ≡ text.old.items ++ finished_outcome scenario.now lines.now outcome.now) }
+    ensures told { OnOk result (IsTold scenario.now last.new text.new.items) }
 {
     match outcome {
         Outcome::Skipped => text.extend_from_slice(lines.skipped.as_slice()),
         Outcome::Ran(replies) => {
-            add_ops(text, scenario, lines.starts.as_slice(), replies.as_slice())
+            let starts = lines.starts.as_slice();
+            add_ops(text, last, scenario, starts, replies.as_slice())
         }
     }
 }
 
 /// The line of each op, by its start.
-fn add_ops(
+fn add_ops<'a>(
     text: &mut Vec<u8>,
+    last: &mut Option<Told<'a>>,
     scenario: &Scenario,
     starts: &[Vec<u8>],
-    replies: &[Reply],
+    replies: &'a [Reply],
 ) -> Result<(), NoMemory>
+    requires told { IsTold scenario.now last.old text.old.items }
     ensures appends { OnOk result (text.new.items ≡ text.old.items
         ++ flat_map (λ p. answered_line scenario.now p.0.items p.1) (zip starts.now replies.now)) }
+    ensures told { OnOk result (IsTold scenario.now last.new text.new.items) }
     ensures refused { OnErr result ((0 < length starts.now) × (0 < length replies.now)) }
 {
     for (start, reply) in starts.iter().zip(replies) {
-        add_line(text, scenario, start.as_slice(), reply)?;
+        add_line(text, last, scenario, start.as_slice(), reply)?;
     }
     Ok(())
 }
 
 /// The line of an op.
-fn add_line(
+fn add_line<'a>(
     text: &mut Vec<u8>,
+    last: &mut Option<Told<'a>>,
     scenario: &Scenario,
     start: &[u8],
-    reply: &Reply,
+    reply: &'a Reply,
 ) -> Result<(), NoMemory>
-    ensures { OnOk result
+    requires told { IsTold scenario.now last.old text.old.items }
+    ensures appends { OnOk result
         (text.new.items ≡ text.old.items ++ answered_line scenario.now start.now reply.now) }
+    ensures told { OnOk result (IsTold scenario.now last.new text.new.items) }
 {
     text.extend_from_slice(start)?;
-    add_reply(text, scenario, reply)?;
+    match reply {
+        Reply::Read(took) => add_read(text, last, scenario, took)?,
+        _ => add_reply(text, scenario, reply)?,
+    }
     text.extend_from_slice(b"\n")
 }

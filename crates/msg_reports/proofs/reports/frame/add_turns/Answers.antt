@@ -39,4 +39,4 @@ returns-clause-appends c =
     let same : flat_map (finished_turn s c.args.lines.now) turns ≡ flat_map (turn_text s) turns =
     λ k. flat_map
     (λ turn. outcome_of_number s c.args.lines.now s.systems turn.system turn.outcome c.requires.lines k) turns in
-    rw (take_all c.loop-turn.turn-index turns c.loop-turn-test.false, same) at c.loop-turn.invariant
+    rw (take_all c.loop-turn.turn-index turns c.loop-turn-test.false, same) at c.loop-turn.invariant.made
