@@ -1,6 +1,6 @@
 // The text of one frame.
 ghost use Rattle.std.specs.Prelude.{◌≡◌, ◌<◌, ◌++◌, [], IsOk, OnErr, OnOk, flat_map, length, zip};
-ghost use Rattle.msg_reports.specs.Prelude.{answered_line, frame_text, post_line, posts_text, turn_text};
+ghost use Rattle.msg_reports.specs.Prelude.{answered_line, frame_text, post_line, posts_text, reply_text, turn_text};
 ghost use Rattle.msg_reports.specs.inner.{LastRead.IsTold, LineStarts.AreLines, LineStarts.finished_outcome, LineStarts.finished_turn};
 
 use crate::reports::lines::SystemLines;
@@ -157,9 +157,25 @@ fn add_line<'a>(
     ensures told { OnOk result (IsTold scenario.now last.new text.new.items) }
 {
     text.extend_from_slice(start)?;
+    add_answer(text, last, scenario, reply)?;
+    text.push(b'\n')?;
+    Ok(())
+}
+
+/// What an op was answered, as that follows the op on its line.
+fn add_answer<'a>(
+    text: &mut Vec<u8>,
+    last: &mut Option<Told<'a>>,
+    scenario: &Scenario,
+    reply: &'a Reply,
+) -> Result<(), NoMemory>
+    requires told { IsTold scenario.now last.old text.old.items }
+    ensures appends { OnOk result
+        (text.new.items ≡ text.old.items ++ reply_text scenario.now reply.now) }
+    ensures told { OnOk result (IsTold scenario.now last.new text.new.items) }
+{
     match reply {
-        Reply::Read(took) => add_read(text, last, scenario, took)?,
-        _ => add_reply(text, scenario, reply)?,
+        Reply::Read(took) => add_read(text, last, scenario, took),
+        _ => add_reply(text, scenario, reply),
     }
-    text.extend_from_slice(b"\n")
 }
