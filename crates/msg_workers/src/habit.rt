@@ -7,15 +7,24 @@ const LONGEST_PAUSE: u32 = 256;
 /// One in so many of the batches in place is looked at: how much it did.
 pub(crate) const LOOKED_AT: u32 = 8;
 
+/// How a batch runs.
+#[derive(Clone, Copy, Debug)]
+pub(crate) enum Way {
+    InPlace,
+    /// In place, and it is told how much it did.
+    LookedAt,
+    OverWorkers,
+}
+
 /// What the batches in one place of a frame have shown so far: whether the next of them goes over
 /// workers, and how many of these begin at once.
 ///
-/// A batch over workers paid if others than the first worker ran at least a quarter of its jobs. If
-/// it didn't, the first worker ran nearly all by the time that the others had started: so the next
-/// batch runs in place, and after each further try that doesn't pay twice as many do, at most
-/// `LONGEST_PAUSE`. A try that pays ends that, and so does a batch in place that is looked at and
-/// did more than twice as much as the one of the last try: then the next is tried over workers. No
-/// result depends on it.
+/// A batch over workers paid if others than the first worker ran at least a quarter of its jobs; if
+/// there is one other, which begins without a look, at least 7 in 16. If it didn't, the first worker
+/// ran too many by the time that the others had started: so the next batch runs in place, and after
+/// each further try that doesn't pay twice as many do, at most `LONGEST_PAUSE`. A try that pays ends
+/// that, and so does a batch in place that is looked at and did more than twice as much as the one
+/// of the last try: then the next is tried over workers. No result depends on it.
 #[derive(Clone, Copy, Debug)]
 pub struct Habit {
     /// How many others the first worker starts before it runs a job.
@@ -47,23 +56,21 @@ impl Habit {
         self.pays
     }
 
-    /// Whether the next batch goes over workers: enough ran in place, and workers paid or there is
+    /// How the next batch runs: over workers if enough ran in place, and workers paid or there is
     /// the price of a try. If there isn't, some more run in place.
-    pub(crate) fn tries_next(&mut self, has_price: bool) -> bool {
-        if self.in_place > 0 {
-            self.in_place -= 1;
-            return false;
+    pub(crate) fn next_way(&mut self, has_price: bool) -> Way {
+        if self.in_place == 0 {
+            if self.pays || has_price {
+                return Way::OverWorkers;
+            }
+            self.in_place = LOOKED_AT;
         }
-        let tries = self.pays || has_price;
-        if !tries {
-            self.in_place = LOOKED_AT - 1;
+        self.in_place -= 1;
+        if self.in_place % LOOKED_AT == 0 {
+            Way::LookedAt
+        } else {
+            Way::InPlace
         }
-        tries
-    }
-
-    /// Whether the batch in place that runs is looked at.
-    pub(crate) fn is_looked_at(&self) -> bool {
-        self.in_place % LOOKED_AT == 0
     }
 
     /// Learns how much the batch did that was tried over workers.
@@ -78,9 +85,9 @@ impl Habit {
         }
     }
 
-    /// Learns from a batch of so many jobs, of which the first worker ran `own`, and `came` others
-    /// the rest.
-    pub(crate) fn learn(&mut self, jobs: u32, own: u32, came: u32)
+    /// Learns from a batch of so many jobs over so many workers, of which the first ran `own` jobs,
+    /// and `came` others the rest.
+    pub(crate) fn learn(&mut self, workers: u32, jobs: u32, own: u32, came: u32)
         ensures at_once { self.new.at_once
             ≡ (if nat_le (own + own) jobs && nat_le self.old.at_once (came + came)
             then max came 1 else 1) }
@@ -88,7 +95,12 @@ impl Habit {
         let others = jobs.saturating_sub(own);
         let is_short = own > jobs / 2 || came < self.at_once.div_ceil(2);
         self.at_once = if is_short { 1 } else { came.max(1) };
-        self.pays = others >= jobs.div_ceil(4);
+        let least = if workers > 2 {
+            jobs.div_ceil(4)
+        } else {
+            jobs.saturating_mul(7) / 16
+        };
+        self.pays = others >= least.max(1);
         self.pause = if self.pays {
             0
         } else {

@@ -1,6 +1,6 @@
 // The habits of all places of a frame, and what pays for their tries.
 use crate::Habit;
-use crate::habit::LOOKED_AT;
+use crate::habit::{LOOKED_AT, Way};
 use msg_board::MAX_JOBS;
 use std::marker::Model;
 
@@ -8,20 +8,11 @@ use std::marker::Model;
 const PLACES: usize = MAX_JOBS;
 
 /// What a try costs, if it doesn't pay. It takes as long as the start of a thread and its end, some
-/// 25 us; a batch in place that is as large takes about 20 times as long.
-const PRICE: u64 = 131_072;
+/// 30 us; a batch in place that is as large takes about 40 times as long.
+const PRICE: u64 = 262_144;
 
 /// As much is there at first, for 16 tries, and never more.
 const MOST: u64 = 16 * PRICE;
-
-/// How the batch of a place runs.
-#[derive(Clone, Copy, Debug)]
-enum Way {
-    /// There is one worker, or one job.
-    Alone,
-    InPlace,
-    OverWorkers,
-}
 
 /// For each place of a batch in a frame its habit, and one account for all that pays for tries.
 ///
@@ -51,7 +42,7 @@ impl Habits {
         Habits {
             habits: [Habit::new(); PLACES],
             place: 0,
-            way: Way::Alone,
+            way: Way::InPlace,
             account: MOST,
         }
     }
@@ -64,10 +55,8 @@ impl Habits {
     /// Whether the batch in this place, of so many jobs, goes over so many workers.
     pub fn goes_over_workers(&mut self, workers: u32, jobs: usize) -> bool {
         let has_price = self.account >= PRICE;
-        self.way = if workers <= 1 || jobs <= 1 {
-            Way::Alone
-        } else if self.habit().tries_next(has_price) {
-            Way::OverWorkers
+        self.way = if workers > 1 && jobs > 1 {
+            self.habit().next_way(has_price)
         } else {
             Way::InPlace
         };
@@ -81,19 +70,15 @@ impl Habits {
     }
 
     /// Whether it matters how much the batch in this place did.
-    pub fn asks_size(&mut self) -> bool {
-        match self.way {
-            Way::Alone => false,
-            Way::InPlace => self.habit().is_looked_at(),
-            Way::OverWorkers => true,
-        }
+    pub fn asks_size(&self) -> bool {
+        !matches!(self.way, Way::InPlace)
     }
 
     /// Learns how much the batch in this place did.
     pub fn learn(&mut self, size: u64) {
         match self.way {
-            Way::Alone => {}
-            Way::InPlace => {
+            Way::InPlace => {}
+            Way::LookedAt => {
                 self.habit().did_in_place(size);
                 let earned = size.saturating_mul(LOOKED_AT as u64);
                 self.account = self.account.saturating_add(earned).min(MOST);

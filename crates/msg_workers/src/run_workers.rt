@@ -170,9 +170,9 @@ fn work_beside<R: Threads + Sync, W: Runs + Send, G: Gate>(
 /// in the order of the jobs. The first worker starts as many others before it runs a job as the
 /// habit says, but at least one and no more than there are, and the last of these starts the next
 /// if it gets a job. If no thread can be made, a worker draws in the thread that was to start it,
-/// after the jobs of that one. Then the habit learns how many jobs the first worker ran: all
-/// workers begin at once in the next such batch if the others ran at least half of these jobs, and
-/// else one; and if they ran less than a quarter, the next batches run in place.
+/// after the jobs of that one. Then the habit learns how many jobs the first worker ran, and how
+/// many others got one: as many begin at once in the next such batch if they ran at least half of
+/// the jobs, and else one; and if they ran few, the next batches run in place.
 ///
 /// # Errors
 ///
@@ -207,6 +207,6 @@ pub fn run_jobs<R: Threads + Sync, W: Runs + Send, G: Gate>(
         came: &came,
     };
     let own = work_from(&shared, 0, habit.at_once, passes.as_mut_slice());
-    habit.learn(number, own, came.load(Ordering::SeqCst).min(most));
+    habit.learn(most, number, own, came.load(Ordering::SeqCst).min(most));
     board.close(alloc, passes)
 }
