@@ -4,7 +4,6 @@ ghost use Rattle.msg_frames.specs.Prelude.{FramesKeepSystems};
 ghost use Rattle.msg_laws.specs.Prelude.{FramesRunByBatches, LawfulOrdersAgree, ListsOnlyGrow, OrderIsSettled, RunsCompose, SameSystemsHaveSameAccesses, TurnsAreInOrder, TurnsKeepSystems, TurnsOfOthersCommute};
 
 use msg_buffer::laws::histories_only_grow;
-use msg_system::nothing_else_is_used;
 use msg_world::{Record, Value};
 
 /// Turns keep the systems: what they need, where they start, their conditions, and the rules of
@@ -29,25 +28,18 @@ pub fn same_systems_have_same_accesses<V: Value>()
 /// other's, and it doesn't matter which is first.
 pub fn turns_of_others_commute<V: Value>()
     ensures law { TurnsOfOthersCommute V.values }
-{
-    nothing_else_is_used::<V>();
-}
+{}
 
 /// Batch after batch, each side by side, gives what one turn after the other gives.
-#[tactic(auto, using(crate::proofs::OrderOfTurns::batch_by_batch))]
 pub fn frames_run_by_batches<V: Value>()
     ensures law { FramesRunByBatches V.values }
-{
-    nothing_else_is_used::<V>();
-}
+{}
 
 /// Two lawful orders of the same turns leave the same state, and each system's turn comes out
 /// alike.
 pub fn lawful_orders_agree<V: Value>()
     ensures law { LawfulOrdersAgree V.values }
-{
-    nothing_else_is_used::<V>();
-}
+{}
 
 /// The order of a state's systems is the settled one. If the rules make no cycle, it has none, it
 /// orders those in conflict, the batches are by the longest chain, and each system that has joined
