@@ -20,7 +20,7 @@ pub(crate) enum Way {
 /// workers, and how many of these begin at once.
 ///
 /// A batch over workers paid if others than the first worker ran at least a quarter of its jobs; if
-/// there is one other, which begins without a look, at least 7 in 16. If it didn't, the first worker
+/// there is one other, which begins without a look, at least 3 in 8. If it didn't, the first worker
 /// ran too many by the time that the others had started: so the next batch runs in place, and after
 /// each further try that doesn't pay twice as many do, at most `LONGEST_PAUSE`. A try that pays ends
 /// that, and so does a batch in place that is looked at and did more than twice as much as the one
@@ -98,7 +98,7 @@ impl Habit {
         let least = if workers > 2 {
             jobs.div_ceil(4)
         } else {
-            jobs.saturating_mul(7) / 16
+            jobs.saturating_mul(3) / 8
         };
         self.pays = others >= least.max(1);
         self.pause = if self.pays {
