@@ -11,8 +11,8 @@ const PLACES: usize = MAX_JOBS;
 /// 30 us; a batch in place that is as large takes about 40 times as long.
 const PRICE: u64 = 262_144;
 
-/// As much is there at first, for 16 tries, and never more.
-const MOST: u64 = 16 * PRICE;
+/// As much is there at first, for 8 tries, and never more.
+const MOST: u64 = 8 * PRICE;
 
 /// For each place of a batch in a frame its habit, and one account for all that pays for tries.
 ///
