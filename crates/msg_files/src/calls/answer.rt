@@ -8,7 +8,7 @@ use crate::calls::text::{add_found, add_items, add_unread};
 use msg_buffer::{
     BatchRefusal, Instance, MessageCursor, MessageId, Messages, NoMemory, WriteRefusal,
 };
-use msg_text::numerals::{add_count, add_range};
+use msg_text::numerals::add_count;
 use msg_world::Items;
 use std::alloc::Global;
 
@@ -94,8 +94,8 @@ fn add_written(text: &mut Vec<u8>, head: &[u8], first: u64, number: u64) -> Resu
     ensures { OnOk result (text.new.items ≡ text.old.items
         ++ (head.now ++ (decimal first ++ codes "+" ++ decimal number) ++ codes "\n")) }
 {
-    add_range(text, head, first, number)?;
-    text.extend_from_slice(b"\n")
+    add_count(text, head, first)?;
+    add_line(text, b"+", number)
 }
 
 fn write(value: i64, messages: &mut Messages<i64>, text: &mut Vec<u8>) -> Result<(), NoMemory>

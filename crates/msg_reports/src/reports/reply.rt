@@ -7,7 +7,7 @@ use crate::reports::names::add_writer;
 use msg_buffer::{NoMemory, Written};
 use msg_scenario_data::Scenario;
 use msg_system::{Reply, Took};
-use msg_text::numerals::{add_count, add_pair, add_range, add_value};
+use msg_text::numerals::{add_count, add_pair, add_value};
 use msg_world::Record;
 
 /// What an op was answered, as that follows the op on its line.
@@ -95,7 +95,8 @@ fn add_numbers(text: &mut Vec<u8>, head: &[u8], numbers: Written) -> Result<(), 
     ensures { OnOk result
         (text.new.items ≡ text.old.items ++ (head.now ++ Spec.numbers_text numbers)) }
 {
-    add_range(text, head, numbers.first, numbers.n)
+    add_count(text, head, numbers.first)?;
+    add_count(text, b"+", numbers.n)
 }
 
 /// What a read took, after a space.
