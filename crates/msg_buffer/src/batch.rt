@@ -26,18 +26,18 @@ pub(crate) fn append_numbered<M: Drop, A: Allocator>(
 }
 
 /// Appends what the function makes of each item, under the numbers from `first` on. The room was
-/// made before.
+/// made before. The list comes and goes by value, so that its length isn't stored for each item.
 pub(crate) fn append_each<T, M, A: Allocator, F: Fn(&T) -> M>(
-    instances: &mut Vec<Instance<M>, A>,
+    mut instances: Vec<Instance<M>, A>,
     first: u64,
     items: &[T],
     message_of: F,
-)
+) -> Vec<Instance<M>, A>
     requires callable { F.IsAlwaysCallable message_of }
-    requires room { vec_len instances.old + length items.now ≤ vec_capacity instances.old }
+    requires room { vec_len instances + length items.now ≤ vec_capacity instances }
     requires numbers { first + length items.now < 2 ^ 64 }
     ensures appended { (ms : List M) × AllZip (FnReturnsAt F.Fn message_of) items.now ms
-        × (instances.new.items ≡ instances.old.items ++ numbered first ms) }
+        × (result.items ≡ instances.items ++ numbered first ms) }
 {
     let mut next = first;
     for item in items {
@@ -46,4 +46,5 @@ pub(crate) fn append_each<T, M, A: Allocator, F: Fn(&T) -> M>(
         instances.push_reserved(Instance { id, message });
         next += 1;
     }
+    instances
 }

@@ -184,44 +184,6 @@ impl<M, A: Allocator> Messages<M, A> {
             }
         }
     }
-
-    /// Writes what the function makes of each item, under consecutive numbers, or nothing.
-    pub fn write_each<T, F: Fn(&T) -> M>(
-        &mut self,
-        items: &[T],
-        message_of: F,
-    ) -> Result<Written, WriteRefusal<()>>
-        requires callable { F.IsAlwaysCallable message_of }
-        ensures meaning { OnOk result ((ms : List M)
-            × AllZip (FnReturnsAt F.Fn message_of) items.now ms
-            × ((h : History M) → StandsFor self.old h → StandsFor self.new (write ms h))) }
-        ensures first { IfOk result (λ w. (h : History M) → StandsFor self.old h
-            → w.first ≡ count h) }
-        ensures number { IfOk result (λ w. w.n ≡ length items.now) }
-
-        // If too few numbers are left it is refused for that, and else all items fit or memory
-        // is refused. An empty list of items always fits.
-        ensures room { OnOk result ((h : History M) → StandsFor self.old h
-            → count h + length items.now ≤ h.limit) }
-        ensures spent { IfErr result (λ e. (h : History M) → StandsFor self.old h
-            → (IsSpent e ↔ (h.limit < count h + length items.now))) }
-        ensures empty { items.now ≡ [] → IsOk result }
-
-        // A refusal changes nothing.
-        ensures err { OnErr result (self.new ≡ self.old) }
-    {
-        let first = self.count;
-        let n = items.len() as u64;
-        if n > self.limit - first {
-            return Err(WriteRefusal::NumbersSpent(()));
-        }
-        if self.newer.instances.reserve(items.len()).is_err() {
-            return Err(WriteRefusal::NoMemory(()));
-        }
-        append_each(&mut self.newer.instances, first, items, message_of);
-        self.count = first + n;
-        Ok(Written { first, n })
-    }
 }
 
 impl<M: Drop, A: Allocator> Messages<M, A> {
@@ -280,6 +242,46 @@ impl<M: Drop, A: Allocator> Messages<M, A> {
 }
 
 impl<M: Drop, A: Allocator + Copy> Messages<M, A> {
+    /// Writes what the function makes of each item, under consecutive numbers, or nothing.
+    pub fn write_each<T, F: Fn(&T) -> M>(
+        &mut self,
+        items: &[T],
+        message_of: F,
+    ) -> Result<Written, WriteRefusal<()>>
+        requires callable { F.IsAlwaysCallable message_of }
+        ensures meaning { OnOk result ((ms : List M)
+            × AllZip (FnReturnsAt F.Fn message_of) items.now ms
+            × ((h : History M) → StandsFor self.old h → StandsFor self.new (write ms h))) }
+        ensures first { IfOk result (λ w. (h : History M) → StandsFor self.old h
+            → w.first ≡ count h) }
+        ensures number { IfOk result (λ w. w.n ≡ length items.now) }
+
+        // If too few numbers are left it is refused for that, and else all items fit or memory
+        // is refused. An empty list of items always fits.
+        ensures room { OnOk result ((h : History M) → StandsFor self.old h
+            → count h + length items.now ≤ h.limit) }
+        ensures spent { IfErr result (λ e. (h : History M) → StandsFor self.old h
+            → (IsSpent e ↔ (h.limit < count h + length items.now))) }
+        ensures empty { items.now ≡ [] → IsOk result }
+
+        // A refusal changes nothing.
+        ensures err { OnErr result (self.new ≡ self.old) }
+    {
+        let first = self.count;
+        let n = items.len() as u64;
+        if n > self.limit - first {
+            return Err(WriteRefusal::NumbersSpent(()));
+        }
+        if self.newer.instances.reserve(items.len()).is_err() {
+            return Err(WriteRefusal::NoMemory(()));
+        }
+        let alloc = *self.newer.instances.allocator();
+        let instances = replace(&mut self.newer.instances, Vec::new(alloc));
+        self.newer.instances = append_each(instances, first, items, message_of);
+        self.count = first + n;
+        Ok(Written { first, n })
+    }
+
     /// Takes all messages out, the older ones first.
     pub fn drain(&mut self) -> Result<Vec<Instance<M>, A>, NoMemory>
         ensures given { IfOk result (λ v. (h : History M) → StandsFor self.old h
