@@ -6,6 +6,7 @@
 #![tactic(auto)]
 
 mod access;
+mod boxed;
 mod counts;
 mod items;
 pub mod laws;

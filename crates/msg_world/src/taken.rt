@@ -2,6 +2,7 @@ ghost use Rattle.std.specs.Prelude.{ℕ, ◌<◌, length};
 ghost use Rattle.msg_buffer.specs.Prelude.{History};
 ghost use Rattle.msg_world.specs.inner.Slots.{BufferStands, at};
 
+use crate::boxed::Boxed;
 use crate::marks::Marks;
 use crate::moved::MovedParts;
 use crate::record::Record;
@@ -13,7 +14,7 @@ use std::marker::Model;
 /// The types and the resources that were moved out of a world.
 #[derive(Drop)]
 pub(crate) struct MovedOut<V> {
-    pub types: MovedParts<Messages<Record<V>>>,
+    pub types: MovedParts<Boxed<Messages<Record<V>>>>,
     pub resources: MovedParts<V>,
 }
 
@@ -63,13 +64,13 @@ impl<V: Value> MovedOut<V> {
 }
 
 /// A law: each buffer that was moved out stands for some history.
-fn moved_stand<V: Value>(types: &MovedParts<Messages<Record<V>>>)
+fn moved_stand<V: Value>(types: &MovedParts<Boxed<Messages<Record<V>>>>)
     ensures histories { (t : ℕ) → t < length types.now
         → (h : History (Record V)) × BufferStands (at types.now t) h }
 {
     for t in 0..types.slots() {
         if let Some(messages) = types.get(t) {
-            messages.stands_for_some();
+            messages.part.stands_for_some();
         }
     }
 }
@@ -107,7 +108,7 @@ impl<V: Value> Taken<V> {
         ensures there { option_copied result ≡ slot (OfType t) self.now }
     {
         match &self.moved {
-            Some(moved) => moved.types.get(t.number() as usize),
+            Some(moved) => Some(&moved.types.get(t.number() as usize)?.part),
             None => None,
         }
     }
@@ -117,7 +118,7 @@ impl<V: Value> Taken<V> {
         ensures there { option_copied_mut result ≡ at self.old.types k }
     {
         match &mut self.moved {
-            Some(moved) => moved.types.get_mut(k),
+            Some(moved) => Some(&mut moved.types.get_mut(k)?.part),
             None => None,
         }
     }

@@ -7,6 +7,7 @@ ghost use Rattle.msg_world.specs.inner.Slots.{AllUpdated, BufferStands, HaveEach
 ghost use Rattle.msg_world.specs.inner.Taken.{IsSpare};
 
 use crate::access::Access;
+use crate::boxed::Boxed;
 use crate::counts::Counts;
 use crate::limits::{MAX_RESOURCES, MAX_TYPES};
 use crate::marks::Marks;
@@ -34,7 +35,7 @@ use std::marker::Model;
 /// ```
 #[derive(Drop)]
 pub struct World<V = i64> {
-    types: Vec<Option<Messages<Record<V>>>>,
+    types: Vec<Option<Boxed<Messages<Record<V>>>>>,
     resources: Vec<Option<V>>,
     marks: Option<Marks>,
     /// What parts came home from: it serves those that go out next. There is room for one for each
@@ -66,14 +67,14 @@ impl<V> Model for World<V> {
 fn new_types<V: Value>(
     alloc: Global,
     limits: &[u64],
-) -> Result<Vec<Option<Messages<Record<V>>>>, NoMemory>
+) -> Result<Vec<Option<Boxed<Messages<Record<V>>>>>, NoMemory>
     ensures as_many { IfOk result (λ v. length v.items ≡ length limits.now) }
     ensures empty { IfOk result (λ v. (t : ℕ) → t < length limits.now
         → IsSomeAnd (at v.items t) (λ k. StandsFor k (empty (slice_index limits.now t)))) }
 {
     let mut types = Vec::new(alloc);
     for limit in limits {
-        types.push(Some(Messages::new(alloc, *limit)))?;
+        types.push(Some(Boxed::new(alloc, Messages::new(alloc, *limit))?))?;
     }
     Ok(types)
 }
@@ -90,18 +91,18 @@ fn new_resources<V: Value>(alloc: Global, values: &[V]) -> Result<Vec<Option<V>>
 }
 
 /// Updates a buffer, if there is one.
-fn update_slot<V: Value>(slot: &mut Option<Messages<Record<V>>>)
+fn update_slot<V: Value>(slot: &mut Option<Boxed<Messages<Record<V>>>>)
     ensures there { is_some slot.new ≡ is_some slot.old }
     ensures updated { (h : History (Record V)) → BufferStands slot.old h
         → BufferStands slot.new (update h) }
 {
     if let Some(messages) = slot {
-        messages.update();
+        messages.part.update();
     }
 }
 
 /// Updates every buffer that is there.
-fn update_each<V: Value>(types: &mut [Option<Messages<Record<V>>>])
+fn update_each<V: Value>(types: &mut [Option<Boxed<Messages<Record<V>>>>])
     ensures updated { AllUpdated types.old types.new }
 {
     for slot in types.iter_mut() {
@@ -110,18 +111,18 @@ fn update_each<V: Value>(types: &mut [Option<Messages<Record<V>>>])
 }
 
 /// How many messages were ever written to a buffer; 0 if there is none.
-fn count_of<V: Value>(slot: &Option<Messages<Record<V>>>) -> u64
+fn count_of<V: Value>(slot: &Option<Boxed<Messages<Record<V>>>>) -> u64
     ensures count { IsSome slot.now → (h : History (Record V)) → BufferStands slot.now h
         → result ≡ count h }
 {
     match slot {
-        Some(messages) => messages.count(),
+        Some(messages) => messages.part.count(),
         None => 0,
     }
 }
 
 /// The counts of all buffers.
-fn counts_of<V: Value>(types: &[Option<Messages<Record<V>>>]) -> Counts
+fn counts_of<V: Value>(types: &[Option<Boxed<Messages<Record<V>>>>]) -> Counts
     requires few { length types.now ≤ MAX_TYPES }
     ensures types { length result ≡ length types.now }
     ensures counts { (t : ℕ) → IsSome (at types.now t) → (h : History (Record V))
@@ -135,16 +136,16 @@ fn counts_of<V: Value>(types: &[Option<Messages<Record<V>>>]) -> Counts
 }
 
 /// A law: a buffer, if there is one, stands for some history.
-fn slot_stands<V: Value>(slot: &Option<Messages<Record<V>>>)
+fn slot_stands<V: Value>(slot: &Option<Boxed<Messages<Record<V>>>>)
     ensures history { (h : History (Record V)) × BufferStands slot.now h }
 {
     if let Some(messages) = slot {
-        messages.stands_for_some();
+        messages.part.stands_for_some();
     }
 }
 
 /// A law: each buffer stands for some history.
-fn each_stands<V: Value>(types: &[Option<Messages<Record<V>>>])
+fn each_stands<V: Value>(types: &[Option<Boxed<Messages<Record<V>>>>])
     ensures histories { (t : ℕ) → t < length types.now
         → (h : History (Record V)) × BufferStands (at types.now t) h }
 {
@@ -250,7 +251,7 @@ impl<V: Value> World<V> {
             value,
         };
         match slot {
-            Some(messages) => messages.write(record),
+            Some(messages) => messages.part.write(record),
             None => unreachable!(),
         }
     }
@@ -286,7 +287,7 @@ impl<V: Value> World<V> {
     pub fn messages(&self, t: TypeNo) -> Option<&Messages<Record<V>>>
         ensures home { option_copied result ≡ slot (OfType t) self.now }
     {
-        slot_ref(&self.types, t.number() as usize)
+        Some(&slot_ref(&self.types, t.number() as usize)?.part)
     }
 
     /// The value of a resource; None if there is no such resource, or it is out.
@@ -391,8 +392,16 @@ impl<V: Value> World<V> {
         let mut moved = moved;
         moved.types.move_home(&mut self.types);
         moved.resources.move_home(&mut self.resources);
+        self.keep(moved);
+    }
+
+    /// Keeps what parts came home from, if there is room for it.
+    fn keep(&mut self, spare: Box<MovedOut<V>>)
+        requires spare { IsSpare (length self.old.types) (length self.old.resources) spare.value }
+        ensures same { self.new ≡ self.old }
+    {
         if self.spares.len() < self.spares.capacity() {
-            self.spares.push_reserved(moved);
+            self.spares.push_reserved(spare);
         }
     }
 }

@@ -8,7 +8,8 @@ pub loop-t-preserved : goal.loop-t-preserved
 loop-t-preserved g c t lt =
     elim (cases_eq t c.loop-t.t) [
       | inl e ↦ rw (e, ← c.get.ensures.held) (elim c.match-get.branch [
-        | in-Some w ↦ rw w.in-Some.is (w.stands_for_some.ensures.history (by 0 g.V.Value.values.some))
+        | in-Some w ↦ rw (w.in-Some.is, ← w.messages.view_is)
+            (rw w.deref.ensures at (w.stands_for_some.ensures.history (by 0 g.V.Value.values.some)))
         | in_default w ↦ rw w.in_default.is (empty 0, tt)
       ])
       | inr ne ↦ c.loop-t.invariant t (omega arith)

@@ -1,4 +1,4 @@
-use Rattle.std.proofs.Common.{List, None, Option, Some, ap, slice_set, ◌∙◌, ◌≡◌}
+use Rattle.std.proofs.Common.{List, None, Option, Some, ap, refl, slice_set, ◌∙◌, ◌≡◌}
 use Rattle.std.proofs.lemmas.{Result.IfErr-weaker, Result.IfOk-weaker, Result.on_err_weaker, Result.on_ok_weaker, List.set-get_or}
 use Rattle.msg_buffer.specs.Prelude.{Kept, StandsFor}
 use Rattle.msg_world.specs.Prelude.{OfType, Parts, PartsStand, Record, WorldState}
@@ -7,10 +7,11 @@ use Rattle.msg_world.proofs.world.World.post.Goals as goal
 
 pub returns : goal.returns
 returns g c =
-    let t = c.args.t in let number = c.number.ensures.number in let kept = c.in-Some.messages in
+    let t = c.args.t in let number = c.number.ensures.number in let kept = c.deref_mut.result.now in
+    let held : c.in-Some.messages ≡ kept = rw (c.deref_mut.ensures.value, ← c.messages.view_is) refl in
     let home = rw (← c.self.view_is) at c.requires.home in
     let found = found_at c.self.inside.types.items t (Some kept) home
-    (rw (number, c.in-Some.is) at c.index_mut-slot.ensures.value) in
+    (rw (number, c.in-Some.is, held) at c.index_mut-slot.ensures.value) in
     let all = λ (s : WorldState g.V.Value.values) (stand : PartsStand c.args.self.now s). rw (← c.self.view_is) at stand in
     let here : (s : WorldState g.V.Value.values) → PartsStand c.args.self.now s
     → StandsFor kept (s.histories t) = λ s stand. rw found.0 at (all s stand (OfType t)) in
