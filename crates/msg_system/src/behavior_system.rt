@@ -5,6 +5,7 @@ ghost use Rattle.msg_system.specs.{Behaviors.behaves, Needs.needs_of, OpRuns.cur
 
 use crate::behavior::Behavior;
 use crate::limits::MAX_OPS;
+use crate::one_op::answer;
 use crate::{Access, Cursors, Items, NoMemory, Numbered, Op, Reply, Start, SystemOf};
 use msg_world::{Counts, Lent, Taken, TypeNo};
 use std::alloc::Global;
@@ -99,7 +100,8 @@ impl<B: Behavior> BehaviorSystem<B> {
             match next_within(alloc, behavior, access, since(out.as_slice(), before))? {
                 None => return Ok(ops),
                 Some(op) => {
-                    out.push(op.run(alloc, writer, cursors, lent)?)?;
+                    out.reserve(1)?;
+                    answer(alloc, &op, writer, cursors, lent, out)?;
                     ops.push(op)?;
                 }
             }

@@ -14,7 +14,11 @@ covers_op ops i op l m lt is same covers = grind (arith, common_steps)
 
 pub answer-requires : goal.answer-requires
 answer-requires g c =
-    record { covers = covers_op _ _ _ _ _ c.loop-op-test.true c.op-item.is c.loop-op.invariant.same c.requires.covers }
+    let inv = c.loop-op.invariant in
+    record {
+      covers = covers_op _ _ _ _ _ c.loop-op-test.true c.op-item.is inv.same c.requires.covers;
+      room = omega (arith, inv.long, inv.room);
+    }
 
 pub returns-in_err-reserve_exact-clause-refused : goal.returns-in_err-reserve_exact-clause-refused
 returns-in_err-reserve_exact-clause-refused g c =
@@ -36,6 +40,8 @@ loop-op-preserved g c =
         rw (length_push, inv.replies.2) refl,
       );
       same = same_loan_trans _ _ _ inv.same c.in_ok-answer.ensures.same;
+      long = omega (arith, inv.long, c.in_ok-answer.ensures.long);
+      room = rw c.in_ok-answer.ensures.capacity inv.room;
     }
 
 pub returns-clause-ran : goal.returns-clause-ran

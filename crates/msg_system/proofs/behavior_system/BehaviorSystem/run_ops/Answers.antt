@@ -13,11 +13,14 @@ loop-done-init g c =
       same = search rules;
     }
 
-pub run-requires : goal.run-requires
-run-requires g c =
+pub answer-requires : goal.answer-requires
+answer-requires g c =
     let next = sym c.in_ok-next_within.ensures.next ∙ c.in-Some.is in
     let kept = next_kept_to _ _ c.in-Some.op next in
-    record { covers = covers_kept _ _ _ _ kept c.loop-done.invariant.same c.requires.covers }
+    record {
+      covers = covers_kept _ _ _ _ kept c.loop-done.invariant.same c.requires.covers;
+      room = omega (arith, c.in_ok-reserve-in-Some.ensures.ok);
+    }
 
 pub returns-in-None-clause-ran : goal.returns-in-None-clause-ran
 returns-in-None-clause-ran g c s stands =
@@ -30,15 +33,16 @@ loop-done-preserved g c =
     let inv = c.loop-done.invariant in
     let next = rw (c.since.ensures.rest, c.as_slice.ensures.value) at c.in_ok-next_within.ensures.next in
     let is = sym c.in-Some.is ∙ next in
+    let did = c.in_ok-answer-in-Some.ensures.answered in
+    let same = c.in_ok-reserve-in-Some.ensures.items in
     record {
-      so_far = λ s stands. rw c.in_ok-push-in-Some.ensures.items
-          (turn_more _ _ _ s _ c.loop-done._done _ _ _ _ inv.long (inv.so_far s stands) c.in-Some.op _ _ _ is
-          c.in_ok-run-in-Some.ensures.ran);
+      so_far = λ s stands. rw (did.appended, same)
+          (turn_more _ _ _ s _ c.loop-done._done _ _ _ _ inv.long (inv.so_far s stands) c.in-Some.op _ _ _ is did.ran);
       long = inv.long;
-      answered = rw (c.in_ok-push-in-Some.ensures.items, c.in_ok-push-in-Some-2.ensures.items)
+      answered = rw (did.appended, same, c.in_ok-push-in-Some.ensures.items)
           (answered_more _ _ _ _ c.in-Some.op _ inv.answered
           (rw (inv.long, appended _ _ _ _ inv.answered) at is));
-      same = same_loan_trans _ _ _ inv.same c.in_ok-run-in-Some.ensures.same;
+      same = same_loan_trans _ _ _ inv.same c.in_ok-answer-in-Some.ensures.same;
     }
 
 pub returns-clause-ran : goal.returns-clause-ran
