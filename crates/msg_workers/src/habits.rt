@@ -7,17 +7,21 @@ use std::marker::Model;
 /// A frame has no more batches than systems, and those are no more than the jobs of a board.
 const PLACES: usize = MAX_JOBS;
 
-/// What a try costs, if it doesn't pay. It takes as long as the start of a thread and its end, some
-/// 30 us; a batch in place that is as large takes about 40 times as long.
+/// What a try costs, if it doesn't pay, for its threads. It takes as long as the start of a thread
+/// and its end, some 30 us; a batch in place that is as large takes about 40 times as long.
 const PRICE: u64 = 262_144;
 
-/// As much is there at first, for 8 tries, and never more.
+/// What it costs beside for each job, which goes to a board and comes back: some 2 us.
+const PRICE_OF_JOB: u64 = PRICE / 16;
+
+/// As much is there at first, and never more. It suffices for 7 tries of two jobs each, and for one
+/// of any number: no try costs more.
 const MOST: u64 = 8 * PRICE;
 
 /// For each place of a batch in a frame its habit, and one account for all that pays for tries.
 ///
 /// Batches in place earn as much as they did, told by those that are looked at, and a batch over
-/// workers that didn't pay takes `PRICE`. A batch goes over workers if the habit of its place says
+/// workers that didn't pay takes its price. A batch goes over workers if the habit of its place says
 /// so, and the price is there or workers paid there. So all tries together take a small part of the
 /// time that the batches in place take, however many places there are. Contracts see nothing of it.
 #[derive(Drop)]
@@ -26,6 +30,8 @@ pub struct Habits {
     /// The place of the batch that runs.
     place: usize,
     way: Way,
+    /// What the batch that runs costs over workers, if it doesn't pay.
+    price: u64,
     account: u64,
 }
 
@@ -43,6 +49,7 @@ impl Habits {
             habits: [Habit::new(); PLACES],
             place: 0,
             way: Way::InPlace,
+            price: PRICE,
             account: MOST,
         }
     }
@@ -54,7 +61,9 @@ impl Habits {
 
     /// Whether the batch in this place, of so many jobs, goes over so many workers.
     pub fn goes_over_workers(&mut self, workers: u32, jobs: usize) -> bool {
-        let has_price = self.account >= PRICE;
+        let of_jobs = PRICE_OF_JOB.saturating_mul(jobs as u64);
+        self.price = PRICE.saturating_add(of_jobs).min(MOST);
+        let has_price = self.account >= self.price;
         self.way = if workers > 1 && jobs > 1 {
             self.habit().next_way(has_price)
         } else {
@@ -86,7 +95,7 @@ impl Habits {
             Way::OverWorkers => {
                 self.habit().did_over_workers(size);
                 if !self.habit().pays() {
-                    self.account = self.account.saturating_sub(PRICE);
+                    self.account = self.account.saturating_sub(self.price);
                 }
             }
         }
