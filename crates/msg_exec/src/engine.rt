@@ -138,7 +138,9 @@ impl<V: Value, S: SystemOf<Value = V>> EngineOf<S, V> {
         ensures engine { IsEngine V.values S.meaning self.old
             → IsEngine V.values S.meaning self.new }
     {
-        self.spares.keep(log);
+        if let Some(core) = &mut self.core {
+            self.spares.keep(log, &mut core.lender.world);
+        }
     }
 
     /// Runs one frame on the calling thread, in an order that the caller gives; the log has the

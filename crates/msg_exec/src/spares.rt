@@ -3,10 +3,10 @@ ghost use Rattle.std.specs.Prelude.{◌≡◌, [], IfOk};
 
 use crate::job::JobContents;
 use crate::size::size_of_turns;
-use crate::{Log, NoMemory, Outcome, Turn};
+use crate::{Items, Log, NoMemory, Outcome, Turn};
 use msg_system::Reply;
 use msg_workers::Habits;
-use msg_world::{Access, MAX_SYSTEMS, Taken, Value};
+use msg_world::{Access, MAX_SYSTEMS, Record, Taken, Value, World};
 use std::alloc::Global;
 use std::marker::Model;
 use std::mem::replace;
@@ -31,6 +31,17 @@ impl<V> Model for Spares<V> {
     ghost Value = { ⊤ };
 
     ghost view = { λ _. tt };
+}
+
+/// The messages that a reply gave, if it gave some.
+fn items_of<V>(reply: &mut Reply<V>) -> Option<&mut Items<Record<V>>> {
+    match reply {
+        Reply::Read(took) => Some(&mut took.items),
+        Reply::Forwarded { took, .. } => Some(&mut took.items),
+        Reply::Summed { took, .. } => Some(&mut took.items),
+        Reply::Drained { items, .. } => Some(items),
+        _ => None,
+    }
 }
 
 impl<V: Value> Spares<V> {
@@ -104,19 +115,30 @@ impl<V: Value> Spares<V> {
     }
 
     /// Keeps a log's list of turns, in place of the one that was kept, and the lists of their
-    /// replies, if there is room for them.
-    pub(crate) fn keep(&mut self, log: Log<V>) {
+    /// replies, if there is room for them. The lists of what they read go to the world.
+    pub(crate) fn keep(&mut self, log: Log<V>, world: &mut World<V>)
+        ensures world { world.new ≡ world.old }
+    {
         let mut turns = log.turns.into_vec();
         while let Some(turn) = turns.pop() {
             if let Outcome::Ran(replies) = turn.outcome {
-                self.keep_replies(replies.into_vec());
+                self.keep_replies(replies.into_vec(), world);
             }
         }
         self.turns = turns;
     }
 
-    fn keep_replies(&mut self, replies: Vec<Reply<V>>) {
+    fn keep_replies(&mut self, replies: Vec<Reply<V>>, world: &mut World<V>)
+        ensures world { world.new ≡ world.old }
+    {
         let mut replies = replies;
+        let alloc = *replies.allocator();
+        for reply in replies.iter_mut() {
+            if let Some(items) = items_of(reply) {
+                let items = replace(items, Items::from_vec(Vec::new(alloc)));
+                world.keep_list(items.into_vec());
+            }
+        }
         replies.clear();
         if self.replies.len() < MAX_SPARES {
             let _kept = self.replies.push(replies);

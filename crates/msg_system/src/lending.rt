@@ -9,7 +9,6 @@ use crate::reading::read_unread;
 use crate::{Items, NoMemory};
 use msg_buffer::{MessageCursor, Messages, WriteRefusal, Written};
 use msg_world::{Lent, Record, ResNo, TypeNo, Value};
-use std::alloc::Global;
 
 /// The messages of a type that is lent.
 pub(crate) fn messages_of<'a, V: Value>(lent: &'a Lent<'_, V>, t: TypeNo) -> &'a Messages<Record<V>>
@@ -101,13 +100,14 @@ pub(crate) fn write_each<V: Value, T, F: Fn(&T) -> Record<V>>(
     }
 }
 
-/// Drops all messages of a type; gives them, and the number of the first.
+/// Drops all messages of a type; gives them, in the empty list, and the number of the first.
 #[tactic(auto, using(crate::proofs::Lendings::of_loans))]
 pub(crate) fn drain_all<V: Value>(
-    alloc: Global,
+    list: Vec<Record<V>>,
     lent: &mut Lent<V>,
     t: TypeNo,
 ) -> Result<(u64, Items<Record<V>>), NoMemory>
+    requires empty { list.items ≡ [] }
     requires lent { IsSome (writable (OfType t) lent.old) }
     ensures first { IfOk result (λ d. (s : WorldState V.values) → LoanStands lent.old s
         → d.0 ≡ oldest (s.histories t)) }
@@ -126,7 +126,7 @@ pub(crate) fn drain_all<V: Value>(
         None => unreachable!(),
         Some(messages) => {
             let mut from_oldest = MessageCursor::new(0);
-            let all = read_unread(alloc, messages, &mut from_oldest, None)?;
+            let all = read_unread(list, messages, &mut from_oldest, None)?;
             messages.clear();
             Ok((all.first, all.items))
         }

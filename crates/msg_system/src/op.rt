@@ -127,34 +127,30 @@ impl<V: Value> Op<V> {
             Op::Write(t, value) => steps::write(lent, writer, *t, *value),
             Op::Batch(t, values) => steps::batch(lent, writer, *t, values),
             Op::Read(t, limit) => {
-                steps::read(
-                    alloc,
-                    lent,
-                    *t,
-                    *limit,
-                    &mut cursors.by_type[t.number() as usize],
-                )
+                let list = lent.empty_list(alloc);
+                let cursor = &mut cursors.by_type[t.number() as usize];
+                steps::read(list, lent, *t, *limit, cursor)
             }
             Op::Len(t) => Ok(steps::len(lent, *t, &cursors.by_type[t.number() as usize])),
             Op::Missed(t) => Ok(steps::missed(lent, *t, &cursors.by_type[t.number() as usize])),
             Op::Clear(t) => Ok(steps::clear(lent, *t, &mut cursors.by_type[t.number() as usize])),
             Op::Forward(t, u) => {
+                let list = lent.empty_list(alloc);
                 let cursor = &mut cursors.by_type[t.number() as usize];
-                steps::forward(alloc, lent, writer, *t, *u, cursor)
+                steps::forward(list, lent, writer, *t, *u, cursor)
             }
             Op::Sum(t, r) => {
-                steps::sum(
-                    alloc,
-                    lent,
-                    *t,
-                    *r,
-                    &mut cursors.by_type[t.number() as usize],
-                )
+                let list = lent.empty_list(alloc);
+                let cursor = &mut cursors.by_type[t.number() as usize];
+                steps::sum(list, lent, *t, *r, cursor)
             }
             Op::Get(r) => Ok(steps::get(lent, *r)),
             Op::Set(r, value) => Ok(steps::set(lent, *r, *value)),
             Op::Add(r, value) => Ok(steps::add(lent, *r, *value)),
-            Op::Drain(t) => steps::drain(alloc, lent, *t),
+            Op::Drain(t) => {
+                let list = lent.empty_list(alloc);
+                steps::drain(list, lent, *t)
+            }
             Op::Signal => Ok(steps::signal(lent)),
         }
     }

@@ -1,5 +1,5 @@
 // Reading what is unread of a type.
-ghost use Rattle.std.specs.Prelude.{◌≡◌, ◌+◌, ◌<◌, IfOk, OnErr, OnOk, length, map};
+ghost use Rattle.std.specs.Prelude.{◌≡◌, ◌+◌, ◌<◌, [], IfOk, OnErr, OnOk, length, map};
 ghost use Rattle.msg_buffer.specs.Prelude.{History, StandsFor, first, given, message_of};
 ghost use Rattle.msg_world.specs.declared.record.Record.{Record};
 ghost use Rattle.msg_system.specs.Prelude.{place_after_read, took};
@@ -7,15 +7,16 @@ ghost use Rattle.msg_system.specs.Prelude.{place_after_read, took};
 use crate::{Items, NoMemory, Took};
 use msg_buffer::{MessageCursor, Messages};
 use msg_world::{Record, Value};
-use std::alloc::Global;
 
-/// Copies at most `limit` unread messages, or all, and moves the cursor past them.
+/// Copies at most `limit` unread messages, or all, into the empty list, and moves the cursor past
+/// them.
 fn copy_unread<V: Value>(
-    alloc: Global,
+    list: Vec<Record<V>>,
     messages: &Messages<Record<V>>,
     cursor: &mut MessageCursor,
     limit: Option<u64>,
 ) -> Result<Vec<Record<V>>, NoMemory>
+    requires empty { list.items ≡ [] }
     ensures items { IfOk result (λ v. (h : History (Record V)) → StandsFor messages.now h
         → v.items ≡ map message_of (given h cursor.old limit)) }
     ensures place { IfOk result (λ v. (h : History (Record V)) → StandsFor messages.now h
@@ -28,7 +29,8 @@ fn copy_unread<V: Value>(
 {
     let unread = cursor.len(messages);
     let most = limit.unwrap_or(unread).min(unread);
-    let mut items = Vec::with_capacity(alloc, most as usize)?;
+    let mut items = list;
+    items.reserve_exact(most as usize)?;
     let mut rest = cursor.read(messages);
     for _copied in 0..most {
         let Some((_id, record)) = rest.next() else {
@@ -39,13 +41,14 @@ fn copy_unread<V: Value>(
     Ok(items)
 }
 
-/// Reads at most `limit` unread messages, or all.
+/// Reads at most `limit` unread messages, or all, into the empty list.
 pub(crate) fn read_unread<V: Value>(
-    alloc: Global,
+    list: Vec<Record<V>>,
     messages: &Messages<Record<V>>,
     cursor: &mut MessageCursor,
     limit: Option<u64>,
 ) -> Result<Took<V>, NoMemory>
+    requires empty { list.items ≡ [] }
     ensures took { IfOk result (λ k. (h : History (Record V)) → StandsFor messages.now h
         → k ≡ took h cursor.old limit) }
     ensures place { OnOk result ((h : History (Record V)) → StandsFor messages.now h
@@ -56,7 +59,7 @@ pub(crate) fn read_unread<V: Value>(
 {
     let missed = cursor.missed(messages);
     let first = cursor.place().max(messages.oldest());
-    let items = copy_unread(alloc, messages, cursor, limit)?;
+    let items = copy_unread(list, messages, cursor, limit)?;
     Ok(Took {
         missed,
         first,

@@ -1,6 +1,6 @@
 // What each op does to the loan of its system, and to its system's cursor. After want of memory
-// both are as they were.
-ghost use Rattle.std.specs.Prelude.{◌≡◌, ℕ, IfOk, IsSome, OnErr, OnOk};
+// both are as they were. What is read goes into a list that comes empty.
+ghost use Rattle.std.specs.Prelude.{◌≡◌, [], ℕ, IfOk, IsSome, OnErr, OnOk};
 ghost use Rattle.msg_world.specs.{declared.part.Part.TheVariants.OfResource, declared.part.Part.TheVariants.OfType, declared.part.Part.TheVariants.Registry, Prelude.SameLoan, Prelude.shown, Prelude.writable};
 ghost use Rattle.msg_system.specs.declared.op.Op.TheVariants.{Add, Batch, Clear, Drain, Forward, Get, Len, Missed, Read, Set, Signal, Sum, Write};
 ghost use Rattle.msg_system.specs.Prelude.{MayBeRefused, OpRan, with_place, write_reply};
@@ -12,7 +12,6 @@ use crate::reading::read_unread;
 use crate::{Items, NoMemory, Reply};
 use msg_buffer::{MessageCursor, Written};
 use msg_world::{Lent, Record, ResNo, TypeNo, Value};
-use std::alloc::Global;
 
 fn wrote_or_spent<V: Value>(numbers: Option<Written>) -> Reply<V>
     ensures reply { result ≡ write_reply numbers }
@@ -63,12 +62,13 @@ pub(crate) fn batch<V: Value>(
 }
 
 pub(crate) fn read<V: Value>(
-    alloc: Global,
+    list: Vec<Record<V>>,
     lent: &Lent<V>,
     t: TypeNo,
     limit: Option<u64>,
     cursor: &mut MessageCursor,
 ) -> Result<Reply<V>, NoMemory>
+    requires empty { list.items ≡ [] }
     requires lent { IsSome (shown (OfType t) lent.now) }
     ensures ran { IfOk result (λ reply. (writer : ℕ) (places : ℕ → ℕ) → places t ≡ cursor.old
         → OpRan V.values (Read t limit) writer places (with_place places t cursor.new)
@@ -77,7 +77,7 @@ pub(crate) fn read<V: Value>(
         → MayBeRefused V.values (Read t limit) places lent.now) }
     ensures err { OnErr result (cursor.new ≡ cursor.old) }
 {
-    Ok(Reply::Read(read_unread(alloc, messages_of(lent, t), cursor, limit)?))
+    Ok(Reply::Read(read_unread(list, messages_of(lent, t), cursor, limit)?))
 }
 
 pub(crate) fn len<V: Value>(lent: &Lent<V>, t: TypeNo, cursor: &MessageCursor) -> Reply<V>
@@ -111,13 +111,14 @@ pub(crate) fn clear<V: Value>(lent: &Lent<V>, t: TypeNo, cursor: &mut MessageCur
 }
 
 pub(crate) fn forward<V: Value>(
-    alloc: Global,
+    list: Vec<Record<V>>,
     lent: &mut Lent<V>,
     writer: u32,
     t: TypeNo,
     u: TypeNo,
     cursor: &mut MessageCursor,
 ) -> Result<Reply<V>, NoMemory>
+    requires empty { list.items ≡ [] }
     requires read { IsSome (shown (OfType t) lent.old) }
     requires written { IsSome (writable (OfType u) lent.old) }
     ensures ran { IfOk result (λ reply. (places : ℕ → ℕ) → places t ≡ cursor.old
@@ -130,7 +131,7 @@ pub(crate) fn forward<V: Value>(
     ensures err_cursor { OnErr result (cursor.new ≡ cursor.old) }
 {
     let mut moved = *cursor;
-    let took = read_unread(alloc, messages_of(lent, t), &mut moved, None)?;
+    let took = read_unread(list, messages_of(lent, t), &mut moved, None)?;
     let message_of = |record: &Record<V>| Record {
         writer,
         value: record.value,
@@ -141,12 +142,13 @@ pub(crate) fn forward<V: Value>(
 }
 
 pub(crate) fn sum<V: Value>(
-    alloc: Global,
+    list: Vec<Record<V>>,
     lent: &mut Lent<V>,
     t: TypeNo,
     r: ResNo,
     cursor: &mut MessageCursor,
 ) -> Result<Reply<V>, NoMemory>
+    requires empty { list.items ≡ [] }
     requires read { IsSome (shown (OfType t) lent.old) }
     requires written { IsSome (writable (OfResource r) lent.old) }
     ensures ran { IfOk result (λ reply. (writer : ℕ) (places : ℕ → ℕ) → places t ≡ cursor.old
@@ -158,7 +160,7 @@ pub(crate) fn sum<V: Value>(
     ensures err { OnErr result (lent.new ≡ lent.old) }
     ensures err_cursor { OnErr result (cursor.new ≡ cursor.old) }
 {
-    let took = read_unread(alloc, messages_of(lent, t), cursor, None)?;
+    let took = read_unread(list, messages_of(lent, t), cursor, None)?;
     let value = added_up(value_of(lent, r), took.items.as_slice());
     set_value(lent, r, value);
     Ok(Reply::Summed { took, value })
@@ -194,10 +196,11 @@ pub(crate) fn add<V: Value>(lent: &mut Lent<V>, r: ResNo, value: V) -> Reply<V>
 }
 
 pub(crate) fn drain<V: Value>(
-    alloc: Global,
+    list: Vec<Record<V>>,
     lent: &mut Lent<V>,
     t: TypeNo,
 ) -> Result<Reply<V>, NoMemory>
+    requires empty { list.items ≡ [] }
     requires lent { IsSome (writable (OfType t) lent.old) }
     ensures ran { IfOk result (λ reply. (writer : ℕ) (places : ℕ → ℕ)
         → OpRan V.values (Drain t) writer places places lent.old lent.new reply) }
@@ -206,7 +209,7 @@ pub(crate) fn drain<V: Value>(
         ((places : ℕ → ℕ) → MayBeRefused V.values (Drain t) places lent.old) }
     ensures err { OnErr result (lent.new ≡ lent.old) }
 {
-    let (first, items) = drain_all(alloc, lent, t)?;
+    let (first, items) = drain_all(list, lent, t)?;
     Ok(Reply::Drained { first, items })
 }
 

@@ -1,12 +1,12 @@
 -- What a world stands for after each change, part by part.
-use Rattle.std.proofs.Common.{◌≡◌, ℕ, ◌<◌, Bool, true, false, List, length, map, refl, sym, ◌∙◌, arith, inl, inr, Option, Some, None, get_or, ◌&&◌, ◌||◌, ◌↔◌, not, IsSome, IsSomeAnd, IsTrue, is_some, unwrap_or, slice_index, if◌then◌else◌, ◌==◌, replicate, slice_set}
-use Rattle.std.specs.Option.{option_or}
+use Rattle.std.proofs.Common.{◌≡◌, ℕ, ◌<◌, Bool, true, false, List, length, map, refl, sym, ◌∙◌, arith, inl, inr, Option, Some, None, get_or, ◌&&◌, ◌||◌, ◌↔◌, not, IfSome, IsSome, IsSomeAnd, IsTrue, is_some, unwrap_or, slice_index, if◌then◌else◌, ◌==◌, replicate, slice_set}
+use Rattle.std.specs.{Option.option_or, declared.boxed.Box.Box}
 use Rattle.std.proofs.{Math.ListN.length-set, lemmas.Bool.Decides.eqb_tells}
 use Rattle.std.proofs.lemmas.Bool.{cases_eq, cases_lt, false≢true}
 use Rattle.std.proofs.lemmas.List.{get_or_default, get_or-set_same, get_or-set_other, get_or_past, get_or-map, length-map, length-replicate}
 use Rattle.msg_buffer.specs.Prelude.{History, Kept, StandsFor, empty}
 use Rattle.msg_world.specs.Prelude.{Access, IsHome, IsWhole, LendsOut, Marks, OfResource, OfType, Parts, PartsStand, Record, Registry, SameShape, TakesBack, Values, WorldState, after_update, has_bit, new_world, with_history}
-use Rattle.msg_world.specs.inner.{Slots.AllUpdated, Slots.BufferStands, Slots.HaveEach, Slots.at, Moved.MovesHome, Moved.MovesOut}
+use Rattle.msg_world.specs.{declared.taken.MovedOut.MovedOut, inner.Slots.AllUpdated, inner.Slots.BufferStands, inner.Slots.HaveEach, inner.Slots.at, inner.Moved.AreEmptyOf, inner.Moved.MovesHome, inner.Moved.MovesOut, inner.Taken.IsSpare, inner.Taken.resources_of, inner.Taken.types_of}
 use Rattle.msg_world.proofs.PartsMove.{equal_items}
 
 -- a world and parts of which the marks were set
@@ -121,14 +121,24 @@ lent_out a old left taken types resources marks rest = record {
 }
 
 -- nothing is moved out by a mask without bits
-pub none_out : {T : Type 0} (mask n : ℕ) (xs : List (Option T)) → ((k : ℕ) → has_bit mask k ≡ false) → n ≡ length xs
-    → MovesOut mask xs xs (replicate n None)
-none_out {T} mask n xs none is = record {
-  moved = λ k. grind (arith, none k, equal_items {X = Option T} n None k);
+pub none_out : {T : Type 0} (mask : ℕ) (xs out : List (Option T)) → ((k : ℕ) → has_bit mask k ≡ false) → AreEmptyOf (length xs) out
+    → MovesOut mask xs xs out
+none_out mask xs out none empty = record {
+  moved = λ k. grind (arith, none k, empty.empty k);
   left = λ k. grind (arith, none k);
-  moved_len = length-replicate n None ∙ is;
+  moved_len = empty.number;
   left_len = refl;
 }
+
+-- what goes with a job that moves nothing out
+module _ {V A : Type 0} (n m : ℕ) where
+  pub spare_types : (b : Option (Box (MovedOut V) A)) → IfSome b (λ b. IsSpare n m b.value) → AreEmptyOf n (types_of n b)
+  spare_types None spare = record { number = length-replicate n None; empty = λ k. equal_items n None k }
+  spare_types (Some b) spare = spare.types
+
+  pub spare_resources : (b : Option (Box (MovedOut V) A)) → IfSome b (λ b. IsSpare n m b.value) → AreEmptyOf m (resources_of m b)
+  spare_resources None spare = record { number = length-replicate m None; empty = λ k. equal_items m None k }
+  spare_resources (Some b) spare = spare.resources
 
 -- nothing comes home of slots that are empty
 pub none_home : {T : Type 0} (n : ℕ) (xs : List (Option T)) → MovesHome (replicate n None) xs xs

@@ -4,6 +4,7 @@ use crate::taken::Taken;
 use crate::world::World;
 use crate::{ResNo, TypeNo, Value};
 use msg_buffer::Messages;
+use std::alloc::Global;
 
 /// What one job works on. The parts that its access only reads stay in the world, where other jobs
 /// may read them meanwhile. The parts that its access writes are its own until it gives them back.
@@ -25,7 +26,7 @@ pub struct Lent<'a, V = i64> {
 }
 
 impl<'a, V: Value> Lent<'a, V> {
-    ghost use Rattle.std.specs.Prelude.{◌≡◌, IsTrue, is_some, not};
+    ghost use Rattle.std.specs.Prelude.{◌≡◌, [], IsTrue, is_some, not};
     ghost use Rattle.std.specs.{Borrow.sem, Option.option_copied, Option.option_copied_mut};
     ghost use Rattle.msg_world.specs.Parts.{PartsStand};
     ghost use Rattle.msg_world.specs.Access.{OfResource, OfType, Registry};
@@ -54,6 +55,14 @@ impl<'a, V: Value> Lent<'a, V> {
     {
         self.world.stands_for_some();
         self.taken.stands_for_some();
+    }
+
+    /// An empty list for what is read. It has memory that served before, if there is some.
+    pub fn empty_list(&mut self, alloc: Global) -> Vec<Record<V>>
+        ensures empty { result.items ≡ [] }
+        ensures same { self.new ≡ self.old }
+    {
+        self.taken.empty_list(alloc)
     }
 
     /// The messages of a type that is lent, for reading or for writing.

@@ -20,6 +20,7 @@ mod record;
 mod res_no;
 mod run_fault;
 mod slots;
+mod spare_lists;
 mod taken;
 mod type_no;
 mod value;

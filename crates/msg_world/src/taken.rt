@@ -6,24 +6,27 @@ use crate::boxed::Boxed;
 use crate::marks::Marks;
 use crate::moved::MovedParts;
 use crate::record::Record;
+use crate::spare_lists::SpareLists;
 use crate::{ResNo, TypeNo, Value};
 use msg_buffer::Messages;
 use std::alloc::{AllocError, Global};
 use std::marker::Model;
 
-/// The types and the resources that were moved out of a world.
+/// The types and the resources that were moved out of a world, and what goes with them.
 #[derive(Drop)]
 pub(crate) struct MovedOut<V> {
     pub types: MovedParts<Boxed<Messages<Record<V>>>>,
     pub resources: MovedParts<V>,
+    /// Memory for what is read.
+    pub lists: SpareLists<V>,
 }
 
 /// The parts of a world that were moved out for an access to write. It has to be taken back, or the
 /// world stays without them.
 #[derive(Drop)]
 pub struct Taken<V = i64> {
-    /// None if no type and no resource was moved out. It is in a box, so that little is moved where
-    /// a turn takes it along and gives it back.
+    /// None if no type and no resource was moved out; it may be there if types are read. It is in a
+    /// box, so that little is moved where a turn takes it along and gives it back.
     pub(crate) moved: Option<Box<MovedOut<V>>>,
     /// How many types the world has, and how many resources.
     pub(crate) types: usize,
@@ -59,6 +62,7 @@ impl<V: Value> MovedOut<V> {
         Ok(MovedOut {
             types: MovedParts::new(alloc, types)?,
             resources: MovedParts::new(alloc, resources)?,
+            lists: SpareLists::new(alloc),
         })
     }
 }
@@ -100,6 +104,17 @@ impl<V: Value> Taken<V> {
     {
         if let Some(moved) = &self.moved {
             moved_stand(&moved.types);
+        }
+    }
+
+    /// An empty list, with memory that serves again if there is some.
+    pub(crate) fn empty_list(&mut self, alloc: Global) -> Vec<Record<V>>
+        ensures empty { result.items ≡ [] }
+        ensures same { self.new ≡ self.old }
+    {
+        match &mut self.moved {
+            Some(moved) => moved.lists.take(alloc),
+            None => Vec::new(alloc),
         }
     }
 

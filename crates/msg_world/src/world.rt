@@ -1,4 +1,4 @@
-ghost use Rattle.std.specs.Prelude.{◌≡◌, ℕ, ◌+◌, ◌<◌, ◌≤◌, ◌↔◌, [], ◌∷◌, length, slice_index, slice_get, is_some, Some, None, IfOk, IfErr, OnOk, OnErr, IsTrue, IsSome, IsSomeAnd, map, if◌then◌else◌};
+ghost use Rattle.std.specs.Prelude.{◌≡◌, ℕ, ◌+◌, ◌<◌, ◌≤◌, ◌↔◌, [], ◌∷◌, length, slice_index, slice_get, is_some, Some, None, IfOk, IfErr, IfSome, OnOk, OnErr, IsTrue, IsSome, IsSomeAnd, map, if◌then◌else◌};
 ghost use Rattle.std.specs.Option.{option_copied};
 ghost use Rattle.msg_buffer.specs.Prelude.{History, IsSpent, StandsFor, count, empty, message_refused, update, write};
 ghost use Rattle.msg_world.specs.Prelude.{IsApart, IsHome, IsWhole, LendsOut, OfResource, OfType, PartsStand, SameShape, TakesBack, WorldState, WritesTypeOrResource, after_update, by, held_world, new_world, slot, with_history};
@@ -175,7 +175,9 @@ impl<V: Value> World<V> {
     {
         let types = new_types(alloc, limits)?;
         let resources = new_resources(alloc, resources)?;
-        let spares = Vec::with_capacity(alloc, types.len() + resources.len())?;
+        let mut spares = Vec::with_capacity(alloc, types.len() + resources.len())?;
+        let spare = MovedOut::new(alloc, types.len(), resources.len())?;
+        spares.push(Box::new(alloc, spare)?)?;
         let marks = Some(Marks {
             held: false,
             pending: false,
@@ -319,7 +321,7 @@ impl<V: Value> World<V> {
         let moved = if access.writes_type_or_res() {
             Some(self.move_out(access)?)
         } else {
-            None
+            self.spare_for(access)
         };
         Ok(Taken {
             moved,
@@ -341,6 +343,19 @@ impl<V: Value> World<V> {
         let alloc = *self.types.allocator();
         let spare = MovedOut::new(alloc, self.types.len(), self.resources.len())?;
         Ok(Box::new(alloc, spare)?)
+    }
+
+    /// What goes with a job that moves nothing out: one that serves again, if there is one and the
+    /// job reads a type, for the lists of what it reads.
+    fn spare_for(&mut self, access: &Access) -> Option<Box<MovedOut<V>>>
+        ensures spare { IfSome result (λ b.
+            IsSpare (length self.old.types) (length self.old.resources) b.value) }
+        ensures same { self.new ≡ self.old }
+    {
+        if access.read_types == 0 {
+            return None;
+        }
+        self.spares.pop()
     }
 
     /// Moves out the types and the resources that the access writes.
@@ -379,6 +394,16 @@ impl<V: Value> World<V> {
             None => {}
         }
         self.marks = marks.or(self.marks);
+    }
+
+    /// Keeps the memory of a list for what will be read.
+    pub fn keep_list(&mut self, list: Vec<Record<V>>)
+        ensures same { self.new ≡ self.old }
+    {
+        if let Some(mut spare) = self.spares.pop() {
+            spare.lists.keep(list);
+            self.keep(spare);
+        }
     }
 
     /// Moves types and resources home, and keeps what they were in.

@@ -11,7 +11,12 @@ pub batch-requires : goal.batch-requires
 batch-requires g c = record { lent = covers_written _ _ (OfType c.in-Batch.t) c.requires.covers (rw c.in-Batch.is refl) }
 
 pub drain-requires : goal.drain-requires
-drain-requires g c = record { lent = covers_written _ _ (OfType c.in-Drain.t) c.requires.covers (rw c.in-Drain.is refl) }
+drain-requires g c =
+    let list = c.empty_list-list-in-Drain.ensures in
+    record {
+      empty = list.empty;
+      lent = rw list.same (covers_written _ _ (OfType c.in-Drain.t) c.requires.covers (rw c.in-Drain.is refl));
+    }
 
 pub set-requires : goal.set-requires
 set-requires g c = record { lent = covers_written _ _ (OfResource c.in-Set.r) c.requires.covers (rw c.in-Set.is refl) }
@@ -23,7 +28,12 @@ pub signal-requires : goal.signal-requires
 signal-requires g c = record { lent = covers_written _ _ Registry c.requires.covers (rw c.in-Signal.is refl) }
 
 pub read-requires : goal.read-requires
-read-requires g c = record { lent = covers_read _ _ (OfType c.in-Read.t) c.requires.covers (rw c.in-Read.is refl) }
+read-requires g c =
+    let list = c.empty_list-list.ensures in
+    record {
+      empty = list.empty;
+      lent = rw list.same (covers_read _ _ (OfType c.in-Read.t) c.requires.covers (rw c.in-Read.is refl));
+    }
 
 pub len-requires : goal.len-requires
 len-requires g c = record { lent = covers_read _ _ (OfType c.in-Len.t) c.requires.covers (rw c.in-Len.is refl) }
@@ -38,17 +48,24 @@ pub get-requires : goal.get-requires
 get-requires g c = record { lent = covers_read _ _ (OfResource c.in-Get.r) c.requires.covers (rw c.in-Get.is refl) }
 
 pub forward-requires-clause-read : goal.forward-requires-clause-read
-forward-requires-clause-read g c = covers_read _ _ (OfType c.in-Forward.t) c.requires.covers (rw c.in-Forward.is refl)
+forward-requires-clause-read g c =
+    rw c.empty_list-list-in-Forward.ensures.same
+    (covers_read _ _ (OfType c.in-Forward.t) c.requires.covers (rw c.in-Forward.is refl))
 
 pub forward-requires-clause-written : goal.forward-requires-clause-written
 forward-requires-clause-written g c =
-    covers_written _ _ (OfType c.in-Forward.u) c.requires.covers (rw c.in-Forward.is refl)
+    rw c.empty_list-list-in-Forward.ensures.same
+    (covers_written _ _ (OfType c.in-Forward.u) c.requires.covers (rw c.in-Forward.is refl))
 
 pub sum-requires-clause-read : goal.sum-requires-clause-read
-sum-requires-clause-read g c = covers_read _ _ (OfType c.in-Sum.t) c.requires.covers (rw c.in-Sum.is refl)
+sum-requires-clause-read g c =
+    rw c.empty_list-list-in-Sum.ensures.same
+    (covers_read _ _ (OfType c.in-Sum.t) c.requires.covers (rw c.in-Sum.is refl))
 
 pub sum-requires-clause-written : goal.sum-requires-clause-written
-sum-requires-clause-written g c = covers_written _ _ (OfResource c.in-Sum.r) c.requires.covers (rw c.in-Sum.is refl)
+sum-requires-clause-written g c =
+    rw c.empty_list-list-in-Sum.ensures.same
+    (covers_written _ _ (OfResource c.in-Sum.r) c.requires.covers (rw c.in-Sum.is refl))
 
 pub returns-in-Batch-clause-ran : goal.returns-in-Batch-clause-ran
 returns-in-Batch-clause-ran g c =
@@ -56,7 +73,8 @@ returns-in-Batch-clause-ran g c =
 
 pub returns-in-Drain-clause-ran : goal.returns-in-Drain-clause-ran
 returns-in-Drain-clause-ran g c =
-    rw c.in-Drain.is (IfOk-weaker c.drain.result _ _ (λ reply ran. ran c.args.writer _) c.drain.ensures.ran)
+    let same = c.empty_list-list-in-Drain.ensures.same in
+    rw c.in-Drain.is (IfOk-weaker c.drain.result _ _ (λ reply ran. ran c.args.writer _) (rw same at c.drain.ensures.ran))
 
 pub returns-in-Get-clause-ran : goal.returns-in-Get-clause-ran
 returns-in-Get-clause-ran g c = rw c.in-Get.is (c.get.ensures.ran c.args.writer _)
@@ -79,9 +97,10 @@ returns-in-Add-clause-ran g c =
 
 pub returns-in-Read-clause-ran : goal.returns-in-Read-clause-ran
 returns-in-Read-clause-ran g c =
-    rw c.in-Read.is (IfOk-weaker c.read.result _ _ (λ reply ran. ran_at c.args.cursors.now _ _ _ (search rules)
+    let same = c.empty_list-list.ensures.same in
+    rw (c.in-Read.is, same) (IfOk-weaker c.read.result _ _ (λ reply ran. ran_at c.args.cursors.now _ _ _ (search rules)
     c.number.ensures.number c.number.ensures.within (Read _ _) c.args.writer _ c.args.lent.now _ _ (ran c.args.writer))
-    c.read.ensures.ran)
+    (rw same at c.read.ensures.ran))
 
 pub returns-in-Len-clause-ran : goal.returns-in-Len-clause-ran
 returns-in-Len-clause-ran g c =
@@ -100,15 +119,17 @@ returns-in-Clear-clause-ran g c =
 
 pub returns-in-Forward-clause-ran : goal.returns-in-Forward-clause-ran
 returns-in-Forward-clause-ran g c =
+    let same = c.empty_list-list-in-Forward.ensures.same in
     rw c.in-Forward.is (IfOk-weaker c.forward.result _ _ (λ reply. ran_at c.args.cursors.now _ _ _ (search rules)
     c.number-in-Forward.ensures.number c.number-in-Forward.ensures.within (Forward _ _) c.args.writer _ c.args.lent.now
-    _ _) c.forward.ensures.ran)
+    _ _) (rw same at c.forward.ensures.ran))
 
 pub returns-in-Sum-clause-ran : goal.returns-in-Sum-clause-ran
 returns-in-Sum-clause-ran g c =
+    let same = c.empty_list-list-in-Sum.ensures.same in
     rw c.in-Sum.is (IfOk-weaker c.sum.result _ _ (λ reply ran. ran_at c.args.cursors.now _ _ _ (search rules)
     c.number-in-Sum.ensures.number c.number-in-Sum.ensures.within (Sum _ _) c.args.writer _ c.args.lent.now _ _
-    (ran c.args.writer)) c.sum.ensures.ran)
+    (ran c.args.writer)) (rw same at c.sum.ensures.ran))
 
 pub returns-in-Write-clause-refused : goal.returns-in-Write-clause-refused
 returns-in-Write-clause-refused g c =
@@ -120,4 +141,5 @@ returns-in-Batch-clause-refused g c =
 
 pub returns-in-Drain-clause-refused : goal.returns-in-Drain-clause-refused
 returns-in-Drain-clause-refused g c =
-    rw c.in-Drain.is (on_err_weaker c.drain.result (λ refused. refused (λ t. 0)) c.drain.ensures.refused)
+    let same = c.empty_list-list-in-Drain.ensures.same in
+    rw c.in-Drain.is (on_err_weaker c.drain.result (λ refused. refused (λ t. 0)) (rw same at c.drain.ensures.refused))

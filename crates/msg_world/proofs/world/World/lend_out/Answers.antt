@@ -1,7 +1,7 @@
-use Rattle.std.proofs.Common.{ap, arith, inl, inr, rules, sym, ◌∙◌}
+use Rattle.std.proofs.Common.{◌≡◌, ap, arith, inl, inr, length, rules, sym, ◌∙◌}
 use Rattle.std.proofs.lemmas.Bool.{false_from_ne_true, false≢true}
 use Rattle.msg_world.specs.Prelude.{OfResource, OfType, Parts, WritesTypeOrResource, has_bit}
-use Rattle.msg_world.proofs.{Worlds.lent_out, Worlds.none_out, world.World.lend_out.Goals.then-writes_type_or_res+in_ok-move_out, world.World.lend_out.Goals.else-writes_type_or_res}
+use Rattle.msg_world.proofs.{Worlds.lent_out, Worlds.none_out, Worlds.spare_resources, Worlds.spare_types, world.World.lend_out.Goals.then-writes_type_or_res+in_ok-move_out, world.World.lend_out.Goals.else-writes_type_or_res}
 use Rattle.msg_world.proofs.world.World.lend_out.Goals as goal
 
 pub move_out-requires-clause-types : goal.move_out-requires-clause-types
@@ -25,14 +25,17 @@ returns-clause-lent g c =
           (rw (w.moved-is, ap (λ (p : Parts V). p.resources) is) moved.resources)
           (grind (arith, marks.taken, same)) (grind (arith, marks.left, same))
       | else-writes_type_or_res w ↦
-          let is = c.self.view_is ∙ w.self-is in
+          let is = c.self.view_is ∙ w.self-is ∙ w.spare_for-moved.ensures.same in
           let same = ap (λ (p : Parts V). p.marks) is in
+          let spare = w.spare_for-moved.ensures.spare in
           let none : WritesTypeOrResource a → ⊥ = λ s.
           false≢true (sym w.if-writes_type_or_res.false ∙ c.writes_type_or_res.ensures.some.1 s) in
+          let types : c.len.result ≡ length c.args.self.now.types = search (rules, is) in
+          let resources : c.len-2.result ≡ length c.args.self.now.resources = search (rules, is) in
           lent_out a c.args.self.now _ _
-          (rw (w.moved-is, ap (λ (p : Parts V). p.types) is) (none_out a.write_types c.len.result c.args.self.now.types
-          (λ k. false_from_ne_true (has_bit a.write_types k) (λ t. none (inl (k, t)))) (search (rules, is))))
-          (rw (w.moved-is, ap (λ (p : Parts V). p.resources) is) (none_out a.write_res c.len-2.result c.args.self.now.resources
-          (λ k. false_from_ne_true (has_bit a.write_res k) (λ t. none (inr (k, t)))) (search (rules, is))))
+          (rw (w.moved-is, types, ap (λ (p : Parts V). p.types) is) (none_out a.write_types c.args.self.now.types _
+          (λ k. false_from_ne_true (has_bit a.write_types k) (λ t. none (inl (k, t)))) (spare_types _ _ _ spare)))
+          (rw (w.moved-is, resources, ap (λ (p : Parts V). p.resources) is) (none_out a.write_res c.args.self.now.resources _
+          (λ k. false_from_ne_true (has_bit a.write_res k) (λ t. none (inr (k, t)))) (spare_resources _ _ _ spare)))
           (grind (arith, marks.taken, same)) (grind (arith, marks.left, same))
     ]
