@@ -29,8 +29,8 @@ pub struct Taken<V = i64> {
     /// box, so that little is moved where a turn takes it along and gives it back.
     pub(crate) moved: Option<Box<MovedOut<V>>>,
     /// How many types the world has, and how many resources.
-    pub(crate) types: usize,
-    pub(crate) resources: usize,
+    pub(crate) types: u8,
+    pub(crate) resources: u8,
     pub(crate) marks: Option<Marks>,
 }
 

@@ -325,8 +325,8 @@ impl<V: Value> World<V> {
         };
         Ok(Taken {
             moved,
-            types: self.types.len(),
-            resources: self.resources.len(),
+            types: self.types.len() as u8,
+            resources: self.resources.len() as u8,
             marks: take_marks(&mut self.marks, access.registry),
         })
     }
