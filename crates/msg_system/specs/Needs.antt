@@ -1,7 +1,7 @@
 -- What ops, programs, conditions and jobs read and write, part by part.
 use Rattle.std.specs.Prelude.{◌≡◌, ℕ, Bool, true, false, not, ◌&&◌, ◌||◌, IsTrue, Option, Some, None, List, option_and_then, slice_get}
 use Rattle.std.specs.List.{list_any}
-use Rattle.msg_world.specs.{Prelude.HasPart, Prelude.Overlap, declared.part.Part.Part, declared.part.Part.TheVariants.OfType, declared.part.Part.TheVariants.OfResource, declared.part.Part.TheVariants.Registry, Prelude.reads, Prelude.same_part, Prelude.writes, declared.access.Access.Access}
+use Rattle.msg_world.specs.{Prelude.HasPart, Prelude.Overlap, declared.part.Part.Part, declared.part.Part.TheVariants.OfType, declared.part.Part.TheVariants.OfResource, Prelude.reads, Prelude.same_part, Prelude.writes, declared.access.Access.Access}
 use Rattle.msg_system.specs.{Programs.op_parts, declared.op.Op.Op, declared.condition.Condition.Condition, declared.condition.Probe.Probe, declared.condition.Probe.TheVariants.OnMessage, declared.condition.Probe.TheVariants.ResourceEquals}
 
 -- true if there is no part, and else what `holds` says of the part
