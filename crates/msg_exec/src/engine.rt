@@ -123,7 +123,7 @@ impl<V: Value, S: SystemOf<Value = V>> EngineOf<S, V> {
         self.frames = self.frames.saturating_add(1);
     }
 
-    /// Takes the lists of turns and replies of a log that is no longer needed, for the logs of
+    /// Takes the lists of turns, replies and read messages of a log that is no longer needed, for
     /// frames to come. What is kept of them no clause says.
     pub fn recycle(&mut self, log: Log<V>)
         ensures meaning { (s : State V.values) → EngineStands S.meaning self.old s

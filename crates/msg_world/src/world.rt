@@ -39,7 +39,7 @@ pub struct World<V = i64> {
     resources: Vec<Option<V>>,
     marks: Option<Marks>,
     /// What parts came home from: it serves those that go out next. There is room for one for each
-    /// part, since no more can be out at once.
+    /// part, since no more can be out at once with something in it.
     spares: Vec<Box<MovedOut<V>>>,
 }
 
