@@ -1,9 +1,10 @@
 -- Bits of masks, as tests.
-use Rattle.std.proofs.Common.{◌≡◌, ◌≢◌, ℕ, zero, suc, ◌+◌, ◌*◌, ◌-◌, ◌/◌, ◌^◌, ◌%◌, ◌<◌, ◌≤◌, Bool, true, false, not, ◌&&◌, ◌||◌, inl, inr, ap, sym, ◌∙◌, arith, w64, ◌==◌, ◌↔◌, IsTrue, bit_and, bit_or, nat_lt}
-use Rattle.std.proofs.{Math.Bool.and-true, Math.Nat.div-le_self, lemmas.Nat.shr-shr}
-use Rattle.std.proofs.lemmas.Bool.{cases_lt, cases_eq, eqb-true, eq-eqb, ne_eqb, eqb-false, le-ltb, lt-ltb, not-true, false≢true}
+use Rattle.std.proofs.Common.{◌≡◌, ◌≢◌, ℕ, zero, suc, ◌+◌, ◌*◌, ◌-◌, ◌/◌, ◌^◌, ◌%◌, ◌<◌, ◌≤◌, false, not, ◌&&◌, ◌||◌, inl, inr, ap, sym, ◌∙◌, arith, w64, ◌==◌, ◌↔◌, IsTrue, bit_and, bit_or}
+use Rattle.std.proofs.{Math.Nat.div-le_self, lemmas.Nat.shr-shr}
+use Rattle.std.proofs.lemmas.Bool.{cases_lt, cases_eq, eqb-true, eq-eqb, eqb-false, not-true, false≢true}
 use Rattle.std.proofs.lemmas.Bool.Decides.{eqb_tells, nat_tests}
 use Rattle.std.proofs.lemmas.Nat.Bits.{bit_at_lowest, bit_at-suc, bit_at_and, bit_at_or, bit_at_not, bit_at_above, bit_at-zero, bit_at-lt, bit_at_set_same, bit_at_set_other, bit_at_clear_same, bit_at_clear_other, bit_at-trailing_zeros}
+use lib.Bits.{and_le_l}
 use Rattle.std.specs.Int.{bit_at, bit_not, trailing_zeros}
 use Rattle.msg_world.specs.{Prelude.has_bit, inner.Masks.ShareBit, inner.Masks.IsBelow}
 
@@ -37,11 +38,34 @@ pub has_bit-unset : (mask k j : ℕ) → k < 64 → j < 64 → has_bit (bit_and 
 has_bit-unset mask k j h l =
     grind (arith, eqb_tells, cases_eq j k, bit_at_clear_same w64 mask k h, bit_at_clear_other w64 mask k h j l)
 
+-- the same of a mask of 64 bits
+pub has_bit-without : (mask k j : ℕ) → mask < 2 ^ 64 → k < 64
+    → has_bit (bit_and mask (bit_not w64 (1 * 2 ^ k % 2 ^ 64))) j ≡ (not (j == k) && has_bit mask j)
+has_bit-without mask k j fits h = elim (cases_lt j 64) [
+  | inl lt ↦ has_bit-unset mask k j h lt
+  | inr le ↦ grind (arith, has_bit-and mask (bit_not w64 (1 * 2 ^ k % 2 ^ 64)) j, has_bit-above mask j fits le)
+]
+
+-- it is less if the bit was set
+pub less-without : (mask k : ℕ) → k < 64 → IsTrue (has_bit mask k)
+    → bit_and mask (bit_not w64 (1 * 2 ^ k % 2 ^ 64)) < mask
+less-without mask k h set =
+    let cleared = bit_at_clear_same w64 mask k h in
+    let no_more = and_le_l mask (bit_not w64 (1 * 2 ^ k % 2 ^ 64)) in
+    elim (cases_eq (bit_and mask (bit_not w64 (1 * 2 ^ k % 2 ^ 64))) mask) [
+      | inl same ↦ grind (arith, nat_tests, cleared, same, set)
+      | inr other ↦ omega (arith, no_more, other)
+    ]
+
+-- the lowest bit of a mask that isn't 0
+pub lowest_is_set : (n : ℕ) → n < 2 ^ 64 → n ≢ 0 → IsTrue (has_bit n (trailing_zeros w64 n))
+lowest_is_set n fits ne =
+    eq-eqb (bit_at n (trailing_zeros w64 n)) 1 (bit_at-trailing_zeros w64 n (omega arith) fits).1
+
 -- a mask that isn't 0 has a bit
 pub some_bit : (n : ℕ) → n < 2 ^ 64 → n ≢ 0 → (k : ℕ) × ((k < 64) × IsTrue (has_bit n k))
 some_bit n fits ne =
-    let bit = bit_at-trailing_zeros w64 n (omega arith) fits in
-    (trailing_zeros w64 n, (bit.0, eq-eqb (bit_at n (trailing_zeros w64 n)) 1 bit.1))
+    (trailing_zeros w64 n, ((bit_at-trailing_zeros w64 n (omega arith) fits).0, lowest_is_set n fits ne))
 
 -- whatever its size
 some_bit_of : (fuel n : ℕ) → n ≤ fuel → n ≢ 0 → (k : ℕ) × IsTrue (has_bit n k)
@@ -92,23 +116,5 @@ shr-is_below mask n fits = (
   λ below. grind (arith, nat_tests, next_is_set mask n fits, below),
 )
 
--- ---- the bits below a number
-
--- below the next bit after n are those below n, and n
-pub below_next : (mask n next : ℕ) → IsTrue (has_bit mask n) → n < next
-    → ((k : ℕ) → n + 1 ≤ k → k < next → has_bit mask k ≡ false)
-    → (k : ℕ) → (has_bit mask k && nat_lt k next) ≡ (k == n || (has_bit mask k && nat_lt k n))
-below_next mask n next set lt none k = grind (arith, cases_eq, eq-eqb, lt-ltb, cases_lt, ne_eqb, le-ltb)
-
--- n itself isn't one of them
-pub none_itself : (bit : Bool) (k n : ℕ) → (k == n) ≡ true → (bit && nat_lt k n) ≡ false
-none_itself bit k n is = grind (arith, nat_tests)
-
--- there are no others than those below 64
-pub all_below : (mask n : ℕ) → mask < 2 ^ 64 → 64 ≤ n → (k : ℕ) → (has_bit mask k && nat_lt k n) ≡ has_bit mask k
-all_below mask n fits past k = grind (arith, cases_lt, lt-ltb, and-true, has_bit-above)
-
 -- what the functions of masks are proved by
-pub ruleset next_bits = (none_from, next_is_set, next_is_below, none_before_next)
-
-pub ruleset of_masks = (has_bit-or, has_bit-set, has_bit-clear, share_bit-and, shr-is_below, next_bits)
+pub ruleset of_masks = (has_bit-or, has_bit-set, has_bit-clear, has_bit-above, share_bit-and, shr-is_below)

@@ -1,9 +1,7 @@
 -- What slots hold as parts go out of them and come home.
-use Rattle.std.proofs.Common.{◌≡◌, ℕ, ◌<◌, ◌≤◌, ◌^◌, Bool, true, false, inl, inr, ◌⊎◌, List, None, Option, ◌||◌, if◌then◌else◌, arith, get_or, replicate}
+use Rattle.std.proofs.Common.{◌≡◌, ℕ, Bool, true, false, inl, ◌⊎◌, None, Option, ◌&&◌, ◌||◌, not, if◌then◌else◌, arith, get_or, replicate}
 use Rattle.std.proofs.lemmas.Bool.{cases_lt}
 use Rattle.std.proofs.lemmas.List.{get_or-replicate, get_or_past, length-replicate}
-use Rattle.msg_world.specs.inner.{Moved.HoldNoneBut, Slots.at}
-use Rattle.msg_world.proofs.Bits.{has_bit-above}
 
 -- a borrow that gives back alike
 pub lends_alike : {G A B : Type 0} (name : G) (f h : A → B) → ((w : A) → f w ≡ h w)
@@ -14,15 +12,13 @@ lends_alike name f h same = λ i. inl (name, λ w. same w i)
 pub equal_items : {X : Type 0} (n : ℕ) (x : X) (k : ℕ) → get_or (replicate n x) k x ≡ x
 equal_items n x k = grind (arith, cases_lt, get_or-replicate, get_or_past, length-replicate)
 
-module _ {X : Type 0} where
-  -- nothing is left in slots if there is nothing below n, and nothing but in the slots of a mask
-  pub none_left : (mask n : ℕ) (xs : List (Option X)) → mask < 2 ^ 64 → 64 ≤ n → HoldNoneBut mask xs
-      → ((k : ℕ) → k < n → at xs k ≡ None) → (k : ℕ) → at xs k ≡ None
-  none_left mask n xs fits past others below k = elim (cases_lt k n) [
-    | inl lt ↦ below k lt
-    | inr le ↦ others k (has_bit-above mask k fits (omega (arith, le, past)))
-  ]
+-- one bit more of a mask is done, which wasn't done before
+pub one_more : (mask rest same next : Bool) → (same ≡ true → mask ≡ true) → (same ≡ true → rest ≡ true)
+    → next ≡ (not same && rest)
+    → ((mask && not next) ≡ (same || (mask && not rest))) × (same ≡ true → (mask && not rest) ≡ false)
+one_more mask rest same next of_mask was_left is = (grind arith, λ here. grind arith)
 
+module _ {X : Type 0} where
   -- what a slot holds after one slot was moved out, which wasn't among those before
   pub one_moves : (bit same next : Bool) (after from before first : Option X) → next ≡ (same || bit)
       → (same ≡ true → bit ≡ false) → after ≡ (if same then from else before)

@@ -1,7 +1,7 @@
 // Masks of 64 bits, one for each number below 64.
 #![tactic(auto, using(crate::proofs::Bits::of_masks))]
 
-ghost use Rattle.std.specs.Prelude.{◌≡◌, ◌==◌, ◌||◌, ◌&&◌, not, ℕ, ◌<◌, ◌≤◌, ◌↔◌, IsTrue, false};
+ghost use Rattle.std.specs.Prelude.{◌≡◌, ◌≢◌, ◌==◌, ◌||◌, ◌&&◌, not, ℕ, ◌<◌, ◌↔◌, IsTrue};
 ghost use Rattle.msg_world.specs.{Prelude.has_bit, inner.Masks.ShareBit, inner.Masks.Collide, inner.Masks.IsBelow};
 
 /// Whether bit `k` is set.
@@ -55,20 +55,20 @@ pub fn is_below(mask: u64, n: u32) -> bool
     n >= 64 || mask >> n == 0
 }
 
-/// The first bit of the mask from this number on; 64 if there is none.
-pub fn next_bit(mask: u64, from: u32) -> u32
-    requires { from ≤ 64 }
-    ensures from_there { from ≤ result }
-    ensures at_most { result ≤ 64 }
-    ensures is_set { result < 64 → IsTrue (has_bit mask result) }
-    ensures none_before { (k : ℕ) → from ≤ k → k < result → has_bit mask k ≡ false }
+/// The lowest bit that is set.
+pub fn lowest(mask: u64) -> u32
+    requires some { mask ≢ 0 }
+    ensures number { result < 64 }
+    ensures is_set { IsTrue (has_bit mask result) }
 {
-    if from == 64 {
-        return 64;
-    }
-    let rest = mask >> from;
-    if rest == 0 {
-        return 64;
-    }
-    from + rest.trailing_zeros()
+    mask.trailing_zeros()
+}
+
+/// The mask with bit `k` cleared.
+pub fn without_bit(mask: u64, k: u32) -> u64
+    requires { k < 64 }
+    ensures bits { (j : ℕ) → has_bit result j ≡ (not (j == k) && has_bit mask j) }
+    ensures less { IsTrue (has_bit mask k) → result < mask }
+{
+    mask & !(1 << k)
 }

@@ -71,10 +71,11 @@ impl<T: Drop> MovedParts<T> {
         ensures moved { MovesOut mask from.old.items from.new.items self.new }
     {
         self.mask = mask;
-        let mut k = masks::next_bit(mask, 0);
-        while k < 64 {
+        let mut rest = mask;
+        while rest != 0 {
+            let k = masks::lowest(rest);
             move_slot(from, &mut self.slots, k as usize);
-            k = masks::next_bit(mask, k + 1);
+            rest = masks::without_bit(rest, k);
         }
     }
 
@@ -84,11 +85,11 @@ impl<T: Drop> MovedParts<T> {
         ensures home { MovesHome self.old home.old.items home.new.items }
         ensures empty { AreEmptyOf (vec_len home.old) self.new }
     {
-        let mask = replace(&mut self.mask, 0);
-        let mut k = masks::next_bit(mask, 0);
-        while k < 64 {
+        let mut rest = replace(&mut self.mask, 0);
+        while rest != 0 {
+            let k = masks::lowest(rest);
             put_home(&mut self.slots, home, k as usize);
-            k = masks::next_bit(mask, k + 1);
+            rest = masks::without_bit(rest, k);
         }
     }
 

@@ -4,6 +4,7 @@ ghost use Rattle.std.specs.Option.{option_copied};
 ghost use Rattle.msg_world.specs.inner.Slots.{HaveEach, at};
 
 use crate::masks;
+use std::mem::swap;
 
 /// What a slot holds; nothing if there is no such slot.
 pub(crate) fn slot_ref<T>(slots: &Vec<Option<T>>, k: usize) -> Option<&T>
@@ -15,10 +16,11 @@ pub(crate) fn slot_ref<T>(slots: &Vec<Option<T>>, k: usize) -> Option<&T>
     }
 }
 
-/// Moves what a slot holds into the slot of the same number of another list.
+/// Moves what a slot holds into the slot of the same number of another list, which is empty.
 pub(crate) fn move_slot<T: Drop>(from: &mut Vec<Option<T>>, to: &mut Vec<Option<T>>, k: usize)
     requires from { k < vec_len from.old }
     requires to { k < vec_len to.old }
+    requires free { at to.old.items k ≡ None }
     ensures moved { (j : ℕ) → at to.new.items j
         ≡ (if j == k then at from.old.items j else at to.old.items j) }
     ensures left { (j : ℕ) → at from.new.items j
@@ -26,7 +28,7 @@ pub(crate) fn move_slot<T: Drop>(from: &mut Vec<Option<T>>, to: &mut Vec<Option<
     ensures moved_len { vec_len to.new ≡ vec_len to.old }
     ensures left_len { vec_len from.new ≡ vec_len from.old }
 {
-    to[k] = from[k].take();
+    swap(&mut from[k], &mut to[k]);
 }
 
 /// Whether each slot of a mask holds something.
@@ -34,12 +36,13 @@ pub(crate) fn move_slot<T: Drop>(from: &mut Vec<Option<T>>, to: &mut Vec<Option<
 pub(crate) fn have_each<T>(slots: &Vec<Option<T>>, mask: u64) -> bool
     ensures each { IsTrue result ↔ HaveEach slots.now.items mask }
 {
-    let mut k = masks::next_bit(mask, 0);
-    while k < 64 {
+    let mut rest = mask;
+    while rest != 0 {
+        let k = masks::lowest(rest);
         if slot_ref(slots, k as usize).is_none() {
             return false;
         }
-        k = masks::next_bit(mask, k + 1);
+        rest = masks::without_bit(rest, k);
     }
     true
 }

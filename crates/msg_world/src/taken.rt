@@ -56,14 +56,15 @@ impl<V: Value> MovedOut<V> {
         alloc: Global,
         types: usize,
         resources: usize,
-    ) -> Result<MovedOut<V>, AllocError>
-        ensures spare { IfOk result (IsSpare types resources) }
+    ) -> Result<Box<MovedOut<V>>, AllocError>
+        ensures spare { IfOk result (λ b. IsSpare types resources b.value) }
     {
-        Ok(MovedOut {
+        let moved = MovedOut {
             types: MovedParts::new(alloc, types)?,
             resources: MovedParts::new(alloc, resources)?,
             lists: SpareLists::new(alloc),
-        })
+        };
+        Ok(Box::new(alloc, moved)?)
     }
 }
 

@@ -176,8 +176,7 @@ impl<V: Value> World<V> {
         let types = new_types(alloc, limits)?;
         let resources = new_resources(alloc, resources)?;
         let mut spares = Vec::with_capacity(alloc, types.len() + resources.len())?;
-        let spare = MovedOut::new(alloc, types.len(), resources.len())?;
-        spares.push(Box::new(alloc, spare)?)?;
+        spares.push(MovedOut::new(alloc, types.len(), resources.len())?)?;
         let marks = Some(Marks {
             held: false,
             pending: false,
@@ -341,8 +340,7 @@ impl<V: Value> World<V> {
             return Ok(spare);
         }
         let alloc = *self.types.allocator();
-        let spare = MovedOut::new(alloc, self.types.len(), self.resources.len())?;
-        Ok(Box::new(alloc, spare)?)
+        Ok(MovedOut::new(alloc, self.types.len(), self.resources.len())?)
     }
 
     /// What goes with a job that moves nothing out: one that serves again, if there is one and the

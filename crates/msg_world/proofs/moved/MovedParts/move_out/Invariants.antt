@@ -1,18 +1,18 @@
-use Rattle.std.proofs.Common.{◌≡◌, ◌-◌, ◌≤◌, ◌<◌, ℕ, IsTrue, None, vec_len, ◌&&◌, nat_lt, if◌then◌else◌}
+use Rattle.std.proofs.Common.{◌≡◌, ℕ, IsTrue, None, not, vec_len, ◌&&◌, if◌then◌else◌}
 use Rattle.msg_world.specs.{Prelude.has_bit, inner.Slots.at}
 use Rattle.msg_world.proofs.moved.MovedParts.move_out.Given as goal
 
-abbrev pub invariant-loop-k : goal.invariant-loop-k
-invariant-loop-k g l = record {
-  at_most : l.k ≤ 64;
-  is_set : l.k < 64 → IsTrue (has_bit l.mask l.k);
+abbrev pub invariant-loop-rest : goal.invariant-loop-rest
+invariant-loop-rest g l = record {
   mask : l.self-inside.mask ≡ l.mask;
+  of_mask : (k : ℕ) → IsTrue (has_bit l.rest k) → IsTrue (has_bit l.mask k);
   moved_len : vec_len l.self-inside.slots ≡ vec_len l.initial.from;
   left_len : vec_len l.from ≡ vec_len l.initial.from;
   moved : (k : ℕ) → at l.self-inside.slots.items k
-      ≡ (if has_bit l.mask k && nat_lt k l.k then at l.initial.from.items k else None);
-  left : (k : ℕ) → at l.from.items k ≡ (if has_bit l.mask k && nat_lt k l.k then None else at l.initial.from.items k);
+      ≡ (if has_bit l.mask k && not (has_bit l.rest k) then at l.initial.from.items k else None);
+  left : (k : ℕ) → at l.from.items k
+      ≡ (if has_bit l.mask k && not (has_bit l.rest k) then None else at l.initial.from.items k);
 }
 
-abbrev pub decreases-loop-k : goal.decreases-loop-k
-decreases-loop-k g l = 64 - l.k
+abbrev pub decreases-loop-rest : goal.decreases-loop-rest
+decreases-loop-rest g l = l.rest
