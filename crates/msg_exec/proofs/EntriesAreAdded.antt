@@ -1,13 +1,14 @@
 -- Entries are added to totals one by one.
-use Rattle.std.proofs.Common.{arith, ◌≡◌, ℕ, zero, suc, List, [], ◌∷◌, ◌++◌, length, drop, get_or, Some, refl, sym, ap, ◌∙◌, slice_get}
+use Rattle.std.proofs.Common.{arith, ◌≡◌, ℕ, zero, suc, List, [], ◌∷◌, ◌++◌, length, drop, get_or, set, ◌<◌, Some, refl, sym, ap, ◌∙◌, slice_get, is_some, false, inl, inr}
 use Rattle.std.specs.{Global.Vec, Vec.with_items}
-use Rattle.std.proofs.lemmas.{List.with_items_is, Option.get_or_from_slice_get, Option.none-some, Option.same_Some}
+use Rattle.std.proofs.lemmas.{List.set-get_or, List.with_items_is, Option.slice_get_cases, Option.get_or_from_slice_get, Option.none-some, Option.same_Some}
 use Rattle.msg_system.specs.{declared.op.Op.Op, declared.reply.Reply.Reply}
-use Rattle.msg_system.specs.Prelude.{Meaning}
 use Rattle.msg_frames.specs.declared.totals.Totals.{Totals}
-use Rattle.msg_frames.specs.Prelude.{entries_for}
-use Rattle.msg_exec.specs.Prelude.{JobView, capped_totals}
-use Rattle.msg_exec.specs.{inner.SystemsOut.HaveEntered, inner.Totals.entry_at}
+use Rattle.msg_frames.specs.declared.log.Outcome.{Outcome}
+use Rattle.msg_frames.specs.Prelude.{ReadEntry, entries_for, entry_of, with_entries}
+use Rattle.msg_frames.proofs.EntriesAddUp.{with_entries-none}
+use Rattle.msg_exec.specs.Prelude.{capped_totals}
+use Rattle.msg_exec.specs.{inner.SystemsOut.HaveEntered, inner.Totals.entries_by, inner.Totals.entry_at}
 
 -- the same totals are kept alike
 pub kept_alike : {x y t : Totals} → x ≡ y → t ≡ capped_totals y → t ≡ capped_totals x
@@ -29,14 +30,38 @@ module _ {V : Type 0} where
   without_replies t [] = refl
   without_replies t (op ∷ ops) = refl
 
+  -- nothing was entered in totals that stay, if there are no entries
+  pub none_entered : (ops : List (Op V)) (o : Outcome V) → ((t : ℕ) → entries_by t ops o ≡ [])
+      → (all : List (Vec Totals)) (number : ℕ) → number < length all
+      → (v : Vec Totals) × (all ≡ set all number v)
+      × ((u : Vec Totals) → slice_get all number ≡ Some u → HaveEntered ops o u.items v.items)
+  none_entered ops o none all number lt = elim (slice_get_cases all number).1 [
+    | inl found ↦ (
+      found.0,
+      rw found.3 at (sym (set-get_or all number found.0)),
+      λ u is.
+          rw (same_Some u found.0 (sym is ∙ found.2)) (record {
+            as_many = refl;
+            entered = λ t x lt was.
+                kept_alike (ap (λ (es : List (ReadEntry V)). with_entries es x) (none t) ∙ with_entries-none V x) was;
+          }),
+    )
+    | inr past ↦ absurd (omega (arith, lt, past.0))
+  ]
+
+  -- a reply that tells of no reader has no entry
+  pub none_at : (t : ℕ) (ops : List (Op V)) (k : ℕ) (reply : Reply V) → is_some (entry_of reply) ≡ false
+      → entry_at t ops k reply ≡ []
+  none_at t ops k reply none = grind (arith, none)
+
 -- ---- the totals of a system, among those of all
 
 module _ {V : Type 0} where
   -- what its turn told is entered in its totals where they stand
-  pub entered_there : {S : Type 0} (meaning : S → Meaning V) (d : JobView S V) (all : List (Vec Totals)) {x : Vec Totals}
+  pub entered_there : (ops : List (Op V)) (o : Outcome V) (number : ℕ) (all : List (Vec Totals)) {x : Vec Totals}
       {was now : List Totals}
-      → x ≡ get_or all d.number x → was ≡ x.items → length now ≡ x.len → HaveEntered meaning d was now
-      → (u : Vec Totals) → slice_get all d.number ≡ Some u → HaveEntered meaning d u.items (with_items x now).items
-  entered_there meaning d all {x} {was} {now} at there size entered u is =
-      let same : u ≡ x = sym (get_or_from_slice_get all d.number u x is) ∙ sym at in
+      → x ≡ get_or all number x → was ≡ x.items → length now ≡ x.len → HaveEntered ops o was now
+      → (u : Vec Totals) → slice_get all number ≡ Some u → HaveEntered ops o u.items (with_items x now).items
+  entered_there ops o number all {x} {was} {now} at there size entered u is =
+      let same : u ≡ x = sym (get_or_from_slice_get all number u x is) ∙ sym at in
       rw (same, with_items_is x now size, ← there) entered

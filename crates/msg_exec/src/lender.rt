@@ -5,7 +5,7 @@ ghost use Rattle.msg_exec.specs.Prelude.{LenderStands};
 
 use crate::job::{GuardedSystem, Job, JobContents, came, take_turn};
 use crate::spares::Spares;
-use crate::totals::enter;
+use crate::totals::enter_turn;
 use crate::{NoMemory, Outcome, Totals, Turn};
 use msg_system::SystemOf;
 use msg_world::{Access, Taken, Value, World};
@@ -73,7 +73,7 @@ impl<V: Value, S: SystemOf<Value = V>> Lender<S, V> {
         let outcome = replace(&mut contents.outcome, Outcome::Skipped);
         spares.keep_contents(contents);
         self.world.take_back(taken);
-        enter(&guarded.system, &mut self.totals[i], &outcome);
+        enter_turn(&guarded.system, i, &mut self.totals, &outcome);
         self.systems[i] = Some(guarded);
         Turn {
             system: number,
@@ -102,15 +102,15 @@ pub(crate) fn run_turn<V: Value, S: SystemOf<Value = V>>(
     let access = &lender.accesses[i];
     let taken = lender.world.lend_out(access)?;
     let mut replies = spares.replies(alloc);
-    let Some(mut guarded) = lender.systems[i].take() else {
+    let Some(guarded) = &mut lender.systems[i] else {
         unreachable!()
     };
+    let guarded = &mut **guarded;
     let world = &lender.world;
-    let (taken, ran) = take_turn(alloc, &mut guarded, world, access, taken, &mut replies)?;
+    let (taken, ran) = take_turn(alloc, guarded, world, access, taken, &mut replies)?;
     lender.world.take_back(taken);
     let outcome = came(ran, replies);
-    enter(&guarded.system, &mut lender.totals[i], &outcome);
-    lender.systems[i] = Some(guarded);
+    enter_turn(&guarded.system, i, &mut lender.totals, &outcome);
     turns.push(Turn {
         system: number,
         outcome,

@@ -1,9 +1,11 @@
 // What readers were given is added to their totals.
-ghost use Rattle.std.specs.Prelude.{◌≡◌, ◌∷◌, [], ℕ, ◌<◌, is_some, length, option_to_list};
+ghost use Rattle.std.specs.Prelude.{◌≡◌, ◌∷◌, [], ℕ, ◌<◌, IsTrue, List, Some, is_some, length, not, option_to_list, slice_get, slice_set};
+ghost use Rattle.std.specs.Global.{Vec as VecOf};
 ghost use Rattle.msg_frames.specs.declared.totals.Totals.{Totals as TotalsOf};
 ghost use Rattle.msg_frames.specs.Prelude.{entry_of, entry_of_read, with_entries};
 ghost use Rattle.msg_exec.specs.Prelude.{capped_totals, totals_at};
-ghost use Rattle.msg_exec.specs.inner.Totals.{HasFewReplies, entries_by, entry_at};
+ghost use Rattle.msg_system.specs.declared.op.Op.{Op};
+ghost use Rattle.msg_exec.specs.inner.{SystemsOut.HaveEntered, Totals.HasFewReplies, Totals.entries_by, Totals.entry_at};
 
 use crate::{Outcome, Totals};
 use msg_system::{Reply, SystemOf, Took};
@@ -40,6 +42,22 @@ fn is_of_reader<V: Value>(reply: &Reply<V>) -> bool
     reply.took().is_some() || matches!(reply, Reply::Cleared { .. })
 }
 
+/// Whether a reply of a turn tells of a reader.
+fn tells_of_reader<V: Value>(outcome: &Outcome<V>) -> bool
+    ensures none { IsTrue (not result) → (t : ℕ) (ops : List (Op V))
+        → entries_by t ops outcome.now ≡ [] }
+{
+    let Outcome::Ran(replies) = outcome else {
+        return false;
+    };
+    for reply in replies.as_slice() {
+        if is_of_reader(reply) {
+            return true;
+        }
+    }
+    false
+}
+
 /// Adds what one reply of a system tells to the totals of its type.
 fn enter_reply<V: Value, S: SystemOf<Value = V>>(
     system: &S,
@@ -65,11 +83,7 @@ fn enter_reply<V: Value, S: SystemOf<Value = V>>(
 }
 
 /// Adds what came of a system's turn to its totals, by type.
-pub(crate) fn enter<V: Value, S: SystemOf<Value = V>>(
-    system: &S,
-    totals: &mut [Totals],
-    outcome: &Outcome<V>,
-)
+fn enter<V: Value, S: SystemOf<Value = V>>(system: &S, totals: &mut [Totals], outcome: &Outcome<V>)
     requires few { HasFewReplies outcome.now }
     ensures as_many { length totals.new ≡ length totals.old }
     ensures entered { (t : ℕ) (x : TotalsOf) → t < length totals.old
@@ -84,5 +98,24 @@ pub(crate) fn enter<V: Value, S: SystemOf<Value = V>>(
     for reply in replies.as_slice() {
         enter_reply(system, op, reply, totals);
         op += 1;
+    }
+}
+
+/// The same among the totals of all systems, which stay if no reply tells of a reader.
+pub(crate) fn enter_turn<V: Value, S: SystemOf<Value = V>>(
+    system: &S,
+    number: usize,
+    all: &mut Vec<Vec<Totals>>,
+    outcome: &Outcome<V>,
+)
+    requires few { HasFewReplies outcome.now }
+    requires there { number < length all.old.items }
+    ensures entered { (v : VecOf TotalsOf)
+        × (all.new.items ≡ slice_set all.old.items number v)
+        × ((u : VecOf TotalsOf) → slice_get all.old.items number ≡ Some u
+        → HaveEntered (S.meaning system.now).last outcome.now u.items v.items) }
+{
+    if tells_of_reader(outcome) {
+        enter(system, &mut all[number], outcome);
     }
 }

@@ -4,6 +4,10 @@ ghost use Rattle.std.specs.Prelude.{◌≡◌, ◌+◌, ◌&&◌, if◌then◌el
 /// At most so many batches run in place between two tries.
 const LONGEST_PAUSE: u32 = 256;
 
+/// If others than the first worker did so much of a batch, they paid for the starts of their
+/// threads.
+const WORTH: u64 = 65_536;
+
 /// One in so many of the batches in place is looked at: how much it did.
 pub(crate) const LOOKED_AT: u32 = 8;
 
@@ -19,21 +23,28 @@ pub(crate) enum Way {
 /// What the batches in one place of a frame have shown so far: whether the next of them goes over
 /// workers, and how many of these begin at once.
 ///
-/// A batch over workers paid if others than the first worker ran at least a quarter of its jobs; if
-/// there is one other, which begins without a look, at least 3 in 8. If it didn't, the first worker
-/// ran too many by the time that the others had started: so the next batch runs in place, and after
-/// each further try that doesn't pay twice as many do, at most `LONGEST_PAUSE`. A try that pays ends
-/// that, and so does a batch in place that is looked at and did more than twice as much as the one
-/// of the last try: then the next is tried over workers. No result depends on it.
+/// A batch over workers paid if others than the first worker did much, or ran at least a quarter of
+/// its jobs; if there is one other, which begins without a look, at least 3 in 8. If it didn't, the
+/// first worker ran too many by the time that the others had started: so the next batch runs in
+/// place, and after each further try that doesn't pay twice as many do, at most `LONGEST_PAUSE`. If
+/// a try pays, the next batch goes over workers too, and half as many will run in place after one
+/// that doesn't: it may have paid by chance. A batch in place that is looked at and did more than
+/// twice as much as the one of the last try is followed by a try. No result depends on it.
 #[derive(Clone, Copy, Debug)]
 pub struct Habit {
     /// How many others the first worker starts before it runs a job.
     pub at_once: u32,
-    /// Whether the last batch over workers paid.
+    /// How many jobs the last batch over workers had, and how many of them others than the first
+    /// worker ran.
+    jobs: u32,
+    others: u32,
+    /// Whether those were many.
+    many: bool,
+    /// Whether that batch paid.
     pays: bool,
     /// How many batches run in place before workers are tried again.
     in_place: u32,
-    /// How many ran in place before the last try; 0 if that paid.
+    /// How many ran in place before the last try; half as many if it paid.
     pause: u32,
     /// How much the batch of the last try did.
     tried: u64,
@@ -44,6 +55,9 @@ impl Habit {
     pub fn new() -> Habit {
         Habit {
             at_once: 1,
+            jobs: 0,
+            others: 0,
+            many: false,
             pays: false,
             in_place: 0,
             pause: 0,
@@ -73,9 +87,17 @@ impl Habit {
         }
     }
 
-    /// Learns how much the batch did that was tried over workers.
+    /// Learns how much the batch did that was tried over workers, and whether it paid.
     pub(crate) fn did_over_workers(&mut self, size: u64) {
+        let by_others = (size / u64::from(self.jobs.max(1))).saturating_mul(u64::from(self.others));
         self.tried = size;
+        self.pays = self.many || by_others >= WORTH;
+        self.pause = if self.pays {
+            self.pause / 2
+        } else {
+            self.pause.saturating_mul(2).clamp(1, LONGEST_PAUSE)
+        };
+        self.in_place = if self.pays { 0 } else { self.pause };
     }
 
     /// Learns how much the batch did that ran in place.
@@ -100,12 +122,8 @@ impl Habit {
         } else {
             jobs.saturating_mul(3) / 8
         };
-        self.pays = others >= least.max(1);
-        self.pause = if self.pays {
-            0
-        } else {
-            self.pause.saturating_mul(2).clamp(1, LONGEST_PAUSE)
-        };
-        self.in_place = self.pause;
+        self.jobs = jobs;
+        self.others = others;
+        self.many = others >= least.max(1);
     }
 }

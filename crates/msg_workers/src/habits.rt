@@ -8,22 +8,25 @@ use std::marker::Model;
 const PLACES: usize = MAX_JOBS;
 
 /// What a try costs, if it doesn't pay, for its threads. It takes as long as the start of a thread
-/// and its end, some 30 us; a batch in place that is as large takes about 40 times as long.
-const PRICE: u64 = 262_144;
+/// and its end, from 30 to 300 us; a batch in place that is as large takes some 4 ms.
+const PRICE: u64 = 1_048_576;
 
-/// What it costs beside for each job, which goes to a board and comes back: some 2 us.
+/// What it costs beside for each job, which goes to a board and comes back.
 const PRICE_OF_JOB: u64 = PRICE / 16;
 
-/// As much is there at first, and never more. It suffices for 7 tries of two jobs each, and for one
-/// of any number: no try costs more.
-const MOST: u64 = 8 * PRICE;
+/// As much is there at first. It suffices for 2 tries of two jobs each, and for one of any number: no
+/// try costs more.
+const FIRST: u64 = 3 * PRICE;
+
+/// There is never more than this.
+const MOST: u64 = 4 * FIRST;
 
 /// For each place of a batch in a frame its habit, and one account for all that pays for tries.
 ///
-/// Batches in place earn as much as they did, told by those that are looked at, and a batch over
-/// workers that didn't pay takes its price. A batch goes over workers if the habit of its place says
-/// so, and the price is there or workers paid there. So all tries together take a small part of the
-/// time that the batches in place take, however many places there are. Contracts see nothing of it.
+/// Batches earn as much as they did, those in place as told by the ones that are looked at; but a
+/// batch over workers that didn't pay takes its price. A batch goes over workers if the habit of its
+/// place says so, and the price is there or workers paid there. So all tries together take a small
+/// part of the time, however many places there are. Contracts see nothing of it.
 #[derive(Drop)]
 pub struct Habits {
     habits: [Habit; PLACES],
@@ -50,7 +53,7 @@ impl Habits {
             place: 0,
             way: Way::InPlace,
             price: PRICE,
-            account: MOST,
+            account: FIRST,
         }
     }
 
@@ -62,7 +65,7 @@ impl Habits {
     /// Whether the batch in this place, of so many jobs, goes over so many workers.
     pub fn goes_over_workers(&mut self, workers: u32, jobs: usize) -> bool {
         let of_jobs = PRICE_OF_JOB.saturating_mul(jobs as u64);
-        self.price = PRICE.saturating_add(of_jobs).min(MOST);
+        self.price = PRICE.saturating_add(of_jobs).min(FIRST);
         let has_price = self.account >= self.price;
         self.way = if workers > 1 && jobs > 1 {
             self.habit().next_way(has_price)
@@ -89,16 +92,21 @@ impl Habits {
             Way::InPlace => {}
             Way::LookedAt => {
                 self.habit().did_in_place(size);
-                let earned = size.saturating_mul(LOOKED_AT as u64);
-                self.account = self.account.saturating_add(earned).min(MOST);
+                self.earn(size.saturating_mul(u64::from(LOOKED_AT)));
             }
             Way::OverWorkers => {
                 self.habit().did_over_workers(size);
-                if !self.habit().pays() {
+                if self.habit().pays() {
+                    self.earn(size);
+                } else {
                     self.account = self.account.saturating_sub(self.price);
                 }
             }
         }
+    }
+
+    fn earn(&mut self, size: u64) {
+        self.account = self.account.saturating_add(size).min(MOST);
     }
 
     /// The batch in the next place is next.

@@ -4,8 +4,10 @@ use Rattle.std.specs.{Global.Vec, List.AllZip}
 use Rattle.msg_world.specs.declared.access.Access.{Access}
 use Rattle.msg_world.specs.{declared.part.Part.Part, Prelude.LendsOut, Prelude.SameSize, Prelude.TakesBack, Prelude.slot, Prelude.writes, Prelude.Values}
 use Rattle.msg_order.specs.Prelude.{access_of}
+use Rattle.msg_system.specs.declared.op.Op.{Op}
 use Rattle.msg_system.specs.Prelude.{Meaning}
 use Rattle.msg_exec.specs.{Jobs.JobView, declared.lender.Lender.Lender, inner.Totals.entries_by, Keeping.capped_totals, Keeping.totals_at, Lender.system_at}
+use Rattle.msg_frames.specs.declared.log.Outcome.{Outcome}
 use Rattle.msg_frames.specs.declared.totals.Totals.{Totals}
 use Rattle.msg_frames.specs.Prelude.{State, reader_place, with_entries}
 
@@ -53,14 +55,15 @@ module _ {S V : Type 0} where
     pub accesses : left.accesses.items ≡ whole.accesses.items
     pub totals : left.totals.items ≡ whole.totals.items
 
-module _ {S V : Type 0} (meaning : S → Meaning V) where
-  -- the totals of a system after what came of its job
-  pub record HaveEntered (done : JobView S V) (old new : List Totals) : Type 0 where
+module _ {V : Type 0} where
+  -- the totals of a system after what came of a turn that was of these ops
+  pub record HaveEntered (ops : List (Op V)) (outcome : Outcome V)
+      (old new : List Totals) : Type 0 where
     pub as_many : length new ≡ length old
     pub entered : (t : ℕ) (x : Totals) → t < length old → totals_at old t ≡ capped_totals x
-        → totals_at new t ≡ capped_totals
-        (with_entries (entries_by t (meaning done.guarded.system).last done.outcome) x)
+        → totals_at new t ≡ capped_totals (with_entries (entries_by t ops outcome) x)
 
+module _ {S V : Type 0} (meaning : S → Meaning V) where
   -- A system comes home from its turn, with what it gives back, and its totals are those after it.
   -- All else stays.
   pub record ComesHome (old : Lender S V) (done : JobView S V) (new : Lender S V) : Type 0 where
@@ -71,7 +74,7 @@ module _ {S V : Type 0} (meaning : S → Meaning V) where
     pub taken_back : TakesBack done.taken old.world new.world
     pub totals : (v : Vec Totals) × (new.totals.items ≡ slice_set old.totals.items done.number v)
         × ((u : Vec Totals) → slice_get old.totals.items done.number ≡ Some u
-        → HaveEntered done u.items v.items)
+        → HaveEntered (meaning done.guarded.system).last done.outcome u.items v.items)
 
 module _ {V : Type 0} {values : Values V} where
   -- those that join with this frame were given nothing yet

@@ -1,7 +1,6 @@
-use Rattle.std.proofs.Common.{None, option_map, refl, sym, ap, ◌∙◌, arith}
+use Rattle.std.proofs.Common.{None, option_map, refl, sym, ap, ◌∙◌}
 use Rattle.std.proofs.lemmas.List.{get_or-set_other, get_or-set_same, length-set}
 use Rattle.msg_exec.specs.declared.job.JobContents.{JobContents}
-use Rattle.msg_exec.proofs.EntriesAreAdded.{entered_there}
 use Rattle.msg_exec.proofs.lender.Lender.take_back.Goals as goal
 
 pub returns-clause-home : goal.returns-clause-home
@@ -19,14 +18,5 @@ returns-clause-home g c =
       others = λ k other. ap (option_map _) (get_or-set_other systems i k _ None other);
       accesses = refl;
       taken_back = rw taken at c.take_back.ensures.home;
-      totals = (
-        _,
-        refl,
-        entered_there g.S.SystemOf.meaning _ c.args.self.now.totals.items c.index_mut.ensures.value
-            c.deref_mut-3.ensures.value (omega (arith, c.enter.ensures.as_many, c.deref_mut-3.ensures.len))
-            (record {
-              as_many = c.enter.ensures.as_many;
-              entered = rw (came, c.deref-2.ensures) at c.enter.ensures.entered;
-            }),
-      );
+      totals = rw (came, c.deref-2.ensures) at c.enter_turn.ensures.entered;
     })
