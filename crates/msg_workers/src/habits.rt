@@ -9,17 +9,17 @@ const PLACES: usize = MAX_JOBS;
 
 /// What a try costs, if it doesn't pay, for its threads. It takes as long as the start of a thread
 /// and its end, from 30 to 300 us; a batch in place that is as large takes some 4 ms.
-const PRICE: u64 = 1_048_576;
+const PRICE: i64 = 1_048_576;
 
 /// What it costs beside for each job, which goes to a board and comes back.
-const PRICE_OF_JOB: u64 = PRICE / 16;
+const PRICE_OF_JOB: i64 = PRICE / 16;
 
-/// As much is there at first. It suffices for 2 tries of two jobs each, and for one of any number: no
-/// try costs more.
-const FIRST: u64 = 3 * PRICE;
+/// As much is there at first. It suffices for 2 tries of two jobs each, and for one of any number: if
+/// that costs more, the rest is owed.
+const FIRST: i64 = 3 * PRICE;
 
-/// There is never more than this.
-const MOST: u64 = 4 * FIRST;
+/// There is never more than this, and no try costs more.
+const MOST: i64 = 4 * FIRST;
 
 /// For each place of a batch in a frame its habit, and one account for all that pays for tries.
 ///
@@ -34,8 +34,8 @@ pub struct Habits {
     place: usize,
     way: Way,
     /// What the batch that runs costs over workers, if it doesn't pay.
-    price: u64,
-    account: u64,
+    price: i64,
+    account: i64,
 }
 
 impl Model for Habits {
@@ -64,9 +64,9 @@ impl Habits {
 
     /// Whether the batch in this place, of so many jobs, goes over so many workers.
     pub fn goes_over_workers(&mut self, workers: u32, jobs: usize) -> bool {
-        let of_jobs = PRICE_OF_JOB.saturating_mul(jobs as u64);
-        self.price = PRICE.saturating_add(of_jobs).min(FIRST);
-        let has_price = self.account >= self.price;
+        let of_jobs = PRICE_OF_JOB.saturating_mul(jobs.min(PLACES) as i64);
+        self.price = PRICE.saturating_add(of_jobs).min(MOST);
+        let has_price = self.account >= self.price.min(FIRST);
         self.way = if workers > 1 && jobs > 1 {
             self.habit().next_way(has_price)
         } else {
@@ -106,7 +106,8 @@ impl Habits {
     }
 
     fn earn(&mut self, size: u64) {
-        self.account = self.account.saturating_add(size).min(MOST);
+        let earned = size.min(MOST as u64) as i64;
+        self.account = self.account.saturating_add(earned).min(MOST);
     }
 
     /// The batch in the next place is next.
