@@ -30,6 +30,7 @@ pub(crate) fn came<V: Value>(ran: bool, replies: Vec<Reply<V>>) -> Outcome<V>
 
 /// Takes the turn of a system on parts that were lent to it: asks its conditions, and runs it if
 /// they hold. Gives back what was lent, and whether it ran. Replies go into the empty list.
+#[inline(always)]
 pub(crate) fn take_turn<V: Value, S: SystemOf<Value = V>>(
     alloc: Global,
     guarded: &mut GuardedSystem<S, V>,

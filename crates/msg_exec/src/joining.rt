@@ -89,10 +89,10 @@ fn join_one<V: Value, S: SystemOf<Value = V>>(
     ensures opened { IfSome slot.old (λ a. (t : ℕ) → t < length totals.old → totals_at totals.new t
         ≡ totals_from (first_place (S.meaning a.value.system) counts.now t)) }
 {
-    if let Some(mut guarded) = slot.take() {
-        start_job(&mut guarded, counts);
+    if let Some(guarded) = slot {
+        let guarded = &mut **guarded;
+        start_job(guarded, counts);
         open_accounts(&guarded.system, counts, totals);
-        *slot = Some(guarded);
     }
 }
 

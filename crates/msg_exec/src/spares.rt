@@ -69,13 +69,8 @@ impl<V: Value> Spares<V> {
         ensures empty { result.items ≡ [] }
     {
         match self.replies.pop() {
-            Some(mut replies) => {
-                if !replies.is_empty() {
-                    replies.clear();
-                }
-                replies
-            }
-            None => Vec::new(alloc),
+            Some(replies) if replies.is_empty() => replies,
+            _ => Vec::new(alloc),
         }
     }
 
@@ -139,9 +134,13 @@ impl<V: Value> Spares<V> {
                 world.keep_list(items.into_vec());
             }
         }
-        replies.clear();
         if self.replies.len() < MAX_SPARES {
             let _kept = self.replies.push(replies);
+
+            // (it is emptied where it is kept, so that the copy needn't wait for its new length)
+            if let Some(last) = self.replies.last_mut() {
+                last.clear();
+            }
         }
     }
 }

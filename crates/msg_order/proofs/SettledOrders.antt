@@ -1,10 +1,10 @@
 -- The settled order: where it leads, whom it orders, and that any test of conflicts makes the same.
-use Rattle.std.proofs.Common.{Bool, IsTrue, List, ap, arith, false, inl, inr, length, ℕ, ◌&&◌, ◌<◌, ◌↔◌, ◌∙◌, ◌≡◌, ◌⊎◌}
+use Rattle.std.proofs.Common.{Bool, IsTrue, List, ap, arith, false, inl, inr, length, ℕ, ◌&&◌, ◌<◌, ◌↔◌, ◌≡◌, ◌⊎◌}
 use Rattle.std.proofs.lemmas.{Bool.and_from, Bool.and_parts, Bool.cases_Bool, Bool.cases_order, Bool.Decides.eqb_tells}
 use Rattle.msg_world.specs.{Prelude.Conflict, declared.access.Access.Access}
 use Rattle.msg_world.proofs.{Bits.share_bit-and, Conflicts.collides, Conflicts.conflicts_lem}
 use Rattle.msg_order.specs.inner.Paths.{conflict_among}
-use Rattle.msg_order.specs.Prelude.{ConflictingSystemsAreOrdered, FewerSystemsMakeNoCycle, Graph, IsAcyclic, IsAmong, Path, Rule, TellsConflicts, access_of, edges_of, has_joined, pairs, path, rules_among, settle, settled}
+use Rattle.msg_order.specs.Prelude.{ConflictingSystemsAreOrdered, FewerSystemsMakeNoCycle, IsAcyclic, IsAmong, Path, Rule, TellsConflicts, access_of, edges_of, has_joined, pairs, path, rules_among, settle, settled}
 use Rattle.msg_order.proofs.Chains.{path_grows}
 use Rattle.msg_order.proofs.Elements.{Contains-cases, Contains-filter, filter-Contains}
 use Rattle.msg_order.proofs.PathTest.{no_Path, no_path, path_trans, same_test, to_Path}

@@ -1,5 +1,5 @@
 -- What the systems of a scenario file use is there, and so are the types that its frames post to.
-use Rattle.std.proofs.Common.{◌≡◌, ℕ, ℤ, ◌<◌, List, [], ◌∷◌, length, Option, Some, Ok, true, arith, All, IfOk, IfSome, IsTrue, codes, option_and_then}
+use Rattle.std.proofs.Common.{◌≡◌, ℕ, ℤ, ◌<◌, List, [], ◌∷◌, length, Option, Some, Ok, true, arith, All, IfOk, IfSome, codes, option_and_then}
 use Rattle.std.proofs.lemmas.{Bool.eqb-true, List.Elements.All-head, List.Elements.All-tail, List.Elements.All-weaker, List.Quantifiers.position-Some, Result.IfOk-at_ok}
 use Rattle.std.specs.{List.list_any, Str.bytes_eq}
 use Rattle.serde_json.specs.Data.{Data}

@@ -66,6 +66,7 @@ impl SystemOf for ScenarioSystem {
         }
     }
 
+    #[inline(always)]
     fn run(&mut self, alloc: Global, lent: Lent, out: &mut Vec<Reply>) -> Result<Taken, NoMemory>
         requires covers { Covers (⟦<ScenarioSystem as SystemOf>⟧.meaning self.old).needs lent }
         ensures ran { IfOk result

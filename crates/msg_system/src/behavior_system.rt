@@ -74,6 +74,7 @@ impl<B: Behavior + Send> BehaviorSystem<B> {
 impl<B: Behavior> BehaviorSystem<B> {
     /// Does the ops that the behavior gives, one after the other. It returns those that it did, in
     /// the memory of those of its last turn.
+    #[inline(always)]
     fn run_ops(
         &mut self,
         alloc: Global,
@@ -142,6 +143,7 @@ impl<B: Behavior + Send> SystemOf for BehaviorSystem<B> {
         self.cursors.start(self.access, self.start, counts);
     }
 
+    #[inline(always)]
     fn run(
         &mut self,
         alloc: Global,

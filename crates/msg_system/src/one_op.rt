@@ -48,6 +48,7 @@ fn answer_only<V: Value>(
 }
 
 /// Takes the turn of a system whose program is this op.
+#[inline(always)]
 pub(crate) fn take_turn<V: Value>(
     alloc: Global,
     op: Op<V>,

@@ -42,6 +42,7 @@ fn copy_unread<V: Value>(
 }
 
 /// Reads at most `limit` unread messages, or all, into the empty list.
+#[inline(always)]
 pub(crate) fn read_unread<V: Value>(
     list: Vec<Record<V>>,
     messages: &Messages<Record<V>>,

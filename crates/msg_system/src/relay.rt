@@ -67,6 +67,7 @@ impl<V: Value> SystemOf for Relay<V> {
         self.cursors.start(access, self.start, counts);
     }
 
+    #[inline(always)]
     fn run(
         &mut self,
         alloc: Global,

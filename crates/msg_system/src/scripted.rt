@@ -9,6 +9,7 @@ use msg_world::{Counts, Lent, Taken, TypeNo, Value};
 use std::alloc::Global;
 
 /// The ops one after the other. Their replies take no more room than they need.
+#[inline(always)]
 fn run_ops<V: Value>(
     alloc: Global,
     ops: &[Op<V>],
@@ -85,6 +86,7 @@ impl<V: Value> SystemOf for Scripted<V> {
             .start(self.program.access(), self.program.start, counts);
     }
 
+    #[inline(always)]
     #[tactic(auto, using(crate::proofs::Turns::ran_program))]
     fn run(
         &mut self,

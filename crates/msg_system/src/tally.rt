@@ -66,6 +66,7 @@ impl<V: Value> SystemOf for Tally<V> {
         self.cursors.start(access, self.start, counts);
     }
 
+    #[inline(always)]
     fn run(
         &mut self,
         alloc: Global,

@@ -21,6 +21,7 @@ pub fn add_number(text: &mut Vec<u8>, number: u64) -> Result<(), NoMemory>
 }
 
 /// Adds a head, and then a number in decimal.
+#[inline(always)]
 pub fn add_count(text: &mut Vec<u8>, head: &[u8], number: u64) -> Result<(), NoMemory>
     ensures appends { OnOk result
         (text.new.items ≡ text.old.items ++ (head.now ++ decimal number)) }

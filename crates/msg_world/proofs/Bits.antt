@@ -62,6 +62,12 @@ pub lowest_is_set : (n : ℕ) → n < 2 ^ 64 → n ≢ 0 → IsTrue (has_bit n (
 lowest_is_set n fits ne =
     eq-eqb (bit_at n (trailing_zeros w64 n)) 1 (bit_at-trailing_zeros w64 n (omega arith) fits).1
 
+-- and no bit below it is set
+pub none_below_lowest : (n : ℕ) → n < 2 ^ 64 → n ≢ 0 → (k : ℕ) → k < trailing_zeros w64 n
+    → IsTrue (not (has_bit n k))
+none_below_lowest n fits ne k lt =
+    ap (λ b. not (b == 1)) ((bit_at-trailing_zeros w64 n (omega arith) fits).2 k lt)
+
 -- a mask that isn't 0 has a bit
 pub some_bit : (n : ℕ) → n < 2 ^ 64 → n ≢ 0 → (k : ℕ) × ((k < 64) × IsTrue (has_bit n k))
 some_bit n fits ne =

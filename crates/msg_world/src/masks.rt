@@ -60,6 +60,7 @@ pub fn lowest(mask: u64) -> u32
     requires some { mask ≢ 0 }
     ensures number { result < 64 }
     ensures is_set { IsTrue (has_bit mask result) }
+    ensures none_below { (j : ℕ) → j < result → IsTrue (not (has_bit mask j)) }
 {
     mask.trailing_zeros()
 }

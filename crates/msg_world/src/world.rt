@@ -311,6 +311,7 @@ impl<V: Value> World<V> {
     }
 
     /// Moves out what the access writes. What it only reads stays, to be read by others too.
+    #[inline(always)]
     pub fn lend_out(&mut self, access: &Access) -> Result<Taken<V>, NoMemory>
         requires home { IsHome access.now self.old }
         ensures lent { IfOk result (λ taken. LendsOut access.now self.old self.new taken) }
@@ -357,6 +358,7 @@ impl<V: Value> World<V> {
     }
 
     /// Moves out the types and the resources that the access writes.
+    #[inline(always)]
     fn move_out(&mut self, access: &Access) -> Result<Box<MovedOut<V>>, NoMemory>
         requires types { HaveEach self.old.types access.now.write_types }
         requires resources { HaveEach self.old.resources access.now.write_res }
@@ -377,6 +379,7 @@ impl<V: Value> World<V> {
     }
 
     /// Moves home what was moved out. It takes no memory.
+    #[inline(always)]
     pub fn take_back(&mut self, taken: Taken<V>)
         requires apart { IsApart taken self.old }
         ensures home { TakesBack taken self.old self.new }
@@ -405,6 +408,7 @@ impl<V: Value> World<V> {
     }
 
     /// Moves types and resources home, and keeps what they were in.
+    #[inline(always)]
     fn move_home(&mut self, moved: Box<MovedOut<V>>)
         requires types { GoesHome moved.value.types self.old.types }
         requires resources { GoesHome moved.value.resources self.old.resources }

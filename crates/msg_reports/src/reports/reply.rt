@@ -70,6 +70,7 @@ fn add_summed(
 }
 
 /// A value after a head.
+#[inline(always)]
 fn add_after(text: &mut Vec<u8>, head: &[u8], value: i64) -> Result<(), NoMemory>
     ensures { OnOk result (text.new.items ≡ text.old.items ++ (head.now ++ signed_decimal value)) }
 {
@@ -91,6 +92,7 @@ fn add_drained(
 }
 
 /// The numbers that were written, after a head.
+#[inline(always)]
 fn add_numbers(text: &mut Vec<u8>, head: &[u8], numbers: Written) -> Result<(), NoMemory>
     ensures { OnOk result
         (text.new.items ≡ text.old.items ++ (head.now ++ Spec.numbers_text numbers)) }
