@@ -8,18 +8,18 @@ use std::marker::Model;
 const PLACES: usize = MAX_JOBS;
 
 /// What a try costs, if it doesn't pay, for its threads. It takes as long as the start of a thread
-/// and its end, from 30 to 300 us; a batch in place that is as large takes some 4 ms.
-const PRICE: i64 = 1_048_576;
+/// and its end, from 30 to 400 us; a batch in place that is as large takes some 5 ms.
+const PRICE: i64 = 4_194_304;
 
 /// What it costs beside for each job, which goes to a board and comes back.
-const PRICE_OF_JOB: i64 = PRICE / 16;
+const PRICE_OF_JOB: i64 = PRICE / 64;
 
-/// As much is there at first. It suffices for 2 tries of two jobs each, and for one of any number: if
-/// that costs more, the rest is owed.
-const FIRST: i64 = 3 * PRICE;
+/// As much is there at first. It suffices for one try of any number of jobs: if that costs more, the
+/// rest is owed.
+const FIRST: i64 = 2 * PRICE;
 
 /// There is never more than this, and no try costs more.
-const MOST: i64 = 4 * FIRST;
+const MOST: i64 = 6 * FIRST;
 
 /// For each place of a batch in a frame its habit, and one account for all that pays for tries.
 ///
