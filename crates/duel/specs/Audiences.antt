@@ -1,7 +1,7 @@
 -- When an audience has seen enough.
-use Rattle.std.specs.Prelude.{ℤ, pos, Bool, false, Option, Some, None, int_lt, not, option_map, slice_get}
+use Rattle.std.specs.Prelude.{ℤ, pos, [], Bool, false, Option, Some, None, if◌then◌else◌, int_lt, not, option_map, slice_get}
 use Rattle.msg_system.specs.{declared.reply.Reply.Reply, declared.reply.Reply.TheVariants.Summed}
-use Rattle.msg_frames.specs.{declared.log.Log.Log, declared.log.Outcome.Outcome, declared.log.Outcome.TheVariants.Ran}
+use Rattle.msg_frames.specs.{declared.frame.Frame.Frame, declared.log.Log.Log, declared.log.Outcome.Outcome, declared.log.Outcome.TheVariants.Ran}
 use Rattle.duel.specs.declared.audience.Audience.{Audience}
 
 -- what a sum came to; else 0
@@ -22,3 +22,7 @@ falls_counted log = first_sum (option_map (λ turn. turn.outcome) (slice_get log
 abbrev pub is_over : Audience → Option (Log ℤ) → Bool
 is_over a None = false
 is_over a (Some log) = not (int_lt (falls_counted log) a.falls)
+
+-- what it asks for: nothing more, or one frame more, in which the host posts nothing
+abbrev pub asked_for : Audience → Option (Log ℤ) → Option (Frame ℤ)
+asked_for a last = if is_over a last then None else Some (record { posts = [] })

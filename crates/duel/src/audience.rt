@@ -35,11 +35,11 @@ fn counted(log: &Log) -> i64
 impl Host for Audience {
     type Value = i64;
 
-    ghost use Rattle.std.specs.Prelude.{IsNone, IsTrue, ◌↔◌};
-    ghost use Rattle.duel.specs.Audiences.{is_over};
+    ghost use Rattle.duel.specs.Audiences.{asked_for};
 
-    ghost gives = { λ old last frame new.
-        (new ≡ old) × (IsNone frame ↔ IsTrue (is_over old last)) };
+    ghost gives = { λ old last frame new. (new ≡ old) × (frame ≡ asked_for old last) };
+
+    ghost refuses = { λ old last new. ⊥ };
 
     fn next(&mut self, alloc: Global, last: Option<&Log>) -> Result<Option<Frame>, NoMemory> {
         if let Some(log) = last {

@@ -4,13 +4,14 @@
 
 ghost use Rattle.std.specs.Prelude.{◌<◌, OnOk};
 ghost use Rattle.msg_exec.specs.Prelude.{IsEngine};
-ghost use Rattle.msg_exec.specs.Hosts.{HasRunLoop};
+ghost use Rattle.msg_exec.specs.Hosts.{HasRunLoop, LoopsAgree};
 ghost use Rattle.msg_world.specs.Prelude.{i64_values};
 
 mod audience;
 mod role;
 
 use audience::Audience;
+use msg_exec::engine_laws::loops_agree;
 use msg_exec::{EngineBuilder, EngineOf, Host, Workers};
 use msg_order::Rule;
 use msg_system::{BehaviorSystem, Condition, Probe, SystemOf};
@@ -88,7 +89,12 @@ fn fight<R: Threads + Sync>(
     ensures one_thread { OnOk result
         (HasRunLoop i64_values ⟦<BehaviorSystem<Role> as SystemOf>⟧.meaning
         ⟦<Audience as Host>⟧.gives most audience.old engine.old audience.new engine.new) }
+
+    // And two fights that begin alike are alike.
+    ensures alike { LoopsAgree i64_values ⟦<BehaviorSystem<Role> as SystemOf>⟧.meaning
+        ⟦<Audience as Host>⟧.gives }
 {
+    loops_agree::<i64, BehaviorSystem<Role>, Audience>();
     engine.run_loop(rt, audience, most, workers)?;
     Ok(())
 }

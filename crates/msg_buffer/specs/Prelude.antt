@@ -5,5 +5,5 @@ pub use Rattle.msg_buffer.specs.Reader.{Fits, Stretch, Tile, at_most, first, giv
 pub use Rattle.msg_buffer.specs.ReadCalls.{Continues, Gives, HasGiven, iter_place, iter_rest, instance_shown}
 pub use Rattle.msg_buffer.specs.Refusals.{IsBatchSpent, IsSpent, batch_refused, message_refused}
 pub use Rattle.msg_buffer.specs.StandsFor.{StandsFor}
-pub use Rattle.msg_buffer.specs.StretchTiling.{ClearsFit, Pass, ReadsFit, ReadsUpTo, RunsTile, clears, reads, stretch_of}
+pub use Rattle.msg_buffer.specs.StretchTiling.{ClearsFit, ClearsLeaveNone, Pass, ReadsFit, ReadsUpTo, RunsTile, clears, reads, stretch_of}
 pub use Rattle.msg_buffer.specs.declared.instance.Instance.{Instance}

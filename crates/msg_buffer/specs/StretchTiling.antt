@@ -1,7 +1,7 @@
 -- How the reads and clears of one reader tile its history: nothing is gone past twice, and nothing
 -- is left out but what was missed.
 use Rattle.std.specs.Prelude.{◌≡◌, ℕ, ◌≤◌, min, List, [], ◌∷◌, length, take, drop, All, Option, Some, None}
-use Rattle.msg_buffer.specs.{History.History, History.IsSound, History.count, History.instances, Reader.Stretch, Reader.next_place, Reader.given, Reader.read, Reader.pass_over, Reader.unread, Reader.Fits, Reader.Tile}
+use Rattle.msg_buffer.specs.{History.History, History.IsSound, History.clear, History.count, History.current, History.instances, History.present, Reader.Stretch, Reader.next_place, Reader.given, Reader.read, Reader.pass_over, Reader.unread, Reader.Fits, Reader.Tile}
 
 -- what a reader does at a moment: it reads, with or without a limit, or it clears
 pub data Pass : Type 0 where
@@ -40,6 +40,12 @@ module _ (M : Type 0) where
   ReadsUpTo = (h : History M) (place : ℕ)
       → ((read h place None).number ≡ length (unread h place))
       × ((limit : ℕ) → (read h place (Some limit)).number ≡ min limit (length (unread h place)))
+
+  -- After a clear or a drain of the messages none is present, and none is unread, wherever a reader
+  -- stands; the numbers go on.
+  abbrev pub ClearsLeaveNone : Type 0
+  ClearsLeaveNone = (h : History M) → (present (clear h) ≡ []) × (current (clear h) ≡ [])
+      × ((place : ℕ) → unread (clear h) place ≡ []) × (count (clear h) ≡ count h)
 
   -- Each clear fits. If the place wasn't past the count, the next place is the count.
   abbrev pub ClearsFit : Type 0

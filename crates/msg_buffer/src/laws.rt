@@ -1,6 +1,6 @@
 //! Laws: facts that hold of every history, and of every read that is left.
 ghost use Rattle.std.specs.Prelude.{◌≡◌, Some};
-ghost use Rattle.msg_buffer.specs.Prelude.{ClearsFit, History, OnlyGrows, OutliveOneUpdate, ReadsFit, ReadsUpTo, RunsTile, StandsFor, next_place, read};
+ghost use Rattle.msg_buffer.specs.Prelude.{ClearsFit, ClearsLeaveNone, History, OnlyGrows, OutliveOneUpdate, ReadsFit, ReadsUpTo, RunsTile, StandsFor, next_place, read};
 
 use crate::cursor::MessageCursor;
 use crate::messages::Messages;
@@ -15,6 +15,12 @@ pub fn histories_only_grow<M>()
 /// more update none is present.
 pub fn messages_outlive_one_update<M>()
     ensures outlive { OutliveOneUpdate M }
+{}
+
+/// A clear or a drain of the messages leaves none present, and none that a reader can still be
+/// given.
+pub fn clears_leave_none<M>()
+    ensures none { ClearsLeaveNone M }
 {}
 
 /// The reads and clears of one reader tile its history: each fits the place that the one before it

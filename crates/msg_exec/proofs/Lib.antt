@@ -21,3 +21,4 @@ pub mod EngineRunsFrames
 mod AccountsTell
 mod SinceThen
 mod HostsGive
+mod LoopsAlike

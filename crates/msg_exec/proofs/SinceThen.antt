@@ -1,11 +1,11 @@
 -- Calls in a row: what the engine did since a state is what it did before, and then what the call did.
-use Rattle.std.proofs.Common.{ℕ, List, [], ◌∷◌, ◌++◌, refl}
+use Rattle.std.proofs.Common.{ℕ, List, [], ◌∷◌, ◌++◌, append_assoc, append-nil, refl, sym}
 use Rattle.std.specs.List.{AllZip}
 use Rattle.std.proofs.lemmas.List.{Elements.AllZip-push, Sorted.IsPermutation-refl}
 use Rattle.msg_system.specs.Prelude.{Meaning}
 use Rattle.msg_exec.specs.Prelude.{EngineOf, EngineStands, HasReplayed, HasRunFrame, HasRunFrames, HasRunSince}
 use Rattle.msg_frames.specs.{declared.frame.Frame.Frame, declared.log.Log.Log}
-use Rattle.msg_frames.specs.Prelude.{State, TellsTheSame, run}
+use Rattle.msg_frames.specs.Prelude.{IsSoundState, State, TellsTheSame, run}
 use Rattle.msg_frames.proofs.{Functions.run_append, ReaderOverRun.runs_are_complete}
 use Rattle.msg_exec.proofs.EngineRunsFrames.{is_sound}
 use Rattle.msg_world.specs.Prelude.{Values}
@@ -31,6 +31,15 @@ module _ {S V : Type 0} {values : Values V} (meaning : S → Meaning V) where
   since_none e s stands = record {
     tell = tt;
     complete = λ frames. runs_are_complete frames s (is_sound meaning e s stands);
+    stands = stands;
+  }
+
+  -- it ran no frames, and appended nothing
+  pub frames_none : (e : EngineOf S V) (s : State values) (logs : List (Log V)) → EngineStands meaning e s
+      → HasRunFrames meaning [] s logs logs e
+  frames_none e s logs stands = record {
+    appended = sym (append-nil logs);
+    complete = runs_are_complete [] s (is_sound meaning e s stands);
     stands = stands;
   }
 
@@ -71,4 +80,17 @@ module _ {S V : Type 0} {values : Values V} (meaning : S → Meaning V) where
               (each_itself (run gs m).logs));
           complete = far.complete;
           stands = rw run_append more.stands;
+        }
+
+    -- frames, and one more
+    pub frames_and_one : (s : State values) (frames : List (Frame V)) (f : Frame V) (before logs : List (Log V)) (log : Log V)
+        → IsSoundState s → HasRunFrames meaning frames s before logs old
+        → ((u : State values) → EngineStands meaning old u → HasRunFrame meaning f u log new)
+        → HasRunFrames meaning (frames ++ f ∷ []) s before (logs ++ log ∷ []) new
+    frames_and_one s frames f before logs log sound far ran =
+        let one = ran (run frames s).state far.stands in
+        record {
+          appended = rw (run_append, far.appended, one.tells, append_assoc) refl;
+          complete = runs_are_complete (frames ++ f ∷ []) s sound;
+          stands = rw run_append one.stands;
         }

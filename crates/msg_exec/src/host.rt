@@ -1,7 +1,7 @@
 // Frames in a loop, each by the log of the one before it.
 ghost use Rattle.std.specs.Prelude.{◌≡◌, ◌↔◌, Err, OnOk};
 ghost use Rattle.msg_exec.specs.Engines.{IsEngine, IsSpoiled};
-ghost use Rattle.msg_exec.specs.Hosts.{HasMetMisfit, HasRunFor, HasRunLoop};
+ghost use Rattle.msg_exec.specs.Hosts.{HasMetMisfit, HasMetRefusal, HasRunLoop, HasRunShort};
 
 use crate::{EngineOf, Frame, Log, LoopFault, NoGate, NoMemory, RunFault, Workers};
 use msg_system::SystemOf;
@@ -29,7 +29,7 @@ pub trait Host {
     /// What the messages of its engine's world hold.
     type Value: Value;
 
-    ghost use Rattle.std.specs.Prelude.{IfOk, Option, ⊤};
+    ghost use Rattle.std.specs.Prelude.{IfOk, OnErr, Option, ⊤};
     ghost use Rattle.std.specs.Option.{option_copied};
     ghost use Rattle.msg_frames.specs.{declared.frame.Frame.Frame as FrameView, declared.log.Log.Log as LogView};
 
@@ -37,6 +37,10 @@ pub trait Host {
     // after it. By default that is nothing.
     ghost gives: { Self → Option (LogView Self.Value) → Option (FrameView Self.Value) → Self
         → Type 0 } = { λ old last frame new. ⊤ };
+
+    // What is known of a call that was refused memory: the host before it, the log it was told,
+    // and the host after it. ⊥ says that none is.
+    ghost refuses: { Self → Option (LogView Self.Value) → Self → Type 0 } = { λ old last new. ⊤ };
 
     /// The next frame, by the log of the last one; before the first frame there is none. None ends
     /// the loop.
@@ -46,7 +50,9 @@ pub trait Host {
         last: Option<&Log<Self::Value>>,
     ) -> Result<Option<Frame<Self::Value>>, NoMemory>
         ensures gives { IfOk result (λ frame.
-            Self.gives self.old (option_copied last.entry) frame self.new) };
+            Self.gives self.old (option_copied last.entry) frame self.new) }
+        ensures refuses { OnErr result
+            (Self.refuses self.old (option_copied last.entry) self.new) };
 }
 
 impl<V: Value + Send + Sync, S: SystemOf<Value = V> + Send> EngineOf<S, V> {
@@ -70,16 +76,18 @@ impl<V: Value + Send + Sync, S: SystemOf<Value = V> + Send> EngineOf<S, V> {
         ensures ran { OnOk result
             (HasRunLoop V.values S.meaning H.gives most host.old self.old host.new self.new) }
         ensures misfit { result ≡ Err LoopFault.Misfit
-            → HasMetMisfit V.values S.meaning H.gives host.old self.old host.new self.new }
+            → HasMetMisfit V.values S.meaning H.gives most host.old self.old host.new self.new }
         ensures alive { OnOk result (¬ IsSpoiled self.new) }
         ensures goes_on { (result ≡ Err LoopFault.Misfit) → ¬ IsSpoiled self.new }
         ensures no_memory_for_host { (result ≡ Err LoopFault.Host) → ¬ IsSpoiled self.new }
-        ensures ran_for_host { result ≡ Err LoopFault.Host → (now : H)
-            × HasRunFor V.values S.meaning H.gives host.old self.old now self.new }
+        ensures host { result ≡ Err LoopFault.Host
+            → HasMetRefusal V.values S.meaning H.gives H.refuses most
+            host.old self.old host.new self.new }
         ensures spoiled { (result ≡ Err (LoopFault.Run RunFault.Spoiled)) ↔ IsSpoiled self.old }
         ensures unchanged { result ≡ Err (LoopFault.Run RunFault.Spoiled) → self.new ≡ self.old }
         ensures host_unasked { result ≡ Err (LoopFault.Run RunFault.Spoiled) → host.new ≡ host.old }
-        ensures no_memory { result ≡ Err (LoopFault.Run RunFault.NoMemory) → IsSpoiled self.new }
+        ensures no_memory { result ≡ Err (LoopFault.Run RunFault.NoMemory)
+            → HasRunShort V.values S.meaning H.gives most host.old self.old host.new self.new }
         ensures no_bad_order { ¬ (result ≡ Err (LoopFault.Run RunFault.BadOrder)) }
         ensures engine { IsEngine V.values S.meaning self.new }
     {

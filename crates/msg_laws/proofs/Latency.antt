@@ -10,6 +10,7 @@ use Rattle.msg_order.proofs.Elements.{Contains-cases, Contains-flat_map, Contain
 use Rattle.msg_frames.proofs.{LawfulOrdersAgree.lawful_forward, ReaderOverTurns.turns_read}
 use Rattle.msg_frames.proofs.BeforeTurns.{Prepares, begun_within, comes, prepares, stood, waits}
 use Rattle.msg_frames.proofs.ElementsAndPairs.{Cut, cut, pairs_head, pairs_right}
+use Rattle.msg_frames.proofs.HistoriesGrow.{Grows, counts_more, grown, turns_change}
 use Rattle.msg_frames.proofs.ReaderOverRun.{run_follows, runs_are_complete}
 use Rattle.msg_frames.proofs.StatesStaySound.{joined_alike, frame_sound, prepared_sound, turn_below}
 use Rattle.msg_frames.proofs.SystemsStay.{frame_keeps, turns_keep}
@@ -20,7 +21,7 @@ use Rattle.msg_frames.specs.Prelude.{IsSoundState, IsTrueEntry, IsWrittenOnce, M
 use Rattle.msg_laws.proofs.{OrderOfTurns.are_ordered, WritersInOrder.below_count}
 use Rattle.msg_laws.proofs.ReadersStayUpToDate.{caught_up, frame_recent, has_frame_before, is_there, joined_by_turn, new_recent}
 use Rattle.msg_laws.proofs.StampsStayRecent.{AreRecent, earlier_recent}
-use Rattle.msg_laws.specs.Prelude.{AllReadersHaveItNext, HasTaken, LaterReadersHaveItAtOnce, NothingDrained, told_to}
+use Rattle.msg_laws.specs.Prelude.{AllReadersHaveItNext, HasTaken, LaterReadersHaveItAtOnce, NothingDrained, PostsAreTakenAtOnce, told_to}
 
 -- ---- the numbers that are told
 
@@ -148,6 +149,19 @@ module _ {V : Type 0} {values : Values V} where
       let others = by_others i j (λ e. out (rw (← e) (Contains-head j js))) (turn_of s j).steps in
       rw (filter-append (λ x. x.0 == i) (map (λ x. (j, x)) (turn_of s j).steps) (turns_steps js (after_turn_of j s)), others)
       (no_steps_of i js (after_turn_of j s) (λ at. out (Contains-tail j js i at)))
+
+  pub posts_at_once : PostsAreTakenAtOnce values
+  posts_at_once f s j t sound below reads n m c =
+      let b : State values = before_turns f.posts s in
+      let prep : Prepares s b = prepares f.posts s in
+      let ready : IsSoundState b = prepared_sound s b sound prep in
+      let cuts : Cut (turn_order b) j = cut (turn_order b) j reads.has_turn in
+      let at = told_between t n m s.world (post_steps f.posts (after_update s.world)) b.world (before_writes t f.posts s) c in
+      let passed = caught_up f s j t sound below reads cuts.before cuts.rest cuts.is in
+      let more = counts_more _ _ (turns_change Grows grown cuts.before b t (ready.histories t (rw (prep.same.types) below))) in
+      let has = joined_by_turn f s j t sound below reads.has_turn in
+      has_taken f [] s j t n sound below has has at.0 (omega (arith, at.1, passed, more))
+      (λ k e from is. omega (arith, new_recent f s j t sound below k e from is))
 
   pub later_at_once : LaterReadersHaveItAtOnce values
   later_at_once f s i j t sound below path reads n m c =

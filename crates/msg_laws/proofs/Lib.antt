@@ -1,10 +1,12 @@
 -- ---- turns
 mod OrderOfTurns
+mod Drains
 -- ---- what runs tell of readers
 mod StepsAnswered
 mod LogsTell
 mod ReaderLaws
 mod OneFateEach
+mod LateStarts
 mod WritersInOrder
 -- ---- readers that read all
 mod StampsStayRecent

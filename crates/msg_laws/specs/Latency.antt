@@ -1,8 +1,8 @@
 -- When readers have what was written.
 use Rattle.std.specs.Prelude.{Contains, IsTrue, List, [], flat_map, ℕ, ◌<◌, ◌∷◌}
 use Rattle.msg_order.specs.Prelude.{Path, has_joined}
-use Rattle.msg_world.specs.{Prelude.Values, declared.record.Record.Record}
-use Rattle.msg_frames.specs.{Frames.settled_order, Prelude.IsSoundState, Prelude.State, Prelude.before_turns, Prelude.entries_in_run, Prelude.frame, Prelude.join_flags, Prelude.numbers_missed, Prelude.numbers_told, Prelude.run, declared.frame.Frame.Frame}
+use Rattle.msg_world.specs.{Prelude.Values, Prelude.after_update, declared.record.Record.Record}
+use Rattle.msg_frames.specs.{Frames.settled_order, Prelude.IsSoundState, Prelude.State, Prelude.before_turns, Prelude.entries_in_run, Prelude.frame, Prelude.join_flags, Prelude.numbers_missed, Prelude.numbers_told, Prelude.post_steps, Prelude.run, Prelude.told, declared.frame.Frame.Frame}
 use Rattle.msg_laws.specs.{Fates.told_to, UpToDate.NothingDrained, UpToDate.ReadsAll}
 
 -- In the run an entry of the reader tells message n: it was given, cleared or missed. Unless the
@@ -20,6 +20,13 @@ LaterReadersHaveItAtOnce {V} values = (f : Frame V) (s : State values) (i j t : 
     → IsSoundState s → t < s.types → Path (settled_order (before_turns f.posts s)) i j
     → ReadsAll j t f s → (n : ℕ) (m : Record V)
     → Contains (told_to i t (frame f s).steps) (n, m) → HasTaken j t n (f ∷ []) s
+
+-- What the host posted in a frame, a reader that reads all in that frame has taken by its end.
+abbrev pub PostsAreTakenAtOnce : {V : Type 0} → Values V → Type 0
+PostsAreTakenAtOnce {V} values = (f : Frame V) (s : State values) (j t : ℕ) → IsSoundState s
+    → t < s.types → ReadsAll j t f s → (n : ℕ) (m : Record V)
+    → Contains (told t (post_steps f.posts (after_update s.world))) (n, m)
+    → HasTaken j t n (f ∷ []) s
 
 -- What was written in a frame, each reader that has joined by its end, and reads all in the next
 -- one, has taken by the end of that.

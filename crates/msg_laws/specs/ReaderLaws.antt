@@ -1,11 +1,12 @@
 -- What holds of readers over every run.
 use Rattle.msg_frames.specs.{declared.frame.Frame.Frame, declared.log.Log.Log, declared.place.Place.Place}
-use Rattle.msg_frames.specs.Prelude.{IsBalanced, IsSoundState, State, entries_in_run, first_state, found_at, join_flags, no_totals, reader_place, replies_of, run, totals_from, with_entries}
+use Rattle.msg_frames.specs.Prelude.{IsBalanced, IsSoundState, State, entries_in_run, first_state, found_at, frame, join_flags, no_totals, reader_place, replies_of, run, totals_from, with_entries}
 use Rattle.msg_order.specs.Prelude.{has_joined}
 use Rattle.msg_order.specs.declared.rule.Rule.{Rule}
-use Rattle.msg_system.specs.{Prelude.Meaning, declared.reply.Reply.Reply}
-use Rattle.msg_world.specs.{Prelude.Values, Prelude.WorldState, declared.record.TheConstants.HOST}
-use Rattle.std.specs.Prelude.{IsFalse, IsTrue, List, flat_map, map, ℕ, ◌++◌, ◌<◌, ◌≡◌}
+use Rattle.msg_buffer.specs.Prelude.{count}
+use Rattle.msg_system.specs.{Prelude.Meaning, declared.reply.Reply.Reply, declared.start.Start.Start, declared.start.Start.TheVariants.Current, declared.start.Start.TheVariants.Zero}
+use Rattle.msg_world.specs.{Prelude.Values, Prelude.WorldState, declared.part.Part.TheVariants.OfType, declared.record.TheConstants.HOST}
+use Rattle.std.specs.Prelude.{IsFalse, IsTrue, List, flat_map, map, ℕ, ◌++◌, ◌<◌, ◌∷◌, ◌≡◌}
 
 module _ {V : Type 0} where
   -- the replies that the logs have, each beside whom it was given to
@@ -34,6 +35,21 @@ AccountsBeginAtTheStart {V} values = (systems : List (Meaning V)) (places : List
     (i t : ℕ) → IsSoundState s → t < types → IsTrue (has_joined (join_flags u) i)
     → (u.members i).totals t
     ≡ with_entries (entries_in_run i t frames s) (totals_from (found_at s u i t))
+
+-- A reader's place is where such a start is, of a type with so many messages.
+abbrev pub IsAtStart : Start → ℕ → ℕ → Type 0
+IsAtStart Zero count place = place ≡ 0
+IsAtStart Current count place = place ≡ count
+
+-- A reader that joins with the first of these frames was found at its start: at 0, or at the count
+-- that the frame finds.
+abbrev pub LateReadersStart : {V : Type 0} → Values V → Type 0
+LateReadersStart {V} values = (f : Frame V) (frames : List (Frame V)) (s : State values) (i t : ℕ)
+    → IsSoundState s → t < s.types → IsFalse (has_joined (join_flags s) i)
+    → IsTrue (has_joined (join_flags (frame f s).state) i)
+    → IsTrue ((s.members i).job.system.needs.reads (OfType t))
+    → IsAtStart (s.members i).job.system.start (count (s.world.histories t))
+    (found_at s (run (f ∷ frames) s).state i t)
 
 -- The start of a reader that has joined, with all that it got, missed and cleared since, leads to
 -- its place.

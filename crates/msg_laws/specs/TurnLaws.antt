@@ -3,9 +3,10 @@
 use Rattle.msg_frames.specs.declared.frame.Frame.{Frame}
 use Rattle.msg_frames.specs.Frames.{settled_order, turn_order}
 use Rattle.msg_frames.specs.Prelude.{AfterTurns, AreAccessesOf, NoCycle, SameSystems, State, UsesParts, after_turn_of, after_turns_of, all_home, are_in_conflict, join_flags, logged_turn, run}
-use Rattle.msg_buffer.specs.Prelude.{GoesOn, IsSound}
+use Rattle.msg_buffer.specs.Prelude.{GoesOn, History, IsSound, message_of, oldest, present, unread}
+use Rattle.msg_system.specs.{Prelude.AfterOp, Prelude.after_op, declared.op.Op.TheVariants.Drain, declared.reply.Reply.TheVariants.Drained}
 use Rattle.msg_order.specs.{Order.AreBatches, Order.TellsConflicts, Order.access_of, Prelude.IsAcyclic, Prelude.IsLawfulOrder, Prelude.IsTurnOrder, Prelude.NoneConflict, Prelude.Path, Settled.batches, Settled.has_joined, Settled.settled}
-use Rattle.msg_world.specs.{Prelude.Conflict, Prelude.Values, declared.access.Access.Access}
+use Rattle.msg_world.specs.{Prelude.Conflict, Prelude.Values, Prelude.WorldState, declared.access.Access.Access, declared.record.Record.Record}
 use Rattle.std.specs.List.{concat}
 use Rattle.std.specs.Prelude.{All, AllPairs, Bool, IsPermutation, IsTrue, List, [], map, ℕ, ◌++◌, ◌<◌, ◌∷◌, ◌≡◌, ◌≢◌, ◌⊎◌}
 
@@ -14,6 +15,16 @@ abbrev pub TurnsKeepSystems : {V : Type 0} → Values V → Type 0
 TurnsKeepSystems values = (order : List ℕ) (s : State values)
     → SameSystems s (after_turns_of order s).state
     × ((after_turns_of order s).state.frames ≡ s.frames)
+
+-- A drain answers all messages of the type that are present, from the number of the first on; then
+-- none is, and none is unread, wherever a reader stands.
+abbrev pub DrainsTakeAll : {V : Type 0} → Values V → Type 0
+DrainsTakeAll {V} values = (t writer : ℕ) (places : ℕ → ℕ) (w : WorldState values)
+    → let h : History (Record V) = w.histories t in
+    let done : AfterOp values = after_op (Drain t) writer places w in
+    (done.reply ≡ Drained (oldest h) (map message_of (present h)))
+    × (present (done.state.histories t) ≡ [])
+    × ((place : ℕ) → unread (done.state.histories t) place ≡ [])
 
 -- The same systems have the same accesses, and as many frames on the same have joined.
 abbrev pub SameSystemsHaveSameAccesses : {V : Type 0} → Values V → Type 0

@@ -37,6 +37,13 @@ pub fn accounts_begin_at_the_start<V: Value>()
     ensures law { Spec.AccountsBeginAtTheStart V.values }
 {}
 
+/// A reader that joins with a frame is found at its start: at 0, or at the count that the frame
+/// finds.
+#[tactic(auto, using(crate::proofs::LateStarts::late_start))]
+pub fn late_readers_start<V: Value>()
+    ensures law { Spec.LateReadersStart V.values }
+{}
+
 /// A system that reads a type without limit in each frame misses nothing of it after the first of
 /// these frames, unless a system drains the type. At the end of its turn it was given, or went
 /// past, all that had been written when the turn began; so what is written in one frame it has by
@@ -60,11 +67,12 @@ pub fn no_wake_up_is_lost<V: Value>()
 
 /// What a system is told that it wrote in a frame, a reader that comes after it in the settled
 /// order, and reads all, takes in that frame; any reader that has joined by the end of the frame,
-/// and reads all in the next one, takes it by the end of that. It is missed only if the type is
-/// drained.
+/// and reads all in the next one, takes it by the end of that. What the host posts in a frame, any
+/// reader that reads all in it takes by its end. It is missed only if the type is drained.
 pub fn what_is_written_is_read_in_time<V: Value>()
     ensures at_once { Spec.LaterReadersHaveItAtOnce V.values }
     ensures next { Spec.AllReadersHaveItNext V.values }
+    ensures posts { Spec.PostsAreTakenAtOnce V.values }
 {}
 
 /// A system whose program of at most `MAX_OPS` ops reads a type without limit does so if it runs;

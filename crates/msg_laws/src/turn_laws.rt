@@ -1,7 +1,7 @@
 //! Laws of turns and frames. Calling one makes its fact available to the caller's proof; it does
 //! nothing at run time.
 ghost use Rattle.msg_frames.specs.Prelude.{FramesKeepSystems};
-ghost use Rattle.msg_laws.specs.Prelude.{FramesRunByBatches, LawfulOrdersAgree, ListsOnlyGrow, OrderIsSettled, RunsCompose, SameSystemsHaveSameAccesses, TurnsAreInOrder, TurnsKeepSystems, TurnsOfOthersCommute};
+ghost use Rattle.msg_laws.specs.Prelude.{DrainsTakeAll, FramesRunByBatches, LawfulOrdersAgree, ListsOnlyGrow, OrderIsSettled, RunsCompose, SameSystemsHaveSameAccesses, TurnsAreInOrder, TurnsKeepSystems, TurnsOfOthersCommute};
 
 use msg_buffer::laws::histories_only_grow;
 use msg_world::{Record, Value};
@@ -16,6 +16,11 @@ pub fn turns_keep_the_systems<V: Value>()
 /// Frames keep the systems too.
 pub fn frames_keep_the_systems<V: Value>()
     ensures law { FramesKeepSystems V.values }
+{}
+
+/// A drain takes all messages of a type, and leaves none that a reader can still be given.
+pub fn drains_take_all<V: Value>()
+    ensures law { DrainsTakeAll V.values }
 {}
 
 /// The same systems have the same accesses, and after as many frames the same of them have joined.

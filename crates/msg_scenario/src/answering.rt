@@ -1,14 +1,13 @@
 // From the bytes of a file to what a sink takes.
-ghost use Rattle.std.specs.Prelude.{◌≡◌, ◌⊎◌, Err, IfOk, OnErr, OnOk};
+ghost use Rattle.std.specs.Prelude.{◌≡◌, Err, IfOk, OnErr, OnOk};
 ghost use Rattle.std.specs.Io.KnownBytes.{Appends};
-ghost use Rattle.msg_text.specs.Prelude.{AppendsPrefix};
 ghost use Rattle.msg_text.specs.declared.report_fault.ReportFault.{ReportFault as FaultView};
 ghost use Rattle.msg_json.specs.declared.refusal.Refusal.{Refusal as RefusalView};
 ghost use Rattle.msg_files.specs.Prelude.{calls_text, file_of};
 ghost use Rattle.msg_reading.specs.Prelude.{HasFault};
 ghost use Rattle.msg_reports.specs.Prelude.{IsReported, LeavesReport};
 ghost use Rattle.msg_scenario_data.specs.Prelude.{IsRunnable};
-ghost use Rattle.msg_scenario.specs.FromBytes.{AreOfCalls, IsOfScenario, IsRefusedFile};
+ghost use Rattle.msg_scenario.specs.FromBytes.{AreOfCalls, EndsAnswers, IsOfScenario, IsRefusedFile};
 
 use crate::AnswerFault;
 use crate::scenario_system::systems_of;
@@ -30,11 +29,17 @@ use std::thread::Threads;
 pub fn answer_bytes<S: Sink>(alloc: Global, bytes: &[u8], sink: &mut S) -> Result<(), AnswerFault>
     ensures ok { OnOk result (AreOfCalls bytes.now (λ calls.
         Appends (S.contents sink.old) (S.contents sink.new) (calls_text calls))) }
-    ensures front { OnErr result ((sink.new ≡ sink.old) ⊎ AreOfCalls bytes.now (λ calls.
-        (fault : FaultView) × (result ≡ Err (AnswerFault.Report fault))
-        × AppendsPrefix (S.contents sink.old) (S.contents sink.new) (calls_text calls))) }
+    ensures quiet { OnOk result (S.failures sink.new ≡ S.failures sink.old) }
+    ensures report { (fault : FaultView) → result ≡ Err (AnswerFault.Report fault)
+        → AreOfCalls bytes.now (λ calls.
+        EndsAnswers S.contents S.failures calls fault sink.old sink.new) }
     ensures refused { (why : RefusalView) → result ≡ Err (AnswerFault.Refused why)
         → IsRefusedFile (λ d e. file_of d ≡ Err e) bytes.now why }
+    ensures unread { (why : RefusalView) → result ≡ Err (AnswerFault.Refused why)
+        → sink.new ≡ sink.old }
+
+    // An answer needs no engine.
+    ensures no_engine { ¬ (result ≡ Err AnswerFault.NoMemory) }
 {
     let calls = read_calls(alloc, bytes)?;
     let answered = run_calls(alloc, &calls, sink);
@@ -82,11 +87,16 @@ pub fn report_bytes<R: Threads + Sync + AllocGlobal, S: Sink>(
     // Whatever the workers: the report is that of one thread.
     ensures ok { OnOk result (IsOfScenario bytes.now (λ scenario.
         IsReported scenario (S.contents sink.old) (S.contents sink.new))) }
-    ensures front { OnErr result ((sink.new ≡ sink.old) ⊎ IsOfScenario bytes.now (λ scenario.
-        (fault : FaultView) × (result ≡ Err (AnswerFault.Report fault))
-        × LeavesReport S.contents S.failures scenario (Err fault) sink.old sink.new)) }
+    ensures quiet { OnOk result (S.failures sink.new ≡ S.failures sink.old) }
+    ensures report { (fault : FaultView) → result ≡ Err (AnswerFault.Report fault)
+        → IsOfScenario bytes.now (λ scenario.
+        LeavesReport S.contents S.failures scenario (Err fault) sink.old sink.new) }
     ensures refused { (why : RefusalView) → result ≡ Err (AnswerFault.Refused why)
         → IsRefusedFile HasFault bytes.now why }
+    ensures unread { (why : RefusalView) → result ≡ Err (AnswerFault.Refused why)
+        → sink.new ≡ sink.old }
+    ensures no_engine { result ≡ Err AnswerFault.NoMemory
+        → IsOfScenario bytes.now (λ scenario. sink.new ≡ sink.old) }
 {
     let scenario = read_scenario(rt.alloc(), bytes)?;
     let came = run_systems(rt, &scenario, workers, sink);

@@ -6,7 +6,7 @@ ghost use Rattle.std.specs.Prelude.{◌<◌, ◌++◌, [], IfOk, List, OnOk, len
 ghost use Rattle.msg_world.specs.Prelude.{IsWhole, PartsStand, WorldState};
 ghost use Rattle.msg_frames.specs.Prelude.{State, first_state};
 ghost use Rattle.msg_frames.specs.declared.frame.Frame.{Frame as FrameView};
-ghost use Rattle.msg_exec.specs.Prelude.{HasRunFrames, HasRunSince, IsEngine, numbered_from};
+ghost use Rattle.msg_exec.specs.Prelude.{EngineStands, HasRunFrames, HasRunSince, IsEngine, numbered_from};
 ghost use Rattle.tower.specs.Events.{event_values};
 ghost use Rattle.tower.specs.declared.event.Event.{Event as EventView};
 
@@ -14,6 +14,7 @@ mod event;
 mod part;
 
 use event::Event;
+use msg_exec::engine_laws::{engines_stand, frames_run_one_by_one};
 use msg_exec::{EngineBuilder, EngineOf, Frame, Items, Log, NoGate, Workers};
 use msg_system::{BehaviorSystem, Condition, Probe, SystemOf};
 use msg_world::{ResNo, TypeNo, World};
@@ -151,8 +152,12 @@ fn go_on<R: Threads + Sync, S: SystemOf<Value = Event> + Send>(
 ) -> anyhow::Result<()>
     requires engine { IsEngine event_values S.meaning engine.old }
 
-    // Whatever was run before: these frames go on with that run, and all logs are those of one
-    // thread.
+    // The logs that it appends are those of one thread, turn by turn, as `run_frames` says it of a
+    // list.
+    ensures ran { OnOk result ((s : State event_values) → EngineStands S.meaning engine.old s
+        → HasRunFrames S.meaning frames.now s logs.old.items logs.new.items engine.new) }
+
+    // Whatever was run before: these frames go on with that run.
     ensures since { OnOk result ((s : State event_values) (before : List (FrameView EventView))
         → HasRunSince S.meaning s before logs.old.items engine.old
         → HasRunSince S.meaning s (before ++ frames.now) logs.new.items engine.new) }
@@ -161,6 +166,8 @@ fn go_on<R: Threads + Sync, S: SystemOf<Value = Event> + Send>(
         engine.all_fit(frames),
         "a post is to a type that isn't there"
     );
+    engines_stand::<S>();
+    frames_run_one_by_one::<S>();
     for frame in frames {
         logs.push(engine.run_frame(rt, frame, workers, &NoGate)?)?;
     }

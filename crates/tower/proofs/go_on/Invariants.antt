@@ -1,5 +1,5 @@
 use Rattle.std.proofs.Common.{◌++◌, All, List, take}
-use Rattle.msg_exec.specs.Prelude.{HasRunSince, IsEngine, PostsFit}
+use Rattle.msg_exec.specs.Prelude.{EngineStands, HasRunFrames, HasRunSince, IsEngine, PostsFit}
 use Rattle.msg_frames.specs.Prelude.{State}
 use Rattle.msg_frames.specs.declared.frame.Frame.{Frame}
 use Rattle.tower.specs.Events.{event_values}
@@ -11,6 +11,8 @@ abbrev pub invariant-loop-frame : goal.invariant-loop-frame
 invariant-loop-frame g l = record {
   engine : IsEngine event_values g.S.SystemOf.meaning l.engine;
   fit : All (PostsFit l.engine) l.frames;
+  ran : (s : State event_values) → EngineStands g.S.SystemOf.meaning l.initial.engine s
+      → HasRunFrames g.S.SystemOf.meaning (take l.frame-index l.frames) s l.initial.logs.items l.logs.items l.engine;
   since : (s : State event_values) (before : List (Frame Event))
       → HasRunSince g.S.SystemOf.meaning s before l.initial.logs.items l.initial.engine
       → HasRunSince g.S.SystemOf.meaning s (before ++ take l.frame-index l.frames) l.logs.items l.engine;
