@@ -2,7 +2,8 @@
 use Rattle.std.proofs.Common.{◌≡◌, ◌⊎◌, inl, inr, refl, ap, subst, ◌∙◌, List, [], true, Result, Ok, Err, IfErr, IsErrAnd}
 use Rattle.clap.specs.{Words.App, Words.HasKind, Words.IsAmong, Words.Kinds, Words.Text, Words.fault_of, Words.is_simple_and_free, declared.error.Error.Error, declared.error.ErrorKind.ErrorKind}
 use Rattle.clap.proofs.OnLiterals.{clap_on_literals}
-use Rattle.msg_command.specs.Prelude.{IsHelp, IsShown, IsToldOf, WordFault, msgrun_app}
+use Rattle.msg_command.specs.Prelude.{IsShown, IsToldOf, WordFault, msgrun_app}
+use Rattle.msg_command.specs.inner.Telling.{IsHelp}
 use Rattle.clap.specs.declared.error.ErrorKind.TheVariants as kind
 use Rattle.msg_command.specs.declared.words.WordFault.TheVariants as word
 

@@ -3,4 +3,4 @@ pub mod Asked
 pub mod Inputs
 pub mod Faults
 pub mod Prelude
-pub mod Telling
+pub mod inner

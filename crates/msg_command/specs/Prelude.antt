@@ -3,6 +3,5 @@ pub use Rattle.msg_command.specs.Asked.{AsksForNone, HasNoNumber, IsInRange, IsS
 pub use Rattle.msg_command.specs.CommandLine.{buffer_app, check_app, dot_rule, file_app, file_rule, frame_rule, msgrun_app, plan_app, run_app, running_app, texts_of, workers_rule}
 pub use Rattle.msg_command.specs.Faults.{line_of, refusal_line, status_of}
 pub use Rattle.msg_command.specs.Inputs.{GaveAtMost, GaveMoreThan, IsAllOf}
-pub use Rattle.msg_command.specs.Telling.{IsHelp}
 pub use Rattle.msg_command.specs.declared.input.TheConstants.{MAX_BYTES}
 pub use Rattle.msg_command.specs.declared.words.WordFault.{WordFault}

@@ -2,7 +2,8 @@
 ghost use Rattle.std.specs.Prelude.{◌≡◌, ◌⊎◌, [], IfOk, IfErr, OnOk, false, true};
 ghost use Rattle.clap.specs.{Words.App, Words.app_of, Words.with_subcommand, Words.rule_of, Words.fault_of, Words.takes, Words.subcommand_of, Words.subcommand_rows_of, Words.kind_of, declared.Command.out-Command as fields_of, declared.error.ErrorKind.TheVariants.OutOfMemory};
 ghost use Rattle.msg_command.specs.CommandLine.{bare_app};
-ghost use Rattle.msg_command.specs.Prelude.{IsHelp, IsShown, IsToldOf, buffer_app, check_app, dot_rule, file_app, file_rule, frame_rule, msgrun_app, plan_app, run_app, texts_of, workers_rule};
+ghost use Rattle.msg_command.specs.Prelude.{IsShown, IsToldOf, buffer_app, check_app, dot_rule, file_app, file_rule, frame_rule, msgrun_app, plan_app, run_app, texts_of, workers_rule};
+ghost use Rattle.msg_command.specs.inner.Telling.{IsHelp};
 
 use crate::words::{WordFault, help};
 use clap::error::ErrorKind;

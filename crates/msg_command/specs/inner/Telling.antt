@@ -1,4 +1,4 @@
--- What a private function promises: no public contract cites this file.
+-- What a private function promises.
 use Rattle.msg_command.specs.declared.words.WordFault.{WordFault}
 use Rattle.msg_command.specs.declared.words.WordFault.TheVariants as word
 
