@@ -1,10 +1,10 @@
 -- What a system's turn leaves: what came of it, its place on the lender, and its totals.
-use Rattle.std.proofs.Common.{sym, ap, ◌∙◌, get_or, ◌≡◌, ◌≢◌, zero, suc, Option, append-nil, length-append, ℕ, ◌<◌, ◌≤◌, List, length, refl, arith, slice_get}
+use Rattle.std.proofs.Common.{sym, ap, ◌∙◌, ◌++◌, get_or, ◌≡◌, ◌≢◌, zero, suc, None, Option, Some, append-nil, length-append, option_map, option_to_list, ℕ, ◌<◌, ◌≤◌, List, length, refl, arith, slice_get}
 use Rattle.std.specs.Global.{Vec}
-use Rattle.std.proofs.lemmas.{Option.slice_get_read, Bool.cases_Bool, Bool.eq-eqb, Bool.ne_eqb}
+use Rattle.std.proofs.lemmas.{Option.slice_get_read, Bool.cases_Bool, Bool.eq-eqb, Bool.ne_eqb, List.length_push}
 use Rattle.msg_world.specs.Prelude.{SameShape, WorldState, Values}
 use Rattle.msg_system.specs.{declared.limits.TheConstants.MAX_OPS, declared.op.Op.Op, declared.reply.Reply.Reply}
-use Rattle.msg_system.specs.Prelude.{Job as JobState, Meaning, after_at_most, after_job, next_op, turn}
+use Rattle.msg_system.specs.Prelude.{Job as JobState, Meaning, after_at_most, after_job, next_op, refusal, turn}
 use Rattle.msg_frames.specs.{declared.log.Outcome.Outcome, declared.totals.Totals.Totals}
 use Rattle.msg_frames.specs.Prelude.{Member, ReadEntry, State, member_after, entries_at, outcome_of, with_entries, with_member}
 use Rattle.msg_frames.proofs.EntriesOfSteps.{job_logged}
@@ -27,11 +27,17 @@ module _ {V : Type 0} {values : Values V} where
       let far = at_most_replies n next writer places w in
       grind (arith, far, length-append)
 
+  cut_at_most : (left : Option (Op V)) (rs : List (Reply V)) → length rs ≤ MAX_OPS
+      → length (rs ++ option_to_list (option_map (refusal rs) left)) ≤ suc MAX_OPS
+  cut_at_most None rs few = rw append-nil (omega (arith, few))
+  cut_at_most (Some op) rs few = rw length_push (omega (arith, few))
+
   pub few_replies : (j : JobState V) (w : WorldState values) → HasFewReplies (outcome_of (after_job j w).replies)
   unfolding turn
   few_replies j w =
       let few = at_most_replies MAX_OPS (next_op j.system) j.system.writer j.system.places w in
-      grind (arith, cases_Bool, few)
+      let cut = cut_at_most _ _ few in
+      grind (arith, cases_Bool, cut)
 
 -- ---- the lender
 

@@ -1,10 +1,10 @@
 -- The entries that the replies of a turn tell of are those of its steps.
-use Rattle.std.proofs.Common.{List, None, Option, Some, [], append_assoc, arith, length, refl, suc, zero, ℕ, ◌++◌, ◌∷◌, ◌≡◌}
+use Rattle.std.proofs.Common.{List, None, Option, Some, [], append_assoc, arith, length, option_map, option_to_list, refl, suc, zero, ℕ, ◌++◌, ◌∷◌, ◌≡◌}
 use Rattle.std.proofs.lemmas.{Bool.cases_Bool, Grind.flat_map-append, List.append-nil, List.length-append}
 use Rattle.msg_world.specs.Prelude.{Values, WorldState}
 use Rattle.msg_system.specs.{declared.limits.TheConstants.MAX_OPS, declared.op.Op.Op, declared.reply.Reply.Reply}
-use Rattle.msg_system.specs.Prelude.{AfterOp, AfterProgram, Job, Meaning, Step, after_at_most, after_job, after_op, next_op, one_more, ops_answered, turn}
-use Rattle.msg_system.proofs.Turns.{ops_answered-snoc}
+use Rattle.msg_system.specs.Prelude.{AfterOp, AfterProgram, Job, Meaning, Step, after_at_most, after_job, after_op, next_op, one_more, ops_answered, refusal, turn}
+use Rattle.msg_system.proofs.{Turns.cut_answers_none, Turns.ops_answered-snoc, TurnsEnd.turn_is_over}
 use Rattle.msg_frames.specs.Prelude.{Outcome, ReadEntry, entries_at, entries_for, entries_told, entry_for, outcome_of, replies_of}
 
 module _ {V : Type 0} {values : Values V} (t : ℕ) (m : Meaning V) (w : WorldState values) where
@@ -35,6 +35,22 @@ module _ {V : Type 0} {values : Values V} (t : ℕ) (m : Meaning V) (w : WorldSt
       let far : AfterProgram values = after_at_most n (next_op m) m.writer m.places w in
       answered_more (next_op m far.replies) far refl (answered n)
 
+module _ {V : Type 0} (t : ℕ) where
+  -- replies that answer no op have no entry
+  entries_of_ops : (ops : List (Op V)) (rs more : List (Reply V)) → length ops ≡ length rs
+      → entries_for t ops (rs ++ more) ≡ entries_for t ops rs
+  entries_of_ops [] [] more same = refl
+  entries_of_ops (o ∷ ops) (x ∷ rs) more same = grind (arith, entries_of_ops ops rs more)
+  entries_of_ops ops rs more same = absurd (omega (arith, same))
+
+  -- so a turn that is cut tells of no more
+  cut_has_none : (next : List (Reply V) → Option (Op V)) (left : Option (Op V)) (rs : List (Reply V)) → next rs ≡ None
+      → length (ops_answered next rs) ≡ length rs →
+      let all = rs ++ option_to_list (option_map (refusal rs) left) in
+      entries_for t (ops_answered next all) all ≡ entries_for t (ops_answered next rs) rs
+  cut_has_none next left rs over same =
+      rw (cut_answers_none next left rs over) (entries_of_ops (ops_answered next rs) rs _ same)
+
 module _ {V : Type 0} where
   -- the entries for a type of a system whose turn came out so
   abbrev pub outcome_entries : ℕ → Meaning V → Outcome V → List (ReadEntry V)
@@ -45,4 +61,9 @@ module _ {V : Type 0} {values : Values V} where
   pub job_logged : (t : ℕ) (j : Job V) (w : WorldState values)
       → outcome_entries t j.system (outcome_of (after_job j w).replies) ≡ entries_at t (after_job j w).steps
   unfolding turn
-  job_logged t j w = grind (arith, append-nil, cases_Bool, answered t j.system w MAX_OPS)
+  job_logged t j w =
+      let m = j.system in
+      let far : AfterProgram values = after_at_most MAX_OPS (next_op m) m.writer m.places w in
+      let did = answered t m w MAX_OPS in
+      let cut = cut_has_none t (next_op m) (m.rule [] far.replies) far.replies (turn_is_over m w) did.0 in
+      grind (arith, append-nil, cases_Bool, did, cut)

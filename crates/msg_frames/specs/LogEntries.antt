@@ -1,6 +1,6 @@
 -- What replies tell of a reader: the system's rule says which op each of them answers.
 use Rattle.std.specs.Prelude.{List, [], ℕ, ◌++◌, ◌∷◌}
-use Rattle.msg_system.specs.{Prelude.Needs, Prelude.Rule, Prelude.if_kept, Prelude.ops_answered, declared.op.Op.Op, declared.reply.Reply.Reply}
+use Rattle.msg_system.specs.{Prelude.Needs, Prelude.Rule, Prelude.next_done, Prelude.ops_answered, declared.op.Op.Op, declared.reply.Reply.Reply}
 use Rattle.msg_frames.specs.Entries.{ReadEntry, entry_for}
 
 module _ {V : Type 0} where
@@ -9,9 +9,9 @@ module _ {V : Type 0} where
   entries_for t (op ∷ ops) (reply ∷ replies) = entry_for t op reply ++ entries_for t ops replies
   entries_for t _ _ = []
 
-  -- the ops of a system's next turn to which these are the replies
+  -- the ops that were done of a system's next turn, if these are the replies
   abbrev pub ops_by : Needs → Rule V → List (Reply V) → List (Op V)
-  ops_by n rule replies = ops_answered (λ so_far. if_kept n (rule [] so_far)) replies
+  ops_by n rule replies = ops_answered (next_done n (rule [])) replies
 
   -- The entries for a type of a system whose turns, one after the other, have these replies.
   abbrev pub entries_told : ℕ → Needs → Rule V → List (List (Reply V)) → List (ReadEntry V)

@@ -84,6 +84,8 @@ reply_text s (reply.Summed took value) =
 reply_text s (reply.Value value) = codes " " ++ signed_decimal value
 reply_text s (reply.Drained first items) = codes ": " ++ items_text s first items
 reply_text s reply.Signalled = []
+reply_text s (reply.Outside op) = codes " outside"
+reply_text s (reply.Full op) = codes " full"
 
 -- ---- the lines of a frame
 

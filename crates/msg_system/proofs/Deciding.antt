@@ -1,8 +1,8 @@
 -- Turns that a behavior decides, op after op.
-use Rattle.std.proofs.Common.{refl, ◌≡◌, ℕ, zero, suc, ◌+◌, ◌≤◌, ◌++◌, List, [], ◌∷◌, length, Option, Some, None, sym, arith, inl, inr, append_assoc, drop}
+use Rattle.std.proofs.Common.{refl, ◌≡◌, ℕ, zero, suc, ◌+◌, ◌<◌, ◌≤◌, ◌++◌, true, false, List, [], ◌∷◌, length, Option, Some, None, sym, arith, inl, inr, append_assoc, drop}
 use Rattle.std.proofs.{Math.Seq.drop-append_seam, lemmas.Bool.cases_Bool, lemmas.Bool.cases_eq, lemmas.Bool.false≢true, lemmas.List.length_push}
 use Rattle.msg_world.specs.{Prelude.SameLoan, Prelude.WorldState, declared.lent.Lent.Lent, Prelude.Values}
-use Rattle.msg_system.specs.{Prelude.Covers, Prelude.Needs, Prelude.Op, Prelude.OpRan, Prelude.Reply, Prelude.after_at_most, Prelude.one_more, Prelude.op_needs, declared.limits.TheConstants.MAX_OPS, inner.TurnRuns.AreAnswered, inner.TurnRuns.IsAfterProgram}
+use Rattle.msg_system.specs.{Prelude.Covers, Prelude.Needs, Prelude.Op, Prelude.OpRan, Prelude.Reply, Prelude.after_at_most, Prelude.keeps_to, Prelude.next_done, Prelude.one_more, Prelude.op_needs, declared.limits.TheConstants.MAX_OPS, inner.TurnRuns.AreAnswered, inner.TurnRuns.IsAfterProgram}
 use Rattle.msg_system.proofs.{Lendings.writable_is_shown, Runs.op_more, Turns.IsKept, Turns.ops_answered-snoc}
 
 -- ---- a turn, op after op
@@ -26,8 +26,8 @@ module _ {V : Type 0} {values : Values V} (next : List (Reply V) → Option (Op 
     asked : drop n out ≡ (after_at_most k next w ps s).replies
     asked = rw (long, far.same_replies) (drop-append_seam before _)
 
-    pub turn_over : k ≤ MAX_OPS → None ≡ next (drop n out) → IsAfterProgram (after_at_most MAX_OPS next w ps s) qs l before out
-    turn_over le h = rw (stays MAX_OPS k le (rw (← asked) (sym h))) far
+    pub turn_over : k ≤ MAX_OPS → next (drop n out) ≡ None → IsAfterProgram (after_at_most MAX_OPS next w ps s) qs l before out
+    turn_over le h = rw (stays MAX_OPS k le (rw (← asked) h)) far
 
     pub turn_more : (op : Op V) (rs : ℕ → ℕ) (m : Lent V) (r : Reply V) → Some op ≡ next (drop n out) → OpRan values op w qs rs l m r
         → IsAfterProgram (after_at_most (k + 1) next w ps s) rs m before (out ++ r ∷ [])
@@ -36,12 +36,37 @@ module _ {V : Type 0} {values : Values V} (next : List (Reply V) → Option (Op 
         grind (arith, asked, is) in
         rw longer (op_more op w qs rs l m _ before out r far ran)
 
+-- ---- what comes next
+
+module _ {V : Type 0} (n : Needs) (rule : List (Reply V) → Option (Op V)) (rs : List (Reply V)) where
+  -- an op that keeps to what is needed is done, if there were fewer than a turn may have
+  pub is_done : (op : Op V) → Some op ≡ rule rs → length rs < MAX_OPS → true ≡ keeps_to n op → Some op ≡ next_done n rule rs
+  is_done op is few keeps = grind arith
+
+  -- nothing is done, if the rule gives nothing
+  pub nothing_left : None ≡ rule rs → next_done n rule rs ≡ None
+  nothing_left is = grind arith
+
+  -- nor an op that doesn't
+  pub outside : (op : Op V) → Some op ≡ rule rs → false ≡ keeps_to n op → next_done n rule rs ≡ None
+  outside op is not_kept = grind (arith, cases_Bool)
+
+  -- nor one that is too much
+  pub one_too_many : (o : Option (Op V)) → o ≡ rule rs → length rs ≡ MAX_OPS → next_done n rule rs ≡ None
+  one_too_many None is full = nothing_left is
+  one_too_many (Some op) is full = grind arith
+
 -- ---- which ops were answered
 
 -- what was appended, without what stood before
 pub appended : {V : Type 0} (next : List (Reply V) → Option (Op V)) (ops : List (Op V)) (before after : List (Reply V))
     (are : AreAnswered next ops before after) → drop (length before) after ≡ are.0
 appended next ops before after are = rw are.1 (drop-append_seam before are.0)
+
+-- as many as the ops
+pub so_many : {V : Type 0} (next : List (Reply V) → Option (Op V)) (ops : List (Op V)) (before after : List (Reply V))
+    (are : AreAnswered next ops before after) → length (drop (length before) after) ≡ length ops
+so_many next ops before after are = rw (appended next ops before after are) (sym are.3)
 
 -- one op more
 pub answered_more : {V : Type 0} (next : List (Reply V) → Option (Op V)) (ops : List (Op V)) (before after : List (Reply V)) (op : Op V) (r : Reply V)

@@ -1,12 +1,12 @@
 -- Ops, turns, conditions and jobs use no more than they need.
-use Rattle.std.proofs.Common.{◌≡◌, ℕ, zero, suc, Bool, false, List, [], ◌∷◌, length, map, Option, None, Some, refl, ap, ◌∙◌, arith, IfSome, IsTrue, nat_lt}
-use Rattle.std.proofs.{Math.Bool.or-false, Math.Path.fun_ext, lemmas.Bool.cases_Bool, lemmas.Bool.false≢true, lemmas.Bool.or_left, lemmas.Bool.or_right}
+use Rattle.std.proofs.Common.{◌≡◌, ℕ, zero, suc, ◌++◌, Bool, false, List, [], ◌∷◌, length, slice_get, map, Option, None, Some, refl, ap, ◌∙◌, arith, IfSome, IsTrue, nat_lt}
+use Rattle.std.proofs.{Math.Bool.or-false, Math.Path.fun_ext, lemmas.Bool.cases_Bool, lemmas.Bool.false≢true, lemmas.Bool.or_left, lemmas.Bool.or_right, lemmas.List.take_all}
 use Rattle.msg_buffer.specs.Prelude.{History, count, unread}
 use Rattle.msg_world.specs.{declared.part.Part.Part, declared.part.Part.TheVariants.OfResource, declared.part.Part.TheVariants.OfType, declared.part.Part.TheVariants.Registry, Prelude.WorldState, Prelude.content, Prelude.Values}
 use Rattle.msg_world.specs.declared.record.Record.{Record}
 use Rattle.msg_system.specs.declared.limits.TheConstants.{MAX_OPS}
-use Rattle.msg_system.specs.Prelude.{AfterProgram, Agree, Asked, ConditionFootprint, HasFootprint, IsWithin, Job, JobFootprint, Meaning, OnMessage, Op, OpFootprint, Probe, Program, ProgramFootprint, Reply, ResourceEquals, TurnFootprint, Zero, after_asking, after_at_most, after_op, all_hold, conditions_of, probe_answer, given_by_program, is_part, needs_any, next_op, of_program, one_more, op_needs, op_parts, place_after, probe_part, some_condition_reads, turn, with_conditions}
-use Rattle.msg_system.proofs.{Runs.same_part_refl, Turns.IsKept, Turns.next_kept_to, Turns.program_so_far}
+use Rattle.msg_system.specs.Prelude.{AfterProgram, Agree, Asked, ConditionFootprint, HasFootprint, IsWithin, Job, JobFootprint, Needs, OnMessage, Op, OpFootprint, Probe, ProgramFootprint, Reply, ResourceEquals, TurnFootprint, after_asking, after_at_most, after_op, after_program, all_hold, cut_after, conditions_of, probe_answer, given_by_program, is_part, needs_any, next_op, one_more, op_needs, op_parts, place_after, probe_part, program_needs, some_condition_reads, turn, with_conditions}
+use Rattle.msg_system.proofs.{Runs.same_part_refl, Turns.IsKept, Turns.kept_to, Turns.next_kept_to, Turns.so_far}
 
 -- ---- what is kept
 
@@ -43,32 +43,34 @@ op_footprint op w ps = record {
 
 -- ---- turns
 
-module _ {V : Type 0} (values : Values V) (m : Meaning V) where
-  -- the first ops of a turn
+-- ops that keep to what is needed
+module _ {V : Type 0} (values : Values V) (n : Needs) (next : List (Reply V) → Option (Op V)) (w : ℕ) (ps : ℕ → ℕ)
+    (keeps : (rs : List (Reply V)) (op : Op V) → next rs ≡ Some op → IsKept n op) where
+  -- the first of them
   abbrev after : ℕ → WorldState values → AfterProgram values
-  after k s = after_at_most k (next_op m) m.writer m.places s
+  after k s = after_at_most k next w ps s
 
-  more_kept : (o : Option (Op V)) (far : AfterProgram values) (p : Part) → ((op : Op V) → o ≡ Some op → IsKept m.needs op)
-      → m.needs.writes p ≡ false → content p (one_more o m.writer far).state ≡ content p far.state
+  more_kept : (o : Option (Op V)) (far : AfterProgram values) (p : Part) → ((op : Op V) → o ≡ Some op → IsKept n op)
+      → n.writes p ≡ false → content p (one_more o w far).state ≡ content p far.state
   more_kept None far p kept h = refl
   more_kept (Some op) far p kept h =
-      op_kept op m.writer far.places far.state p (grind (arith, kept op refl, cases_Bool, false≢true))
+      op_kept op w far.places far.state p (grind (arith, kept op refl, cases_Bool, false≢true))
 
-  turn_kept : (k : ℕ) (s : WorldState values) (p : Part) → m.needs.writes p ≡ false → content p (after k s).state ≡ content p s
+  turn_kept : (k : ℕ) (s : WorldState values) (p : Part) → n.writes p ≡ false → content p (after k s).state ≡ content p s
   turn_kept zero s p h = refl
   turn_kept (suc k) s p h =
-      more_kept (next_op m (after k s).replies) (after k s) p (next_kept_to m.needs _) h ∙ turn_kept k s p h
+      more_kept (next (after k s).replies) (after k s) p (keeps (after k s).replies) h ∙ turn_kept k s p h
 
-  module _ (among : Part → Bool) (within : IsWithin m.needs among) where
+  module _ (among : Part → Bool) (within : IsWithin n among) where
     record AreAlike (a b : AfterProgram values) : Type 0 where
       same : given_by_program a ≡ given_by_program b
       agree : Agree among a.state b.state
 
-    more_alike : (o : Option (Op V)) (a b : AfterProgram values) → ((op : Op V) → o ≡ Some op → IsKept m.needs op) → AreAlike a b
-        → AreAlike (one_more o m.writer a) (one_more o m.writer b)
+    more_alike : (o : Option (Op V)) (a b : AfterProgram values) → ((op : Op V) → o ≡ Some op → IsKept n op) → AreAlike a b
+        → AreAlike (one_more o w a) (one_more o w b)
     more_alike None a b kept alike = alike
     more_alike (Some op) a b kept alike =
-        let foot = op_footprint op m.writer a.places in
+        let foot = op_footprint op w a.places in
         let in_m : IsWithin (op_needs op) among = λ p h. within p (grind (arith, kept op refl)) in
         record {
           same = grind (arith, alike.same, foot.same among a.state b.state in_m alike.agree);
@@ -78,11 +80,11 @@ module _ {V : Type 0} (values : Values V) (m : Meaning V) where
     turn_alike : (k : ℕ) (s t : WorldState values) → Agree among s t → AreAlike (after k s) (after k t)
     turn_alike zero s t agree = record { same = refl; agree = agree }
     turn_alike (suc k) s t agree =
-        let far = turn_alike k s t agree in let next = λ (g : (ℕ → ℕ) × List (Reply V)). next_op m g.1 in
-        rw (← ap next far.same)
-        (more_alike (next_op m (after k s).replies) (after k s) (after k t) (next_kept_to m.needs _) far)
+        let far = turn_alike k s t agree in let from = λ (g : (ℕ → ℕ) × List (Reply V)). next g.1 in
+        rw (← ap from far.same)
+        (more_alike (next (after k s).replies) (after k s) (after k t) (keeps (after k s).replies) far)
 
-  first_ops : (k : ℕ) → HasFootprint m.needs (λ (e : AfterProgram values). e.state) given_by_program (after k)
+  first_ops : (k : ℕ) → HasFootprint n (λ (e : AfterProgram values). e.state) given_by_program (after k)
   first_ops k = record {
     kept = turn_kept k;
     same = λ among s t within agree. (turn_alike among within k s t agree).same;
@@ -91,13 +93,21 @@ module _ {V : Type 0} (values : Values V) (m : Meaning V) where
 
 pub turn_footprint : {V : Type 0} {values : Values V} → TurnFootprint values
 unfolding turn
-turn_footprint {values} m = first_ops values m MAX_OPS
+turn_footprint {V} {values} m =
+    let far = first_ops values m.needs (next_op m) m.writer m.places (next_kept_to m.needs (m.rule [])) MAX_OPS in
+    let told : (ℕ → ℕ) × List (Reply V) → (ℕ → ℕ) × List (Reply V) = λ g. (g.0, g.1 ++ cut_after (m.rule []) g.1) in
+    record {
+      kept = far.kept;
+      same = λ among s t within agree. ap told (far.same among s t within agree);
+      alike = far.alike;
+    }
 
 pub program_footprint : {V : Type 0} {values : Values V} → ProgramFootprint values
 program_footprint {V} {values} ops w ps =
-    let program : Program V = record { ops = ops; start = Zero } in
-    rw (← fun_ext {A = WorldState values} (λ s. program_so_far program (length ops) w ps s (omega arith)))
-    (first_ops values (of_program program w ps) (length ops))
+    let all = λ (s : WorldState values). so_far ops (length ops) w ps s ∙ ap (λ xs. after_program xs w ps s) (take_all (length ops) ops (omega arith)) in
+    rw (← fun_ext all)
+    (first_ops values (program_needs ops) (λ replies. slice_get ops (length replies)) w ps (λ rs op is. kept_to ops (length rs) op is)
+    (length ops))
 
 -- ---- conditions
 

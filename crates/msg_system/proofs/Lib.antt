@@ -11,3 +11,5 @@ pub mod FootprintsHold
 pub mod LoansCover
 -- Turns that a behavior decides
 mod Deciding
+-- A turn is over once its ops were done
+pub mod TurnsEnd

@@ -1,5 +1,5 @@
 -- What a system promises of its runs, in a box or not.
-use Rattle.std.specs.Prelude.{All, ◌≡◌, ℕ, ◌++◌, false, None, IfSome, IsSome, IsTrue, List, [], ◌∷◌, length}
+use Rattle.std.specs.Prelude.{All, ◌≡◌, ◌⊎◌, ℕ, suc, ◌++◌, false, None, IfSome, IsSome, IsTrue, List, [], ◌∷◌, length}
 use Rattle.msg_world.specs.declared.lent.Lent.{Lent}
 use Rattle.msg_world.specs.declared.part.Part.{Part}
 use Rattle.msg_world.specs.Prelude.{IsComplete, LoanStands, Parts, PartsStand, SameLoan, StuffStands, WorldState, access_of_loan, content, shown, slot, taken_of, uses, writable, writes, Values}
@@ -23,10 +23,10 @@ module _ {V : Type 0} {values : Values V} where
 pub record Ran {V : Type 0} (values : Values V) (old new : Meaning V) (lent : Lent V)
     (taken : Parts V)
     (before after : List (Reply V)) : Type 0 where
-  -- the replies of this turn, one for each op
+  -- the replies of this turn, one for each op, and one more if it was cut
   pub replies : List (Reply V)
   pub appended : after ≡ before ++ replies
-  pub one_each : length new.last ≡ length replies
+  pub one_each : (length new.last ≡ length replies) ⊎ (suc (length new.last) ≡ length replies)
   -- what the system means changes by these replies and its places alone
   pub means : new ≡ record (after_replies replies old) { places = new.places }
   pub state : (s : WorldState values) → LoanStands lent s

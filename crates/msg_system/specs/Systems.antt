@@ -1,7 +1,8 @@
 -- What a system means, and what its turn is.
-use Rattle.std.specs.Prelude.{◌≡◌, ℕ, zero, suc, ◌≤◌, ◌++◌, Option, Some, None, option_and_then, option_to_list, unwrap_or, List, [], ◌∷◌, length, slice_get, if◌then◌else◌}
+use Rattle.std.specs.Prelude.{◌≡◌, ℕ, zero, suc, ◌≤◌, ◌++◌, Bool, true, false, ◌&&◌, nat_lt, Option, Some, None, option_and_then, option_map, option_to_list, unwrap_or, List, [], ◌∷◌, length, slice_get, if◌then◌else◌}
 use Rattle.msg_world.specs.{declared.part.Part.TheVariants.OfType, Prelude.WorldState, Prelude.Values}
 use Rattle.msg_system.specs.{declared.limits.TheConstants.MAX_OPS, declared.op.Op.Op, declared.program.Program.Program, declared.reply.Reply.Reply, declared.start.Start.Start}
+use Rattle.msg_system.specs.declared.reply.Reply.TheVariants as reply
 use Rattle.msg_system.specs.declared.start.Start.TheVariants.{Zero, Current}
 use Rattle.msg_system.specs.Needs.{Needs, keeps_to, program_needs}
 use Rattle.msg_system.specs.Programs.{AfterOp, AfterProgram, after_op, after_program}
@@ -25,13 +26,31 @@ pub record Meaning (V : Type 0) : Type 0 where
 -- ---- a turn
 
 module _ {V : Type 0} where
-  -- the op, if it keeps to what is needed; else the turn is over
-  abbrev pub if_kept : Needs → Option (Op V) → Option (Op V)
-  if_kept n next = option_and_then (λ op. if keeps_to n op then Some op else None) next
+  -- the op that a rule gives after these replies of its turn, if it is done: it is one of the first
+  -- `MAX_OPS`, and keeps to what is needed
+  abbrev pub next_done : Needs → (List (Reply V) → Option (Op V)) → List (Reply V) → Option (Op V)
+  next_done n rule replies = option_and_then
+      (λ op. if nat_lt (length replies) MAX_OPS && keeps_to n op then Some op else None)
+      (rule replies)
 
   -- the next op of its turn, by the replies so far
   abbrev pub next_op : Meaning V → List (Reply V) → Option (Op V)
-  next_op m replies = if_kept m.needs (m.rule [] replies)
+  next_op m replies = next_done m.needs (m.rule []) replies
+
+  -- what is answered to an op after these replies, if it isn't done
+  abbrev pub refusal : List (Reply V) → Op V → Reply V
+  refusal replies op = if nat_lt (length replies) MAX_OPS then reply.Outside op else reply.Full op
+
+  -- What a turn ends with after these replies, of which no more are done: if the rule gives one op
+  -- more, the turn is cut before it, and that is told.
+  abbrev pub cut_after : (List (Reply V) → Option (Op V)) → List (Reply V) → List (Reply V)
+  cut_after rule replies = option_to_list (option_map (refusal replies) (rule replies))
+
+  -- the reply tells that its turn was cut
+  abbrev pub is_cut : Reply V → Bool
+  is_cut (reply.Outside op) = true
+  is_cut (reply.Full op) = true
+  is_cut _ = false
 
 module _ {V : Type 0} {values : Values V} where
   -- one op more; or nothing, if the turn is over
@@ -55,12 +74,14 @@ module _ {V : Type 0} {values : Values V} where
       let far : AfterProgram values = after_at_most n next w ps s in
       one_more (next far.replies) w far
 
-  -- its turn on a world: at most `MAX_OPS` ops, from its places
+  -- its turn on a world, from its places: at most `MAX_OPS` ops, and if it is cut then, that is told
   unfoldable pub turn : Meaning V → WorldState values → AfterProgram values
-  turn m s = after_at_most MAX_OPS (next_op m) m.writer m.places s
+  turn m s =
+      let far : AfterProgram values = after_at_most MAX_OPS (next_op m) m.writer m.places s in
+      record far { replies = far.replies ++ cut_after (m.rule []) far.replies }
 
 module _ {V : Type 0} where
-  -- the ops that these are the replies to
+  -- the ops that were done, if these are the replies to what a turn asked for
   abbrev pub ops_answered : (List (Reply V) → Option (Op V)) → List (Reply V) → List (Op V)
   ops_answered next [] = []
   ops_answered next (r ∷ rs) = option_to_list (next [])

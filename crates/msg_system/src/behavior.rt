@@ -52,8 +52,9 @@ pub trait Behavior: Drop {
     // What it remembers after a turn that was answered so.
     ghost remembered: { Memory → List (Reply Self.Value) → Memory };
 
-    /// The next op of this turn, by the replies so far; None if the turn is over. A turn ends
-    /// after `MAX_OPS` ops, and before an op outside the access of its system.
+    /// The next op of this turn, by the replies so far; None if the turn is over. An op past
+    /// `MAX_OPS`, or outside the access of its system, isn't done: it ends the turn, whose last
+    /// reply is then `Full` or `Outside`.
     fn next(
         &self,
         alloc: Global,

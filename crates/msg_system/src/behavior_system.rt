@@ -1,13 +1,13 @@
 // Systems that decide by a behavior.
-ghost use Rattle.std.specs.Prelude.{◌≡◌, ◌≤◌, IfOk, OnOk, drop, length};
+ghost use Rattle.std.specs.Prelude.{◌≡◌, ◌<◌, ◌≤◌, ◌++◌, IfOk, OnOk, drop, length, option_map, option_to_list};
 ghost use Rattle.msg_world.specs.Prelude.{SameLoan};
-ghost use Rattle.msg_system.specs.{Behaviors.behaves, Needs.needs_of, OpRuns.cursor_places, inner.TurnRuns.AreAnswered, inner.TurnRuns.IsAsItWas, inner.TurnRuns.TurnRan, inner.TurnRuns.next_kept, Promises.Covers};
+ghost use Rattle.msg_system.specs.{Behaviors.behaves, Needs.needs_of, OpRuns.cursor_places, inner.TurnRuns.AreAnswered, inner.TurnRuns.IsAsItWas, inner.TurnRuns.IsOver, inner.TurnRuns.TurnRan, Promises.Covers, Systems.next_done, Systems.refusal};
 
 use crate::behavior::Behavior;
 use crate::limits::MAX_OPS;
 use crate::one_op::answer;
 use crate::{Access, Cursors, Items, NoMemory, Numbered, Op, Reply, Start, SystemOf};
-use msg_world::{Counts, Lent, Taken, TypeNo};
+use msg_world::{Counts, Lent, Taken, TypeNo, Value};
 use std::alloc::Global;
 use std::mem::replace;
 
@@ -19,20 +19,25 @@ fn since<V>(replies: &[Reply<V>], from: usize) -> &[Reply<V>]
     &replies[from..]
 }
 
-/// The next op, if it keeps to the access.
-fn next_within<B: Behavior>(
-    alloc: Global,
-    behavior: &B,
-    access: &Access,
-    replies: &[Reply<B::Value>],
-) -> Result<Option<Op<B::Value>>, NoMemory>
-    ensures next { IfOk result (λ op. op
-        ≡ next_kept (needs_of access.now) B.next_op (B.memory behavior.now) replies.now) }
+/// Tells that a turn is cut before this op, if there is one; `from` replies are of earlier turns.
+fn tell_cut<V: Value>(
+    from: usize,
+    op: Option<Op<V>>,
+    out: &mut Vec<Reply<V>>,
+) -> Result<(), NoMemory>
+    requires within { from ≤ length out.old.items }
+    ensures cut { OnOk result (out.new.items ≡ out.old.items
+        ++ option_to_list (option_map (refusal (drop from out.old.items)) op)) }
 {
-    match behavior.next(alloc, replies)? {
-        Some(op) if op.keeps_to(access) => Ok(Some(op)),
-        _ => Ok(None),
+    if let Some(op) = op {
+        let is_full = out.len() - from >= MAX_OPS;
+        out.push(if is_full {
+            Reply::Full(op)
+        } else {
+            Reply::Outside(op)
+        })?;
     }
+    Ok(())
 }
 
 /// A system that does what its behavior decides.
@@ -73,22 +78,24 @@ impl<B: Behavior + Send> BehaviorSystem<B> {
 
 impl<B: Behavior> BehaviorSystem<B> {
     /// Does the ops that the behavior gives, one after the other. It returns those that it did, in
-    /// the memory of those of its last turn.
+    /// the memory of those of its last turn, and the op that comes next and isn't done.
     #[inline(always)]
     fn run_ops(
         &mut self,
         alloc: Global,
         lent: &mut Lent<B::Value>,
         out: &mut Vec<Reply<B::Value>>,
-    ) -> Result<Vec<Op<B::Value>>, NoMemory>
+    ) -> Result<(Vec<Op<B::Value>>, Option<Op<B::Value>>), NoMemory>
         requires covers { Covers (needs_of self.old.access) lent.old }
         ensures ran { OnOk result (TurnRan B.Value.values
-            (next_kept (needs_of self.old.access) B.next_op (B.memory self.old.behavior))
+            (next_done (needs_of self.old.access) (B.next_op (B.memory self.old.behavior)))
             self.old.writer (cursor_places self.old.cursors) (cursor_places self.new.cursors)
             lent.old lent.new out.old.items out.new.items) }
-        ensures answered { IfOk result (λ ops. AreAnswered
-            (next_kept (needs_of self.old.access) B.next_op (B.memory self.old.behavior))
-            ops.items out.old.items out.new.items) }
+        ensures answered { IfOk result (λ did. AreAnswered
+            (next_done (needs_of self.old.access) (B.next_op (B.memory self.old.behavior)))
+            did.0.items out.old.items out.new.items) }
+        ensures over { IfOk result (λ did. IsOver (needs_of self.old.access)
+            (B.next_op (B.memory self.old.behavior)) (length out.old.items) out.new.items did.1) }
         ensures same { OnOk result (SameLoan lent.old lent.new) }
         ensures stays { OnOk result (IsAsItWas self.old self.new) }
     {
@@ -98,16 +105,18 @@ impl<B: Behavior> BehaviorSystem<B> {
         let (behavior, access, writer) = (&self.behavior, &self.access, self.writer);
         let cursors = &mut self.cursors;
         for _done in 0..MAX_OPS {
-            match next_within(alloc, behavior, access, since(out.as_slice(), before))? {
-                None => return Ok(ops),
-                Some(op) => {
-                    out.reserve(1)?;
-                    answer(alloc, &op, writer, cursors, lent, out)?;
-                    ops.push(op)?;
-                }
+            let Some(op) = behavior.next(alloc, since(out.as_slice(), before))? else {
+                return Ok((ops, None));
+            };
+            if !op.keeps_to(access) {
+                return Ok((ops, Some(op)));
             }
+            out.reserve(1)?;
+            answer(alloc, &op, writer, cursors, lent, out)?;
+            ops.push(op)?;
         }
-        Ok(ops)
+        let next = behavior.next(alloc, since(out.as_slice(), before))?;
+        Ok((ops, next))
     }
 }
 
@@ -158,8 +167,9 @@ impl<B: Behavior + Send> SystemOf for BehaviorSystem<B> {
         ensures shape { IfOk result (λ taken. SameShape (taken_of lent.entry) taken) }
     {
         let before = out.len();
-        let ops = self.run_ops(alloc, &mut lent, out)?;
+        let (ops, next) = self.run_ops(alloc, &mut lent, out)?;
         self.last = Items::from_vec(ops);
+        tell_cut(before, next, out)?;
         self.behavior
             .remember(alloc, since(out.as_slice(), before))?;
         Ok(lent.into_taken())

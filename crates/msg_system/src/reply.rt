@@ -1,8 +1,8 @@
 ghost use Rattle.std.specs.Prelude.{◌≡◌, slice_get};
 ghost use Rattle.std.specs.Option.{option_copied};
-ghost use Rattle.msg_system.specs.Prelude.{brought, reply_took};
+ghost use Rattle.msg_system.specs.Prelude.{brought, is_cut, reply_took};
 
-use crate::Items;
+use crate::{Items, Op};
 use msg_buffer::Written;
 use msg_world::Record;
 
@@ -52,9 +52,20 @@ pub enum Reply<V = i64> {
     },
     /// An update was asked for.
     Signalled,
+    /// The turn was cut before this op, which is outside of what its system may use.
+    Outside(Op<V>),
+    /// The turn was cut before this op, since it had as many as a turn may have (`MAX_OPS`).
+    Full(Op<V>),
 }
 
 impl<V> Reply<V> {
+    /// Whether it tells that the turn was cut.
+    pub fn is_cut(&self) -> bool
+        ensures cut { result ≡ is_cut self.now }
+    {
+        matches!(self, Reply::Outside(_) | Reply::Full(_))
+    }
+
     /// What its op took, if that read messages.
     pub fn took(&self) -> Option<&Took<V>>
         ensures took { option_copied result ≡ reply_took self.now }

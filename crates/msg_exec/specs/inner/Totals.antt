@@ -1,5 +1,5 @@
 -- What is added to totals, and where they begin.
-use Rattle.std.specs.Prelude.{ℕ, ◌≤◌, ◌==◌, List, [], length, None, Some, option_to_list, ⊤, if◌then◌else◌}
+use Rattle.std.specs.Prelude.{ℕ, suc, ◌≤◌, ◌==◌, List, [], length, None, Some, option_to_list, ⊤, if◌then◌else◌}
 use Rattle.msg_system.specs.{declared.limits.TheConstants.MAX_OPS, declared.op.Op.Op, declared.reply.Reply.Reply}
 use Rattle.msg_world.specs.{declared.part.Part.TheVariants.OfType}
 use Rattle.msg_system.specs.Prelude.{Meaning, start_place, type_read_by}
@@ -25,7 +25,7 @@ module _ {V : Type 0} where
             then option_to_list (entry_of reply) else []
       ]
 
-  -- no more replies than a turn has at most
+  -- no more replies than a turn has at most: one for each op, and one if it is cut
   abbrev pub HasFewReplies : Outcome V → Type 0
   HasFewReplies Skipped = ⊤
-  HasFewReplies (Ran replies) = length replies ≤ MAX_OPS
+  HasFewReplies (Ran replies) = length replies ≤ suc MAX_OPS

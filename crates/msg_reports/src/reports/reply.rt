@@ -27,6 +27,8 @@ pub fn add_reply(text: &mut Vec<u8>, scenario: &Scenario, reply: &Reply) -> Resu
         Reply::Value(value) => add_after(text, b" ", *value),
         Reply::Drained { first, items } => add_drained(text, scenario, *first, items.as_slice()),
         Reply::Signalled => Ok(()),
+        Reply::Outside(_) => text.extend_from_slice(b" outside"),
+        Reply::Full(_) => text.extend_from_slice(b" full"),
     }
 }
 

@@ -1,9 +1,9 @@
 -- What the private functions of programs and turns say. No public contract cites these.
-use Rattle.std.specs.Prelude.{◌≡◌, ℕ, ◌++◌, List, [], ◌∷◌, Option, length}
+use Rattle.std.specs.Prelude.{◌≡◌, ℕ, ◌++◌, List, [], ◌∷◌, None, Option, drop, length}
 use Rattle.msg_world.specs.{Prelude.LoanStands, Prelude.WorldState, declared.lent.Lent.Lent, Prelude.Values}
 use Rattle.msg_system.specs.{declared.behavior_system.BehaviorSystem.BehaviorSystem, declared.limits.TheConstants.MAX_OPS, declared.op.Op.Op, declared.reply.Reply.Reply, Needs.Needs, OpRuns.OpRan}
 use Rattle.msg_system.specs.Programs.{AfterProgram, after_program}
-use Rattle.msg_system.specs.Systems.{after_at_most, if_kept, ops_answered}
+use Rattle.msg_system.specs.Systems.{after_at_most, next_done, ops_answered}
 
 -- the places, the loan and the replies are those after a program
 pub record IsAfterProgram {V : Type 0} {values : Values V} (after : AfterProgram values)
@@ -35,12 +35,6 @@ module _ {V : Type 0} where
   HasReplies before answers n = (more : List (Reply V)) × (answers ≡ before ++ more)
       × (length more ≡ n)
 
-  -- what a memory gives next, if that keeps to what is needed
-  abbrev pub next_kept : {M : Type 0} → Needs → (M → List (Reply V) → Option (Op V)) → M
-      → List (Reply V)
-      → Option (Op V)
-  next_kept n next memory replies = if_kept n (next memory replies)
-
 -- the places, the loan and the replies are those after a turn
 abbrev pub TurnRan : {V : Type 0} (values : Values V) → (List (Reply V) → Option (Op V)) → ℕ
     → (ℕ → ℕ) → (ℕ → ℕ) → Lent V → Lent V → List (Reply V)
@@ -56,6 +50,13 @@ module _ {V : Type 0} where
   AreAnswered next ops before answers =
       (more : List (Reply V)) × (answers ≡ before ++ more) × (ops ≡ ops_answered next more)
       × (length ops ≡ length more)
+
+  -- Nothing more is done after the replies from number `from` on, and this op is what the rule
+  -- gives then.
+  pub record IsOver (n : Needs) (rule : List (Reply V) → Option (Op V)) (from : ℕ)
+      (answers : List (Reply V)) (left : Option (Op V)) : Type 0 where
+    pub left_over : left ≡ rule (drop from answers)
+    pub none_done : next_done n rule (drop from answers) ≡ None
 
 -- the behavior, the access, the start and the number that it writes as are as they were
 pub record IsAsItWas {B V : Type 0} (old new : BehaviorSystem B V) : Type 0 where
