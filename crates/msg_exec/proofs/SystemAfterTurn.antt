@@ -1,5 +1,5 @@
 -- What a system's turn leaves: what came of it, its place on the lender, and its totals.
-use Rattle.std.proofs.Common.{sym, ap, ◌∙◌, ◌++◌, get_or, ◌≡◌, ◌≢◌, zero, suc, None, Option, Some, append-nil, length-append, option_map, option_to_list, ℕ, ◌<◌, ◌≤◌, List, length, refl, arith, slice_get}
+use Rattle.std.proofs.Common.{sym, ap, ◌∙◌, ◌++◌, get_or, ◌≡◌, ◌≢◌, zero, suc, [], None, Option, Some, append-nil, length-append, option_map, option_to_list, ℕ, ◌<◌, ◌≤◌, List, length, refl, arith, slice_get}
 use Rattle.std.specs.Global.{Vec}
 use Rattle.std.proofs.lemmas.{Option.slice_get_read, Bool.cases_Bool, Bool.eq-eqb, Bool.ne_eqb, List.length_push}
 use Rattle.msg_world.specs.Prelude.{SameShape, WorldState, Values}
@@ -12,6 +12,13 @@ use Rattle.msg_exec.specs.Prelude.{Lender, LenderStands, MemberStands, TotalsSta
 use Rattle.msg_exec.specs.inner.Totals.{HasFewReplies, entries_by}
 
 -- ---- what came of it
+
+module _ {V : Type 0} where
+  -- a reply more, if a turn is cut
+  cut_at_most : (left : Option (Op V)) (rs : List (Reply V)) → length rs ≤ MAX_OPS
+      → length (rs ++ option_to_list (option_map (refusal rs) left)) ≤ suc MAX_OPS
+  cut_at_most None rs few = rw append-nil (omega (arith, few))
+  cut_at_most (Some op) rs few = rw length_push (omega (arith, few))
 
 module _ {V : Type 0} {values : Values V} where
   -- the entries of its last ops are those of its turn
@@ -27,16 +34,12 @@ module _ {V : Type 0} {values : Values V} where
       let far = at_most_replies n next writer places w in
       grind (arith, far, length-append)
 
-  cut_at_most : (left : Option (Op V)) (rs : List (Reply V)) → length rs ≤ MAX_OPS
-      → length (rs ++ option_to_list (option_map (refusal rs) left)) ≤ suc MAX_OPS
-  cut_at_most None rs few = rw append-nil (omega (arith, few))
-  cut_at_most (Some op) rs few = rw length_push (omega (arith, few))
-
   pub few_replies : (j : JobState V) (w : WorldState values) → HasFewReplies (outcome_of (after_job j w).replies)
   unfolding turn
   few_replies j w =
       let few = at_most_replies MAX_OPS (next_op j.system) j.system.writer j.system.places w in
-      let cut = cut_at_most _ _ few in
+      let far = (after_at_most MAX_OPS (next_op j.system) j.system.writer j.system.places w).replies in
+      let cut = cut_at_most (j.system.rule [] far) far few in
       grind (arith, cases_Bool, cut)
 
 -- ---- the lender

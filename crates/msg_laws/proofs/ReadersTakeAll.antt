@@ -1,12 +1,12 @@
 -- A job whose turn reads all of a type goes past all that had been written by then.
-use Rattle.std.proofs.Common.{IsTrue, None, Option, Some, arith, refl, suc, zero, ℕ, ◌≡◌, ◌≢◌, ◌≤◌}
+use Rattle.std.proofs.Common.{[], IsTrue, None, Option, Some, arith, refl, suc, zero, ℕ, ◌≡◌, ◌≢◌, ◌≤◌}
 use Rattle.std.proofs.lemmas.{Bool.cases_Bool, Bool.false≢true, Bool.or_cases, Bool.Decides.eqb_tells, List.Folds.list_any-append}
 use Rattle.std.specs.List.{list_any}
 use Rattle.msg_buffer.specs.Prelude.{IsSound, count}
 use Rattle.msg_buffer.proofs.Tiles.{clears_fit, reads_fit}
 use Rattle.msg_world.specs.Prelude.{Values, WorldState}
 use Rattle.msg_system.specs.{Prelude.AfterProgram, Prelude.Job, Prelude.Meaning, Prelude.after_at_most, Prelude.after_job, Prelude.after_op, Prelude.next_op, Prelude.one_more, Prelude.ops_answered, Prelude.turn, declared.limits.TheConstants.MAX_OPS, declared.op.Op.Op}
-use Rattle.msg_system.proofs.Turns.{ops_answered-snoc}
+use Rattle.msg_system.proofs.{Turns.cut_answers_none, Turns.ops_answered-snoc, TurnsEnd.turn_is_over}
 use Rattle.msg_frames.proofs.{HistoriesGrow.counts_more, ReaderOverJob.first_passes, ReaderOverJob.next_moments, ReaderOverJob.next_passes, TellsEachOnce.tiles_rise}
 use Rattle.msg_frames.specs.{Prelude.outcome_of, declared.log.Outcome.TheVariants.Skipped}
 use Rattle.msg_laws.specs.Prelude.{reads_all}
@@ -47,4 +47,7 @@ module _ {V : Type 0} {values : Values V} (t : ℕ) where
       → count (w.histories t) ≤ (after_job j w).job.system.places t
   unfolding turn
   job_takes j w sound within ran reads =
-      grind (arith, cases_Bool, first_takes MAX_OPS j.system w sound within, ran, reads)
+      let m = j.system in
+      let far : AfterProgram values = after_at_most MAX_OPS (next_op m) m.writer m.places w in
+      let last = cut_answers_none (next_op m) (m.rule [] far.replies) far.replies (turn_is_over m w) in
+      grind (arith, cases_Bool, first_takes MAX_OPS m w sound within, last, ran, reads)

@@ -4,19 +4,23 @@ use Rattle.msg_frames.specs.Prelude.{IsBalanced, IsSoundState, State, entries_in
 use Rattle.msg_order.specs.Prelude.{has_joined}
 use Rattle.msg_order.specs.declared.rule.Rule.{Rule}
 use Rattle.msg_buffer.specs.Prelude.{count}
-use Rattle.msg_system.specs.{Prelude.Meaning, declared.reply.Reply.Reply, declared.start.Start.Start, declared.start.Start.TheVariants.Current, declared.start.Start.TheVariants.Zero}
+use Rattle.msg_system.specs.{Prelude.Meaning, Prelude.is_cut, declared.reply.Reply.Reply, declared.start.Start.Start, declared.start.Start.TheVariants.Current, declared.start.Start.TheVariants.Zero}
 use Rattle.msg_world.specs.{Prelude.Values, Prelude.WorldState, declared.part.Part.TheVariants.OfType, declared.record.TheConstants.HOST}
-use Rattle.std.specs.Prelude.{IsFalse, IsTrue, List, flat_map, map, ℕ, ◌++◌, ◌<◌, ◌∷◌, ◌≡◌}
+use Rattle.std.specs.Prelude.{IsFalse, IsTrue, List, filter, flat_map, map, not, ℕ, ◌++◌, ◌<◌, ◌∷◌, ◌≡◌}
 
 module _ {V : Type 0} where
-  -- the replies that the logs have, each beside whom it was given to
+  -- the replies of a turn to the ops that were done
+  abbrev pub done_in : List (Reply V) → List (Reply V)
+  done_in replies = filter (λ r. not (is_cut r)) replies
+
+  -- the replies of the logs to what was done, each beside whom it was given to
   abbrev pub answers_of : List (Log V) → List (ℕ × Reply V)
   answers_of logs = flat_map (λ log. map (λ r. (HOST, r)) log.posts
-      ++ flat_map (λ turn. flat_map (λ replies. map (λ r. (turn.system, r)) replies)
+      ++ flat_map (λ turn. flat_map (λ replies. map (λ r. (turn.system, r)) (done_in replies))
       (replies_of turn.outcome)) log.turns) logs
 
 module _ {V : Type 0} {values : Values V} where
-  -- the steps of a run have the replies of its logs, in that order
+  -- the steps of a run have the replies of its logs to what was done, in that order
   abbrev pub AreAnswered : List (Frame V) → State values → Type 0
   AreAnswered frames s = map (λ x. (x.0, x.1.reply)) (run frames s).steps
       ≡ answers_of (run frames s).logs
