@@ -11,3 +11,5 @@ pub mod FootprintsHold
 pub mod LoansCover
 -- Turns that a behavior decides
 mod Deciding
+-- Turns that nothing cuts
+mod WholeTurns

@@ -53,7 +53,9 @@ pub trait Behavior: Drop {
     ghost remembered: { Memory → List (Reply Self.Value) → Memory };
 
     /// The next op of this turn, by the replies so far; None if the turn is over. A turn ends
-    /// after `MAX_OPS` ops, and before an op outside the access of its system.
+    /// after `MAX_OPS` ops, and before an op outside the access of its system. If no op is outside
+    /// it, and there is none after `MAX_OPS` replies, no turn is cut
+    /// (`laws::turns_within_bounds_are_whole`).
     fn next(
         &self,
         alloc: Global,
