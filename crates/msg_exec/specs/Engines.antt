@@ -37,8 +37,10 @@ module _ {S V : Type 0} (values : Values V) (meaning : S → Meaning V) where
   IsEngine e = IsSpoiled e ⊎ ((s : State values) × EngineStands meaning e s)
 
 module _ {S V : Type 0} {values : Values V} (meaning : S → Meaning V) where
-  -- From the state s the engine ran a frame: the log is the frame's on one thread, with all that a
-  -- run comes to, and the engine stands for the state that the frame leaves.
+  -- From the state s the engine ran a frame: the log is the frame's on one thread, the run of that
+  -- frame is complete, and the engine stands for the state that it leaves. What a complete run says
+  -- of steps and of entries it says of the log too: a run's log has their replies
+  -- (`AllAreAnswered`) and tells the entries (`LogsTellEntries`).
   pub record HasRunFrame (f : Frame V) (s : State values) (log : Log V)
       (e : EngineOf S V) : Type 0 where
     pub tells : log ≡ (frame f s).log
@@ -46,8 +48,8 @@ module _ {S V : Type 0} {values : Values V} (meaning : S → Meaning V) where
     pub stands : EngineStands meaning e (frame f s).state
 
   -- From the state s the engine replayed a frame in this order, which is lawful: the log tells the
-  -- same as the frame's, and each system what the frame tells it, with all that a run comes to, and
-  -- the engine stands for the state that the frame leaves.
+  -- same as the frame's, and each system what the frame tells it. The run of that frame is
+  -- complete, and the engine stands for the state that it leaves.
   pub record HasReplayed (f : Frame V) (order : List ℕ) (s : State values) (log : Log V)
       (e : EngineOf S V) : Type 0 where
     pub lawful : IsLawfulFor f s order
@@ -57,7 +59,7 @@ module _ {S V : Type 0} {values : Values V} (meaning : S → Meaning V) where
     pub complete : IsCompleteRun (f ∷ []) s
     pub stands : EngineStands meaning e (frame f s).state
 
-  -- From the state s the engine ran frames: it appended their logs, with all that a run comes to,
+  -- From the state s the engine ran frames: it appended the logs of their run, which is complete,
   -- and stands for the state that is left.
   pub record HasRunFrames (frames : List (Frame V)) (s : State values) (before after : List (Log V))
       (e : EngineOf S V) : Type 0 where
@@ -75,12 +77,15 @@ module _ {S V : Type 0} {values : Values V} (meaning : S → Meaning V) where
     pub counted : frame_number e ≡ frame_count (run (take ran frames) s).state
     pub spoiled : IsSpoiled e
 
-  -- Since the state s the engine ran or replayed these frames, in one call or in many.
+  -- What is left of a life since the state s, in which these frames were run or replayed, in one
+  -- call or in many: how the logs and the engine stand to the run of these frames, not what was
+  -- called. (`HasRunFrames` says exactly what a call appended that ran frames.)
   pub record HasRunSince (s : State values) (frames : List (Frame V)) (logs : List (Log V))
       (e : EngineOf S V) : Type 0 where
-    -- the logs tell the same as theirs on one thread
+    -- each log tells the same as that of its frame, which has its turns in the settled order; a log
+    -- may have them in another one, as that of a replay does
     pub tell : AllZip TellsTheSame logs (run frames s).logs
-    -- with all that a run comes to, whatever the frames
+    -- each run from s is complete, whatever its frames
     pub complete : (these : List (Frame V)) → IsCompleteRun these s
-    -- and the engine stands for the state that they leave
+    -- and the engine stands for the state that these frames leave
     pub stands : EngineStands meaning e (run frames s).state

@@ -1,12 +1,13 @@
 -- The calls of a file, one after another.
-use Rattle.std.proofs.Common.{◌≡◌, ℕ, ◌+◌, ◌<◌, ◌≤◌, List, ◌++◌, length, get_or, drop, append_assoc, append-nil, Option, true, arith, ℤ}
-use Rattle.std.proofs.lemmas.{List.drop_more, Grind.common_steps}
+use Rattle.std.proofs.Common.{◌≡◌, ℕ, ◌+◌, ◌<◌, ◌≤◌, List, [], ◌∷◌, ◌++◌, length, get_or, drop, take, append_assoc, append-nil, Option, true, ap, arith, refl, ℤ}
+use Rattle.std.proofs.lemmas.{List.drop_more, List.take_more, List.take_all, List.take-append-drop, Grind.common_steps}
 use Rattle.std.specs.Io.KnownBytes.{Appends}
 use Rattle.std.proofs.KnownBytes.{Appends-trans}
 use Rattle.msg_buffer.specs.Prelude.{Kept}
 use Rattle.msg_files.specs.inner.Running.{AreIn, TakesFront}
 use Rattle.msg_text.specs.Prelude.{AppendsPrefix}
-use Rattle.msg_files.specs.Prelude.{Call, BufferState, after, cursors_exist, line, made_by, text_of}
+use Rattle.msg_files.specs.Cursors.{CallsFile}
+use Rattle.msg_files.specs.Prelude.{Call, BufferState, TakesFirstLines, after, calls_text, cursors_exist, line, made_by, start, text_of}
 use Rattle.msg_text.proofs.Puts.{AppendsPrefix_after}
 
 -- a call makes as many places as it makes cursors
@@ -14,67 +15,101 @@ pub length-places_after : (call : Call) (s : BufferState)
     → length (after call s).places ≡ length s.places + made_by call
 length-places_after call s = grind (arith, common_steps)
 
--- what was put, what is gathered, and what the calls that are left print, is all of it
+-- the state after calls
+abbrev pub after_all : List Call → BufferState → BufferState
+after_all [] s = s
+after_all (call ∷ calls) s = after_all calls (after call s)
+
+after_all-append : (xs ys : List Call) (s : BufferState) → after_all (xs ++ ys) s ≡ after_all ys (after_all xs s)
+after_all-append [] ys s = refl
+after_all-append (x ∷ xs) ys s = after_all-append xs ys (after x s)
+
+text_of-append : (xs ys : List Call) (s : BufferState) → text_of (xs ++ ys) s ≡ text_of xs s ++ text_of ys (after_all xs s)
+text_of-append [] ys s = refl
+text_of-append (x ∷ xs) ys s = rw (text_of-append xs ys (after x s), append_assoc) refl
+
+-- what was put and what is gathered are the lines of the first calls, and the buffer is as these leave it
 pub record OnTheWay (before now : Option (List ℕ)) (messages : Kept ℤ) (cursors gathered : List ℕ)
-    (rest : List Call) (all : List ℕ) : Type 0 where
-  pub state : BufferState
+    (calls : List Call) (i : ℕ) (s : BufferState) : Type 0 where
   pub front : List ℕ
-  pub are_in : AreIn messages cursors state
+  pub are_in : AreIn messages cursors (after_all (take i calls) s)
   pub taken : Appends before now front
-  pub whole : front ++ (gathered ++ text_of rest state) ≡ all
-  pub exist : cursors_exist (length cursors) rest ≡ true
+  pub whole : front ++ gathered ≡ text_of (take i calls) s
+  pub exist : cursors_exist (length cursors) (drop i calls) ≡ true
 
 -- a line before the lines of the calls after it
 module _ (before now : Option (List ℕ)) (m : Kept ℤ) (cs gathered : List ℕ) (calls : List Call) (i : ℕ) (d : Call)
-    (all : List ℕ) (way : OnTheWay before now m cs gathered (drop i calls) all) (lt : i < length calls) where
+    (s : BufferState) (way : OnTheWay before now m cs gathered calls i s) (lt : i < length calls) where
   abbrev call_at : Call
   call_at = get_or calls i d
 
-  abbrev lines_after : List ℕ
-  lines_after = text_of (drop (i + 1) calls) (after call_at way.state)
+  abbrev here : BufferState
+  here = after_all (take i calls) s
 
-  parts : all ≡ way.front ++ ((gathered ++ line call_at way.state) ++ lines_after)
-  parts = grind (arith, way.whole, drop_more calls i d lt, append_assoc)
+  one : take (i + 1) calls ≡ take i calls ++ call_at ∷ []
+  one = take_more calls i d lt
+
+  line_more : text_of (take (i + 1) calls) s ≡ text_of (take i calls) s ++ line call_at here
+  line_more = rw (one, text_of-append, append-nil) refl
+
+  state_more : after_all (take (i + 1) calls) s ≡ after call_at here
+  state_more = rw (one, after_all-append) refl
+
+  parts : text_of calls s ≡ way.front ++ ((gathered ++ line call_at here) ++ text_of (drop (i + 1) calls) (after call_at here))
+  parts =
+      let all : text_of (take (i + 1) calls ++ drop (i + 1) calls) s ≡ text_of calls s = ap (λ xs. text_of xs s) (take-append-drop (i + 1) calls) in
+      let two = text_of-append (take (i + 1) calls) (drop (i + 1) calls) s in
+      grind (arith, all, two, line_more, state_more, way.whole, append_assoc)
 
   -- one call more
   pub OnTheWay_more : (now' : Option (List ℕ)) (m' : Kept ℤ) (cs' gathered' : List ℕ)
       → ((s : BufferState) → AreIn m cs s → AreIn m' cs' (after (get_or calls i d) s))
       → ((s : BufferState) → AreIn m cs s → TakesFront now now' (gathered ++ line (get_or calls i d) s) gathered')
-      → OnTheWay before now' m' cs' gathered' (drop (i + 1) calls) all
+      → OnTheWay before now' m' cs' gathered' calls (i + 1) s
   OnTheWay_more now' m' cs' gathered' state puts =
-      let s = way.state in
-      let are' = state s way.are_in in
-      let put = puts s way.are_in in
-      let longer = length-places_after call_at s in
+      let are' = state here way.are_in in
+      let put = puts here way.are_in in
+      let longer = length-places_after call_at here in
       record {
-        state = after call_at s;
         front = way.front ++ put.front;
-        are_in = are';
+        are_in = rw state_more are';
         taken = Appends-trans before now now' way.front put.front way.taken put.taken;
-        whole = grind (arith, parts, put.parts, append_assoc);
+        whole = grind (arith, line_more, way.whole, put.parts, append_assoc);
         exist = grind (arith, way.exist, way.are_in.places, are'.places, longer, drop_more calls i d lt);
       }
 
   -- a put that fails leaves a front of the whole text
-  pub OnTheWay_fails : (now' : Option (List ℕ))
+  pub OnTheWay_fails : (now' : Option (List ℕ)) (all : List ℕ)
       → ((s : BufferState) → AreIn m cs s → AppendsPrefix now now' (gathered ++ line (get_or calls i d) s))
-      → AppendsPrefix before now' all
-  OnTheWay_fails now' puts =
-      AppendsPrefix_after before now now' way.front (gathered ++ line call_at way.state) lines_after all
-      (grind (arith, parts, append_assoc)) way.taken (puts way.state way.are_in)
+      → all ≡ text_of calls s → AppendsPrefix before now' all
+  OnTheWay_fails now' all puts is =
+      AppendsPrefix_after before now now' way.front (gathered ++ line call_at here)
+      (text_of (drop (i + 1) calls) (after call_at here)) all
+      (grind (arith, is, parts, append_assoc)) way.taken (puts here way.are_in)
 
--- what is gathered goes before the lines that are left
-pub OnTheWay_stops : (before now now' : Option (List ℕ)) (m : Kept ℤ) (cs gathered : List ℕ) (rest : List Call)
-    (all : List ℕ) → OnTheWay before now m cs gathered rest all → AppendsPrefix now now' gathered
-    → AppendsPrefix before now' all
-OnTheWay_stops before now now' m cs gathered rest all way puts =
-    AppendsPrefix_after before now now' way.front gathered (text_of rest way.state) all
-    (grind (arith, way.whole, append_assoc)) way.taken puts
+-- the text of these calls, which are those of a file
+pub text_is : (file : CallsFile) (calls : List Call) → calls ≡ file.calls → calls_text file ≡ text_of calls (start file.limit)
+text_is file calls same = rw same refl
 
--- no call is left, and what is gathered was put
-pub OnTheWay_ends : (before now now' : Option (List ℕ)) (m : Kept ℤ) (cs gathered : List ℕ) (calls : List Call) (i : ℕ)
-    (all : List ℕ) → OnTheWay before now m cs gathered (drop i calls) all → length calls ≤ i → Appends now now' gathered
-    → Appends before now' all
-OnTheWay_ends before now now' m cs gathered calls i all way le puts =
-    let whole : way.front ++ gathered ≡ all = grind (arith, common_steps, way.whole, append-nil gathered) in
-    rw (← whole) (Appends-trans before now now' way.front gathered way.taken puts)
+module _ (before now now' : Option (List ℕ)) (m : Kept ℤ) (cs gathered : List ℕ) (file : CallsFile) (calls : List Call) (i : ℕ)
+    (way : OnTheWay before now m cs gathered calls i (start file.limit)) (same : calls ≡ file.calls) where
+  -- if there was no memory for a call, and what is gathered was put, the lines before it were taken
+  pub OnTheWay_short : i < length calls → Appends now now' gathered → TakesFirstLines before now' file
+  OnTheWay_short lt puts = record {
+    calls = i;
+    few = rw (← same) (omega (arith, lt));
+    lines = rw (← same, ← way.whole) (Appends-trans before now now' way.front gathered way.taken puts);
+  }
+
+  -- no call is left
+  module _ (le : length calls ≤ i) where
+    whole : way.front ++ gathered ≡ calls_text file
+    whole = rw (text_is file calls same, ← take_all i calls le) way.whole
+
+    pub OnTheWay_stops : AppendsPrefix now now' gathered → AppendsPrefix before now' (calls_text file)
+    OnTheWay_stops puts =
+        AppendsPrefix_after before now now' way.front gathered [] (calls_text file)
+        (rw (whole, append-nil) refl) way.taken puts
+
+    pub OnTheWay_ends : Appends now now' gathered → Appends before now' (calls_text file)
+    OnTheWay_ends puts = rw (← whole) (Appends-trans before now now' way.front gathered way.taken puts)

@@ -1,6 +1,7 @@
 -- The text that a calls file prints: a line for each call, over one history and the places of its
 -- cursors.
-use Rattle.std.specs.Prelude.{ℕ, ℤ, List, [], ◌∷◌, ◌++◌, length, slice_index, slice_set, Option, Some, None, codes, decimal, if◌then◌else◌}
+use Rattle.std.specs.Prelude.{ℕ, ℤ, ◌-◌, ◌≤◌, List, [], ◌∷◌, ◌++◌, length, slice_index, slice_set, take, Option, Some, None, codes, decimal, if◌then◌else◌}
+use Rattle.std.specs.Io.KnownBytes.{Appends}
 use Rattle.std.specs.Fmt.{signed_decimal}
 use Rattle.msg_buffer.specs.Prelude.{History, clear, count, current, empty, get, given, has_room, missed, next_place, oldest, present, read, unread, update, write}
 use Rattle.msg_buffer.specs.declared.Instance.{Instance}
@@ -119,3 +120,10 @@ start limit = record { history = empty limit; places = 0 ∷ [] }
 -- the text of a calls file
 abbrev pub calls_text : CallsFile → Text
 calls_text file = text_of file.calls (start file.limit)
+
+-- Known bytes grow by whole lines: those of the first calls of a file, but for the last call, if
+-- there is one.
+pub record TakesFirstLines (before now : Option (List ℕ)) (file : CallsFile) : Type 0 where
+  pub calls : ℕ
+  pub few : calls ≤ length file.calls - 1
+  pub lines : Appends before now (text_of (take calls file.calls) (start file.limit))

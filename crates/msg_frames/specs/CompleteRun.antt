@@ -36,7 +36,7 @@ module _ {V : Type 0} {values : Values V} where
   abbrev pub entries_in_run : ℕ → ℕ → List (Frame V) → State values → List (ReadEntry V)
   entries_in_run i t frames s = map (λ m. m.entry) (moments i t frames s)
 
--- What a run did for the reader of type t in system i.
+-- What a run did for system i in type t. One that doesn't read the type has no entry there.
 pub record IsServed {V : Type 0} {values : Values V} (i t : ℕ) (frames : List (Frame V))
     (s : State values) : Type 0 where
   -- Its entries tell each number from where it was found to its place: once, in order, no other.

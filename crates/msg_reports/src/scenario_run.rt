@@ -37,7 +37,9 @@ pub fn run_scenario<
     requires as_many { length systems.items ≡ length scenario.now.systems }
     requires each { EachIs (IsSystemAt X.meaning scenario.now.systems) systems.items }
 
-    // Whatever the workers and the gate, as `report` says. There was an engine then.
+    // Whatever the workers and the gate, as `report` says. There was an engine that stood for the
+    // first state of the scenario, and this is how the report left it. The call drops it: so
+    // `LeavesEngine` tells a caller that it was there, and no more.
     ensures leaves { IfOk result (λ came.
         (left : LeavesReport S.contents S.failures scenario.now came sink.old sink.new)
         × (before : EngineView X ℤ) × (after : EngineView X ℤ)

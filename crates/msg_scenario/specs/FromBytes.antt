@@ -8,7 +8,7 @@ use Rattle.msg_json.specs.declared.refusal.Refusal.TheVariants as refusal
 use Rattle.msg_text.specs.Prelude.{AppendsPrefix, one_failure_more}
 use Rattle.msg_text.specs.declared.report_fault.ReportFault.{ReportFault}
 use Rattle.msg_text.specs.declared.report_fault.ReportFault.TheVariants as report_fault
-use Rattle.msg_files.specs.Prelude.{calls_text, file_of}
+use Rattle.msg_files.specs.Prelude.{TakesFirstLines, calls_text, file_of}
 use Rattle.msg_files.specs.declared.calls.Calls.{Calls}
 use Rattle.msg_reading.specs.Prelude.{IsReadAs}
 use Rattle.msg_reports.specs.Prelude.{IsReported}
@@ -35,9 +35,11 @@ module _ {S : Type 0} (contents : S → Option (List ℕ)) (failures : S → ℕ
   pub record EndsAnswers (fault : ReportFault) (old new : S) : Type 0 where
     -- the sink took a front of the lines
     pub prefix : AppendsPrefix (contents old) (contents new) (calls_text calls)
-    -- one put failed if the fault says so; else none did, and there was no memory
+    -- one put failed if the fault says so; else none did, there was no memory for a call, and the
+    -- sink took the lines of those before it
     pub ended : ((fault ≡ report_fault.Write) × (failures new ≡ one_failure_more (failures old)))
-        ⊎ ((fault ≡ report_fault.NoMemory) × (failures new ≡ failures old))
+        ⊎ ((fault ≡ report_fault.NoMemory) × (failures new ≡ failures old)
+        × TakesFirstLines (contents old) (contents new) calls)
 
 -- The bytes are refused for this, if it is told which faults a value has: they are no JSON text, or
 -- they are the text of a value with such a fault; or memory was refused.

@@ -15,7 +15,7 @@ covers_kept op n l m keeps same covers =
 
 module _ {V : Type 0} {values : Values V} (next : List (Reply V) → Option (Op V)) (w : ℕ) (ps : ℕ → ℕ) (s : WorldState values) where
   -- if the rule says that the turn is over, it stays as it is
-  stays : (n k : ℕ) → k ≤ n → next (after_at_most k next w ps s).replies ≡ None → after_at_most n next w ps s
+  pub stays : (n k : ℕ) → k ≤ n → next (after_at_most k next w ps s).replies ≡ None → after_at_most n next w ps s
       ≡ after_at_most k next w ps s
   stays zero k le h = grind arith
   stays (suc n) k le h =

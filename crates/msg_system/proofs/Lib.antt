@@ -13,3 +13,5 @@ pub mod LoansCover
 mod Deciding
 -- A turn is over once its ops were done
 pub mod TurnsEnd
+-- Turns that nothing cuts
+mod WholeTurns

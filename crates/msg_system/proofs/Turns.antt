@@ -16,7 +16,7 @@ none_or_all : (holds : Part → Bool) (o : Option Part) → ((p : Part) → IsTr
     → IsTrue (is_none_or holds o)
 none_or_all holds o p = grind (arith, same_part_refl)
 
-op_kept : {V : Type 0} (ops : List (Op V)) (i : ℕ) (op : Op V) → slice_get ops i ≡ Some op → keeps_to (program_needs ops) op ≡ true
+pub op_kept : {V : Type 0} (ops : List (Op V)) (i : ℕ) (op : Op V) → slice_get ops i ≡ Some op → keeps_to (program_needs ops) op ≡ true
 op_kept ops i op is =
     let lt = slice_get_within ops i op is in
     let at = get_or_from_slice_get ops i op op is in

@@ -1,11 +1,11 @@
 -- What a system means, and what its turn is.
-use Rattle.std.specs.Prelude.{◌≡◌, ℕ, zero, suc, ◌≤◌, ◌++◌, Bool, true, false, ◌&&◌, nat_lt, Option, Some, None, option_and_then, option_map, option_to_list, unwrap_or, List, [], ◌∷◌, length, slice_get, if◌then◌else◌}
+use Rattle.std.specs.Prelude.{All, ◌≡◌, ℕ, zero, suc, ◌≤◌, ◌++◌, Bool, true, false, ◌&&◌, nat_lt, IsTrue, Option, Some, None, option_and_then, option_map, option_to_list, unwrap_or, List, [], ◌∷◌, length, map, slice_get, if◌then◌else◌}
 use Rattle.msg_world.specs.{declared.part.Part.TheVariants.OfType, Prelude.WorldState, Prelude.Values}
 use Rattle.msg_system.specs.{declared.limits.TheConstants.MAX_OPS, declared.op.Op.Op, declared.program.Program.Program, declared.reply.Reply.Reply, declared.start.Start.Start}
 use Rattle.msg_system.specs.declared.reply.Reply.TheVariants as reply
 use Rattle.msg_system.specs.declared.start.Start.TheVariants.{Zero, Current}
 use Rattle.msg_system.specs.Needs.{Needs, keeps_to, program_needs}
-use Rattle.msg_system.specs.Programs.{AfterOp, AfterProgram, after_op, after_program}
+use Rattle.msg_system.specs.Programs.{AfterOp, AfterProgram, Step, after_op, after_program}
 
 -- What a system does next, by the replies of its turns from now on, and by those so far of this
 -- turn; None ends the turn.
@@ -150,3 +150,38 @@ IsInOrder {V} values = (program : Program V) (writer : ℕ) (places : ℕ → �
     let m : Meaning V = of_program program writer places in
     (turn m s ≡ after_program program.ops writer places s)
     × (after_turn m s ≡ of_program program writer (turn m s).places)
+
+-- ---- turns that nothing cuts
+
+-- What a system's rule comes to on a world if nothing cuts it: it is asked by the replies so far,
+-- and each op that it gives is done, until it gives none.
+pub record IsUncut {V : Type 0} {values : Values V} (m : Meaning V) (s : WorldState values)
+    (done : AfterProgram values) : Type 0 where
+  pub asked : ℕ
+  pub far : done ≡ after_at_most asked (m.rule []) m.writer m.places s
+  pub ended : m.rule [] done.replies ≡ None
+
+-- Only two things cut a turn. If what its rule comes to is at most `MAX_OPS` ops, and each keeps to
+-- what the system needs, that is its turn.
+abbrev pub TurnsWithinBounds : {V : Type 0} → Values V → Type 0
+TurnsWithinBounds {V} values = (m : Meaning V) (s : WorldState values) (done : AfterProgram values)
+    → IsUncut m s done → length done.steps ≤ MAX_OPS
+    → All (λ step. IsTrue (keeps_to m.needs step.op)) done.steps → turn m s ≡ done
+
+-- Whatever it is told in its next turn, its rule gives only ops that keep to what the system needs,
+-- and none after `MAX_OPS` replies.
+pub record KeepsWithinBounds {V : Type 0} (m : Meaning V) : Type 0 where
+  pub kept : (replies : List (Reply V)) (op : Op V) → m.rule [] replies ≡ Some op
+      → IsTrue (keeps_to m.needs op)
+  pub ends : (replies : List (Reply V)) → length replies ≡ MAX_OPS → m.rule [] replies ≡ None
+
+-- The turn of such a system isn't cut, whatever the world.
+abbrev pub TurnsAreWhole : {V : Type 0} → Values V → Type 0
+TurnsAreWhole {V} values = (m : Meaning V) (s : WorldState values) → KeepsWithinBounds m
+    → IsUncut m s (turn m s)
+
+-- The turn of a system on a world isn't cut, and its ops are those that it tells.
+pub record IsWholeTurn {V : Type 0} {values : Values V} (m : Meaning V)
+    (s : WorldState values) : Type 0 where
+  pub uncut : IsUncut m s (turn m s)
+  pub all : map (λ (step : Step values). step.op) (turn m s).steps ≡ m.last

@@ -31,8 +31,8 @@ pub use cursors::Cursors;
 pub use guard::Guard;
 pub use job::{fits_world, job_access};
 pub use laws::{
-    a_program_is_its_ops_in_order, nothing_else_is_used, one_op_is_a_turn, open_loans_cover,
-    what_is_given_back_stands,
+    a_program_is_its_ops_in_order, a_programs_turn_is_whole, nothing_else_is_used,
+    one_op_is_a_turn, open_loans_cover, turns_within_bounds_are_whole, what_is_given_back_stands,
 };
 pub use lending::added_up;
 pub use limits::MAX_OPS;

@@ -2,7 +2,7 @@
 ghost use Rattle.std.specs.Prelude.{◌≡◌, ◌⊎◌, ◌++◌, if◌then◌else◌, Err, IfErr, OnOk, OnErr, length, true};
 ghost use Rattle.std.specs.Io.KnownBytes.{Appends};
 ghost use Rattle.msg_text.specs.Prelude.{AppendsPrefix, one_failure_more};
-ghost use Rattle.msg_files.specs.{inner.Running.AreIn, inner.Running.TakesFront, Prelude.BufferState, Prelude.after, Prelude.calls_text, Prelude.has_cursor, Prelude.line as line_of_call};
+ghost use Rattle.msg_files.specs.{inner.Running.AreIn, inner.Running.TakesFront, Prelude.BufferState, Prelude.TakesFirstLines, Prelude.after, Prelude.calls_text, Prelude.has_cursor, Prelude.line as line_of_call};
 
 use crate::call::Call;
 use crate::calls::Calls;
@@ -27,10 +27,13 @@ pub fn run_calls<S: Sink>(alloc: Global, calls: &Calls, sink: &mut S) -> Result<
     ensures prefix { OnErr result
         (AppendsPrefix (S.contents sink.old) (S.contents sink.new) (calls_text calls.now)) }
 
-    // The sink failed if the fault is `Write`, and not if it is `NoMemory`.
+    // The sink failed if the fault is `Write`, and not if it is `NoMemory`; then it took the lines of
+    // the calls before the one that there was no memory for.
     ensures write { result ≡ Err ReportFault.Write
         → S.failures sink.new ≡ one_failure_more (S.failures sink.old) }
     ensures memory { result ≡ Err ReportFault.NoMemory → S.failures sink.new ≡ S.failures sink.old }
+    ensures lines { result ≡ Err ReportFault.NoMemory
+        → TakesFirstLines (S.contents sink.old) (S.contents sink.new) calls.now }
     ensures faults { IfErr result
         (λ fault. (fault ≡ ReportFault.Write) ⊎ (fault ≡ ReportFault.NoMemory)) }
 {
@@ -76,6 +79,8 @@ fn answer_next<S: Sink>(
     ensures write { result ≡ Err ReportFault.Write
         → S.failures sink.new ≡ one_failure_more (S.failures sink.old) }
     ensures memory { result ≡ Err ReportFault.NoMemory → S.failures sink.new ≡ S.failures sink.old }
+    ensures lines { result ≡ Err ReportFault.NoMemory
+        → Appends (S.contents sink.old) (S.contents sink.new) gathered.old.items }
     ensures faults { IfErr result
         (λ fault. (fault ≡ ReportFault.Write) ⊎ (fault ≡ ReportFault.NoMemory)) }
 {
