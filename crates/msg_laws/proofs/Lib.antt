@@ -1,6 +1,8 @@
 -- ---- turns
 mod OrderOfTurns
 mod Drains
+mod ObserversOrder
+mod Observers
 -- ---- what runs tell of readers
 mod StepsAnswered
 mod LogsTell

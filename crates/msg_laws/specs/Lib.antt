@@ -5,4 +5,5 @@ pub mod ReaderLaws
 pub mod UpToDate
 pub mod WakeUps
 pub mod Latency
+pub mod Observers
 pub mod Rows

@@ -2,6 +2,7 @@
 pub use Rattle.msg_laws.specs.Fates.{EachMeetsOneFate, Fate, IsGivenOnce, IsInOrderOf, IsTiled, LogsTellEntries, Meets, MeetsOneFate, ReadersTile, WritersInOrder, log_entries, messages_given, numbered_given, numbers_at, numbers_of, told_to}
 pub use Rattle.msg_laws.specs.Fates.Fate.{cleared, given, missed}
 pub use Rattle.msg_laws.specs.Latency.{AllReadersHaveItNext, HasTaken, LaterReadersHaveItAtOnce, PostsAreTakenAtOnce}
+pub use Rattle.msg_laws.specs.Observers.{IsWithoutObserver, ObserversDisturbNobody, ObserversMayBeAdded, rules_without, without_turns_of}
 pub use Rattle.msg_laws.specs.ReaderLaws.{AccountsBalance, AccountsBeginAtTheStart, AllAreAnswered, AreAnswered, IsAtStart, LateReadersStart, NoneBeforeJoining, answers_of, done_in}
 pub use Rattle.msg_laws.specs.TurnLaws.{AreOrdered, DrainsTakeAll, FramesRunByBatches, LawfulOrdersAgree, ListsOnlyGrow, OrderIsSettled, RunsCompose, SameSystemsHaveSameAccesses, TurnsAreInOrder, TurnsKeepSystems, TurnsOfOthersCommute, by_batches}
 pub use Rattle.msg_laws.specs.UpToDate.{IsUpToDate, MissesNothing, NothingDrained, ReadsAll, ReadsAllInEach, WhoIsUpToDateMissesNothing, WhoReadsAllCatchesUp, WhoReadsAllHasTheFrameBefore, WhoReadsAllIsUpToDate, WhoReadsEachFrameMissesNothing, WhoseProgramReadsAll, reads_all}

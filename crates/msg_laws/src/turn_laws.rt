@@ -1,9 +1,10 @@
 //! Laws of turns and frames. Calling one makes its fact available to the caller's proof; it does
 //! nothing at run time.
 ghost use Rattle.msg_frames.specs.Prelude.{FramesKeepSystems};
-ghost use Rattle.msg_laws.specs.Prelude.{DrainsTakeAll, FramesRunByBatches, LawfulOrdersAgree, ListsOnlyGrow, OrderIsSettled, RunsCompose, SameSystemsHaveSameAccesses, TurnsAreInOrder, TurnsKeepSystems, TurnsOfOthersCommute};
+ghost use Rattle.msg_laws.specs.Prelude.{DrainsTakeAll, FramesRunByBatches, LawfulOrdersAgree, ListsOnlyGrow, ObserversDisturbNobody, ObserversMayBeAdded, OrderIsSettled, RunsCompose, SameSystemsHaveSameAccesses, TurnsAreInOrder, TurnsKeepSystems, TurnsOfOthersCommute};
 
 use msg_buffer::laws::histories_only_grow;
+use msg_system::nothing_else_is_used;
 use msg_world::{Record, Value};
 
 /// Turns keep the systems: what they need, where they start, their conditions, and the rules of
@@ -67,3 +68,13 @@ pub fn lists_only_grow<V: Value>()
 pub fn runs_compose<V: Value>()
     ensures law { RunsCompose V.values }
 {}
+
+/// A last system that writes nothing, and that no rule puts before another, changes nothing for the
+/// others: with it and without it they take the same turns in the same order, are answered the
+/// same, and leave the same world.
+pub fn observers_disturb_nobody<V: Value>()
+    ensures added { ObserversMayBeAdded V.values }
+    ensures law { ObserversDisturbNobody V.values }
+{
+    nothing_else_is_used::<V>();
+}
