@@ -2,6 +2,7 @@
 #![tactic(auto)]
 
 mod accounts;
+mod backlogs;
 mod batch;
 mod build_error;
 mod build_refusal;
@@ -29,7 +30,9 @@ pub use engine::{Engine, EngineOf};
 pub use host::Host;
 pub use loop_fault::LoopFault;
 pub use msg_buffer::NoMemory;
-pub use msg_frames::{Account, Frame, Items, LAST_JOIN, Log, Outcome, Place, Totals, Turn, laws};
+pub use msg_frames::{
+    Account, Backlog, Frame, Items, LAST_JOIN, Log, Outcome, Place, Totals, Turn, laws,
+};
 pub use msg_workers::{Gate, MAX_WORKERS, NoGate, Runs, Workers, work};
 pub use msg_world::RunFault;
 pub use side_by_side::Batch;

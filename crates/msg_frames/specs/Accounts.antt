@@ -1,8 +1,9 @@
 -- What callers see of what each reader was given.
-use Rattle.std.specs.Prelude.{Bool, List, flat_map, map, unwrap_or, ℕ, ◌+◌, ◌≡◌}
+use Rattle.std.specs.Prelude.{Bool, List, flat_map, length, map, unwrap_or, ℕ, ◌+◌, ◌≡◌}
 use Rattle.std.specs.List.{filter, range_with_len}
-use Rattle.msg_world.specs.{Prelude.Values, declared.part.Part.TheVariants.OfType}
-use Rattle.msg_frames.specs.{Frames.State, Moments.reader_place, declared.account.Account.Account, declared.totals.Totals.Totals}
+use Rattle.msg_buffer.specs.Prelude.{History, missed, unread}
+use Rattle.msg_world.specs.{Prelude.Values, declared.part.Part.TheVariants.OfType, declared.record.Record.Record}
+use Rattle.msg_frames.specs.{Frames.State, Moments.reader_place, declared.account.Account.Account, declared.backlog.Backlog.Backlog, declared.totals.Totals.Totals}
 
 module _ {V : Type 0} {values : Values V} where
   -- system i reads type t
@@ -30,6 +31,13 @@ module _ {V : Type 0} {values : Values V} where
   -- all of them, by system and then by type
   abbrev pub accounts_of : State values → List Account
   accounts_of s = flat_map (accounts_of_system s) (range_with_len 0 s.systems)
+
+module _ {V : Type 0} {values : Values V} where
+  -- what became of the messages past the place of an account
+  abbrev pub backlog_of : State values → Account → Backlog
+  backlog_of s a =
+      let h : History (Record V) = s.world.histories a.of_type in
+      record { lost = missed h a.place; unread = length (unread h a.place) }
 
 -- The start and all that the reader got, missed and cleared since add up to its place.
 abbrev pub AddsUp : Account → Type 0

@@ -10,3 +10,4 @@ pub mod CompleteRun
 pub mod Soundness
 pub mod Laws
 pub mod Accounts
+pub mod Logs

@@ -1,5 +1,5 @@
 -- Hands on the definitions cited elsewhere. The declared types serve this crate's proofs alone.
-pub use Rattle.msg_frames.specs.Accounts.{AddsUp, account_of, accounts_of, accounts_of_system, is_reader}
+pub use Rattle.msg_frames.specs.Accounts.{AddsUp, account_of, accounts_of, accounts_of_system, backlog_of, is_reader}
 pub use Rattle.msg_frames.specs.CompleteRun.{IsCompleteRun, IsServed, IsTrueEntry, entries_in_run, message_numbered}
 pub use Rattle.msg_frames.specs.Entries.{ReadEntry, entries_at, entry_for, entry_of, entry_of_read, no_totals, numbers_cleared, numbers_given, numbers_missed, numbers_passed, numbers_told, totals_from, with_entries}
 pub use Rattle.msg_frames.specs.FirstState.{IsNew, first_state, new_job, default_system, default_place, before_joining, waiting_member}
@@ -10,6 +10,7 @@ pub use Rattle.msg_frames.specs.Soundness.{IsBalanced, IsSoundState, NoCycle}
 pub use Rattle.msg_frames.specs.Steps.{IsWrittenOnce, all_written, answers_in, replies_of, told}
 pub use Rattle.msg_frames.specs.Moments.{GivesItsStretch, Moment, found_at, messages_of, moments, moments_at, reader_place}
 unfoldable pub use Rattle.msg_frames.specs.Frames.{parts, settled_order, turn_order}
+pub use Rattle.msg_frames.specs.Logs.{cut_of, turn_in, turn_replies}
 pub use Rattle.msg_frames.specs.LogEntries.{entries_for, entries_told, ops_by}
 pub use Rattle.msg_frames.specs.declared.frame.Frame.{Frame}
 pub use Rattle.msg_frames.specs.declared.log.Log.{Log}

@@ -2,6 +2,7 @@
 #![tactic(auto)]
 
 mod account;
+mod backlog;
 mod frame;
 pub mod laws;
 mod limits;
@@ -10,6 +11,7 @@ mod place;
 mod totals;
 
 pub use account::Account;
+pub use backlog::Backlog;
 pub use frame::Frame;
 pub use limits::LAST_JOIN;
 pub use log::{Log, Outcome, Turn};

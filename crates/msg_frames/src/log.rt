@@ -1,8 +1,12 @@
+ghost use Rattle.std.specs.Prelude.{◌≡◌};
+ghost use Rattle.std.specs.Option.{option_copied};
+ghost use Rattle.msg_frames.specs.Logs.{cut_of, turn_in, turn_replies};
+
 use crate::Items;
 use msg_system::Reply;
 
 /// What came of a system's turn: nothing, if one of its conditions didn't hold, or its replies,
-/// one for each op.
+/// one for each op. If the turn was cut, one more tells before which op, and why.
 #[derive(Debug, PartialEq, Eq, Drop)]
 pub enum Outcome<V = i64> {
     Skipped,
@@ -21,4 +25,40 @@ pub struct Turn<V = i64> {
 pub struct Log<V = i64> {
     pub posts: Items<Reply<V>>,
     pub turns: Items<Turn<V>>,
+}
+
+impl<V> Turn<V> {
+    /// Its replies; None if it was skipped.
+    pub fn replies(&self) -> Option<&[Reply<V>]>
+        ensures replies { option_copied result ≡ turn_replies self.now }
+    {
+        match &self.outcome {
+            Outcome::Skipped => None,
+            Outcome::Ran(replies) => Some(replies.as_slice()),
+        }
+    }
+
+    /// The reply that tells before which op the turn was cut, and why; None if it ended of itself.
+    pub fn cut(&self) -> Option<&Reply<V>>
+        ensures cut { option_copied result ≡ cut_of self.now }
+    {
+        let last = self.replies()?.last()?;
+        last.is_cut().then_some(last)
+    }
+}
+
+impl<V> Log<V> {
+    /// The turn of the system with this number; None if it hadn't joined.
+    ///
+    /// ```
+    /// let shot = log.turn_of(tower).and_then(|turn| turn.replies());
+    /// ```
+    pub fn turn_of(&self, system: u32) -> Option<&Turn<V>>
+        ensures turn { option_copied result ≡ turn_in system self.now }
+    {
+        self.turns
+            .as_slice()
+            .iter()
+            .find(|turn| turn.system == system)
+    }
 }
