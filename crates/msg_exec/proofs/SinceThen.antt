@@ -1,5 +1,5 @@
 -- Calls in a row: what the engine did since a state is what it did before, and then what the call did.
-use Rattle.std.proofs.Common.{ℕ, List, [], ◌∷◌, ◌++◌, append_assoc, append-nil, refl, sym}
+use Rattle.std.proofs.Common.{ap, ℕ, List, [], ◌∷◌, ◌++◌, ◌≡◌, append_assoc, append-nil, refl, sym}
 use Rattle.std.specs.List.{AllZip}
 use Rattle.std.proofs.lemmas.List.{Elements.AllZip-push, Sorted.IsPermutation-refl}
 use Rattle.msg_system.specs.Prelude.{Meaning}
@@ -42,6 +42,15 @@ module _ {S V : Type 0} {values : Values V} (meaning : S → Meaning V) where
     complete = runs_are_complete [] s (is_sound meaning e s stands);
     stands = stands;
   }
+
+  -- logs that are exactly those of the run since a state stay so as frames are run
+  pub exact_then : (old new : EngineOf S V) (s : State values) (before frames : List (Frame V)) (earlier after : List (Log V))
+      → HasRunSince meaning s before earlier old → earlier ≡ (run before s).logs
+      → ((u : State values) → EngineStands meaning old u → HasRunFrames meaning frames u earlier after new)
+      → after ≡ (run (before ++ frames) s).logs
+  exact_then old new s before frames earlier after far exact ran =
+      let then = ran (run before s).state far.stands in
+      rw (then.appended, run_append) (ap (λ logs. logs ++ (run frames (run before s).state).logs) exact)
 
   module _ (old new : EngineOf S V) where
     pub since_frame : (f : Frame V) (log : Log V) → ((u : State values) → EngineStands meaning old u → HasRunFrame meaning f u log new)

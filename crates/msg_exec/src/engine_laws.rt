@@ -3,7 +3,7 @@ ghost use Rattle.std.specs.Prelude.{◌≡◌, ◌<◌, ◌↔◌, ◌++◌, ◌
 ghost use Rattle.msg_world.specs.declared.record.TheConstants.{HOST};
 ghost use Rattle.msg_exec.specs.Prelude.{EngineOf as EngineView, EngineStands, HasRunFrame, HasRunFrames, HasRunSince, IsSpoiled, PostsFit, frame_count, frame_number};
 ghost use Rattle.msg_exec.specs.Hosts.{IsSettled, LoopsAgree};
-ghost use Rattle.msg_frames.specs.Prelude.{IsSoundState, State};
+ghost use Rattle.msg_frames.specs.Prelude.{IsSoundState, State, run};
 ghost use Rattle.msg_frames.specs.declared.frame.Frame.{Frame as FrameView};
 ghost use Rattle.msg_frames.specs.declared.log.Log.{Log as LogView};
 
@@ -35,7 +35,8 @@ pub fn engines_stand<S: SystemOf>()
 {}
 
 /// No frames, and frames and one more: so a loop over `run_frame` says of its logs what
-/// `run_frames` says of those that it appends.
+/// `run_frames` says of those that it appends. If the logs since a state are exactly those of its
+/// run, and not only but for the order of turns, they stay so as frames are run.
 pub fn frames_run_one_by_one<S: SystemOf>()
     ensures none { (e : EngineView S S.Value) (s : State S.Value.values)
         (logs : List (LogView S.Value))
@@ -47,6 +48,12 @@ pub fn frames_run_one_by_one<S: SystemOf>()
         → ((u : State S.Value.values) → EngineStands S.meaning old u
         → HasRunFrame S.meaning frame u log new)
         → HasRunFrames S.meaning (frames ++ frame ∷ []) s before (logs ++ log ∷ []) new }
+    ensures exact { (old new : EngineView S S.Value) (s : State S.Value.values)
+        (before frames : List (FrameView S.Value)) (earlier after : List (LogView S.Value))
+        → HasRunSince S.meaning s before earlier old → earlier ≡ (run before s).logs
+        → ((u : State S.Value.values) → EngineStands S.meaning old u
+        → HasRunFrames S.meaning frames u earlier after new)
+        → after ≡ (run (before ++ frames) s).logs }
 {}
 
 /// If a host is settled by what it is told, a loop before it is the same whatever the workers: two
