@@ -9,6 +9,8 @@ mod alternating;
 #[cfg(test)]
 mod beacons;
 #[cfg(test)]
+mod boxes;
+#[cfg(test)]
 mod building;
 #[cfg(test)]
 mod cases;

@@ -5,8 +5,9 @@ use crate::equal::{Have, expect_eq, expect_text};
 use msg_buffer::laws::{
     histories_only_grow, messages_outlive_one_update, readers_tile, reads_may_be_left,
 };
-use msg_buffer::{BatchRefusal, MessageCursor, MessageId, Messages, WriteRefusal};
+use msg_buffer::{BatchRefusal, MessageCursor, MessageId, Messages, WriteRefusal, Written};
 use std::process::Abort;
+use std::sync::atomic::{AtomicU64, Ordering};
 
 fn write_values(rt: &impl Abort, buffer: &mut Messages<i64>, values: &[i64]) {
     for value in values {
@@ -116,5 +117,32 @@ fn what_is_not_taken_stays_unread(rt: HostRuntime) {
     for (taken, place) in [(0, 2), (1, 3), (2, 4), (3, 5), (4, 5), (u64::MAX, 5)] {
         expect_left(rt, &buffer, taken, place);
     }
+    drop(buffer);
+}
+
+/// Two items are written, and for two more too few numbers are left: what makes the messages is
+/// asked once for each of the first two, and for nothing else.
+#[test]
+fn each_item_makes_one_message(rt: HostRuntime) {
+    let rt = &rt;
+    let asked = AtomicU64::new(0);
+    let message_of = |value: &i64| -> i64 {
+        asked.fetch_add(1, Ordering::SeqCst);
+        value.wrapping_mul(10)
+    };
+    let mut buffer = Messages::new(rt.alloc(), 3);
+    let wrote = buffer.write_each(&[5, 6], &message_of).ok();
+    expect_eq(rt, wrote, Some(Written { first: 0, n: 2 }));
+    let refused = buffer.write_each(&[7, 8], &message_of);
+    let is_spent = matches!(refused, Err(WriteRefusal::NumbersSpent(())));
+    expect_eq(rt, is_spent, true);
+    let none = buffer.write_each(&[], &message_of).ok();
+    expect_eq(rt, none, Some(Written { first: 2, n: 0 }));
+    expect_eq(rt, asked.load(Ordering::SeqCst), 2);
+    let written = (
+        buffer.get(MessageId(0)).copied(),
+        buffer.get(MessageId(1)).copied(),
+    );
+    expect_eq(rt, written, (Some(50), Some(60)));
     drop(buffer);
 }

@@ -11,6 +11,7 @@ mod boards;
 mod buffers;
 #[cfg(test)]
 mod equal;
+pub mod meeting;
 pub mod numbers;
 pub mod outcome;
 #[cfg(test)]

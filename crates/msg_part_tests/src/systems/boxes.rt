@@ -4,12 +4,13 @@ ghost use Rattle.std.specs.Prelude.{◌≤◌, length};
 use crate::equal::{Have, expect_eq};
 use crate::numbers::{res_no, type_no};
 use crate::worlds::lend;
+use msg_buffer::MessageId;
 use msg_system::{
     Items, MAX_OPS, Numbered, Op, Program, Relay, Reply, Scripted, Start, System, Tally,
     open_loans_cover,
 };
 use msg_world::laws::lent_parts_may_come_home;
-use msg_world::{Lent, TypeNo, World};
+use msg_world::{Lent, Record, TypeNo, World};
 use std::alloc::Global;
 use std::process::Abort;
 
@@ -101,6 +102,52 @@ fn a_list_of_four_boxes(rt: HostRuntime) {
     expect_eq(rt, text.as_str(), REPLIES);
     drop(text);
     expect_eq(rt, world.resource(r), Some(18));
+    drop(world);
+}
+
+/// Posts these values to a type that is home.
+fn post_all(rt: &impl Abort, world: &mut World, t: TypeNo, values: &[i64]) {
+    for value in values {
+        assert!(rt; world.messages(t).is_some());
+        world.post(t, *value).have(rt);
+    }
+}
+
+const FORWARDED: &str = "[Forwarded { took: Took { missed: 0, first: 0, items: Items { items: [\
+     Record { writer: 256, value: 1 }, Record { writer: 256, value: 2 }] } }, wrote: None }, \
+     Forwarded { took: Took { missed: 0, first: 2, items: Items { items: [\
+     Record { writer: 256, value: 3 }] } }, wrote: Some(Written { first: 0, n: 1 }) }]";
+
+/// A relay whose first turn finds too few numbers for what it reads, and whose second turn, after a
+/// post and no update, goes on behind that.
+#[test]
+fn a_relay_runs_twice(rt: HostRuntime) {
+    let rt = &rt;
+    let (t, u) = (type_no(0), type_no(1));
+    let mut world = World::new(rt.alloc(), &[10, 1], &[]).have(rt);
+    let mut relay = Relay::new(t, u, Start::Zero, 0);
+    let mut replies = Vec::new(rt.alloc());
+    for values in [&[1, 2].as_slice(), &[3].as_slice()] {
+        post_all(rt, &mut world, t, values);
+        run_once(rt, rt.alloc(), &mut world, &mut relay, &mut replies);
+    }
+    let text = format!(in rt.alloc(); "{replies:?}").have(rt);
+    drop(replies);
+    expect_eq(rt, text.as_str(), FORWARDED);
+    drop(text);
+    let messages = world.messages(u).have(rt);
+    let forwarded = (messages.count(), messages.get(MessageId(0)).copied());
+    expect_eq(
+        rt,
+        forwarded,
+        (
+            1,
+            Some(Record {
+                writer: 0,
+                value: 3,
+            }),
+        ),
+    );
     drop(world);
 }
 

@@ -1,0 +1,9 @@
+use Rattle.std.proofs.Common.{[], All, take}
+use Rattle.std.specs.Prelude.{ℤ}
+use Rattle.msg_system.specs.Prelude.{FitsWorld, with_conditions}
+use Rattle.msg_engine_tests.proofs.boxes.expect_fit.Given as goal
+
+abbrev pub invariant-loop-system : goal.invariant-loop-system
+invariant-loop-system g l =
+    All (λ x. FitsWorld l.types l.resources (with_conditions {V = ℤ} (g.S.SystemOf.meaning x).needs []))
+    (take l.system-index l.systems)
