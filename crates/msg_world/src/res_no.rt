@@ -36,6 +36,18 @@ impl ResNo {
         }
     }
 
+    /// The resource with this number, which is known to be one.
+    ///
+    /// ```
+    /// let gold = ResNo::of(1);
+    /// ```
+    pub fn of(number: u32) -> Self
+        requires valid { number < MAX_RESOURCES }
+        ensures value { result ≡ number }
+    {
+        ResNo { number }
+    }
+
     /// Its number, from 0 on.
     pub fn number(self) -> u32
         ensures number { result ≡ self }

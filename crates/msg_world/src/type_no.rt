@@ -35,6 +35,18 @@ impl TypeNo {
         }
     }
 
+    /// The type with this number, which is known to be one.
+    ///
+    /// ```
+    /// let hits = TypeNo::of(1);
+    /// ```
+    pub fn of(number: u32) -> Self
+        requires valid { number < MAX_TYPES }
+        ensures value { result ≡ number }
+    {
+        TypeNo { number }
+    }
+
     /// Its number, from 0 on.
     pub fn number(self) -> u32
         ensures number { result ≡ self }
