@@ -195,16 +195,23 @@ const ROWS: &[Row] = &[
             (&[1], false, Some(0), (0, 0)),
         ],
     },
-    // never more than 64 messages
+    // never more than 64 messages, and a reply that says so
     Row {
         writes: 65,
         join: 1,
         asks: false,
         frames: &[
-            (&[1], false, Some(64), (64, 0)),
-            (&[], false, Some(64), (0, 64)),
-            (&[1], false, Some(64), (64, 0)),
+            (&[1], false, Some(65), (64, 0)),
+            (&[], false, Some(65), (0, 64)),
+            (&[1], false, Some(65), (64, 0)),
         ],
+    },
+    // 64 messages are a whole turn
+    Row {
+        writes: 64,
+        join: 1,
+        asks: false,
+        frames: &[(&[1], false, Some(64), (64, 0))],
     },
     // nothing before they joined
     Row {
@@ -307,12 +314,12 @@ fn expect_alone<R: Threads + Sync + Abort + AllocGlobal>(
     }
 }
 
-/// Its second turn would write to a type outside its access: it ends before that.
+/// Its second turn would write to a type outside its access: it ends before that, and tells so.
 #[test]
 fn a_turn_ends_where_it_would_leave_its_access(rt: HostRuntime) {
     const FRAMES: &[Told<'static>] = &[
         (&[], "[0 wrote 1 from 0 wrote 1 from 1]"),
-        (&[], "[0]"),
+        (&[], "[0 Outside(Write(TypeNo { number: 1 }, 1))]"),
         (&[], "[0 wrote 1 from 2 wrote 1 from 3]"),
     ];
     let access = Access::none().with_write_type(type_no(0));
