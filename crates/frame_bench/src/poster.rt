@@ -1,5 +1,5 @@
 // Who gives the frames.
-use msg_exec::{Frame, Host, Items, Log, NoMemory};
+use msg_exec::{Frame, Host, Log, NoMemory};
 use msg_world::TypeNo;
 use std::alloc::Global;
 
@@ -34,8 +34,6 @@ impl Host for Poster {
         for _ in 0..self.posts {
             posts.push((self.to, 1))?;
         }
-        Ok(Some(Frame {
-            posts: Items::from_vec(posts),
-        }))
+        Ok(Some(Frame::of(posts)))
     }
 }

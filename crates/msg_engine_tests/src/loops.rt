@@ -1,7 +1,7 @@
 // Loops of the frames that a host gives: how each ends.
 use crate::equal::{expect_eq, expect_text};
-use crate::making::{quiet, readers, workers};
-use msg_exec::{Frame, Host, Items, Log, LoopFault, NoMemory, RunFault};
+use crate::making::{readers, workers};
+use msg_exec::{Frame, Host, Log, LoopFault, NoMemory, RunFault};
 use msg_part_tests::numbers::type_no;
 use std::alloc::Global;
 use std::process::Abort;
@@ -28,15 +28,13 @@ impl Host for Giver {
     fn next(&mut self, alloc: Global, _last: Option<&Log>) -> Result<Option<Frame>, NoMemory> {
         if self.frames > 0 {
             self.frames -= 1;
-            return Ok(Some(quiet(alloc)));
+            return Ok(Some(Frame::quiet(alloc)));
         }
         match self.then {
             Then::Ends => Ok(None),
             Then::PostsToNoType => {
                 let posts = Vec::from_slice(alloc, &[(type_no(9), 1)])?;
-                Ok(Some(Frame {
-                    posts: Items::from_vec(posts),
-                }))
+                Ok(Some(Frame::of(posts)))
             }
             Then::HasNoMemory => Err(NoMemory),
         }

@@ -186,22 +186,14 @@ pub fn frame_of<V: Value>(rt: &impl Abort, alloc: Global, posts: &[V]) -> Frame<
     for value in posts {
         all.push((type_no(0), *value)).expect(rt, "a post");
     }
-    let posts = Items::from_vec(all);
-    Frame { posts }
-}
-
-/// A frame without posts.
-pub fn quiet(alloc: Global) -> Frame {
-    Frame {
-        posts: Items::from_vec(Vec::new(alloc)),
-    }
+    Frame::of(all)
 }
 
 /// So many frames without posts.
 pub fn quiet_frames(rt: &impl Abort, alloc: Global, number: u32) -> Vec<Frame> {
     let mut frames = Vec::new(alloc);
     for _frame in 0..number {
-        frames.push(quiet(alloc)).expect(rt, "a frame");
+        frames.push(Frame::quiet(alloc)).expect(rt, "a frame");
     }
     frames
 }
@@ -278,7 +270,7 @@ pub fn run_two_quiet<R: Threads + Sync + Abort + AllocGlobal, S: SystemOf<Value 
     requires engine { IsEngine i64_values S.meaning engine.old }
     ensures engine { IsEngine i64_values S.meaning engine.new }
 {
-    let frames = [quiet(rt.alloc()), quiet(rt.alloc())];
+    let frames = [Frame::quiet(rt.alloc()), Frame::quiet(rt.alloc())];
     run_frames(rt, engine, &frames, number, &NoGate, logs)
 }
 

@@ -191,9 +191,9 @@ mod tests {
     use super::{run_both, run_life, run_waking};
     use crate::equal::expect_eq;
     use crate::expecting::replies_of;
-    use crate::making::{quiet, quiet_frames, workers};
+    use crate::making::{quiet_frames, workers};
     use crate::told::expect_accounts;
-    use msg_exec::Log;
+    use msg_exec::{Frame, Log};
     use std::panic::Expect;
     use std::process::Abort;
 
@@ -230,7 +230,7 @@ mod tests {
     fn a_life(rt: HostRuntime) {
         let rt = &rt;
         let frames = quiet_frames(rt, rt.alloc(), 2);
-        let last = quiet(rt.alloc());
+        let last = Frame::quiet(rt.alloc());
         let life = run_life(rt, rt.alloc(), &frames, &last, workers(rt, 2));
         drop((frames, last));
         let (accounts, engine) = life.expect(rt, "a life");

@@ -21,7 +21,7 @@ use std::thread::Threads;
 ///             return Ok(None);
 ///         }
 ///         let order = vec![in alloc; (self.orders, 1)]?;
-///         Ok(Some(Frame { posts: Items::from_vec(order) }))
+///         Ok(Some(Frame::of(order)))
 ///     }
 /// }
 /// ```

@@ -54,9 +54,7 @@ fn both<T: Drop>(rt: &(impl Abort + AllocGlobal), one: T, other: T) -> Items<T> 
 
 /// Two frames; in the second the host posts 6 to this type.
 fn frames(rt: &(impl Abort + AllocGlobal), posted: TypeNo) -> Items<Frame> {
-    let first = Frame {
-        posts: Items::from_vec(Vec::new(rt.alloc())),
-    };
+    let first = Frame::quiet(rt.alloc());
     let second = Frame {
         posts: only(rt, (posted, 6)),
     };
