@@ -7,6 +7,8 @@ pub mod adders;
 #[cfg(test)]
 mod alternating;
 #[cfg(test)]
+mod backlogs;
+#[cfg(test)]
 mod beacons;
 #[cfg(test)]
 mod boxes;
