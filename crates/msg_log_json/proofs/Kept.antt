@@ -3,8 +3,9 @@ use Rattle.std.proofs.Common.{◌≡◌, ℕ, ◌+◌, ◌<◌, ◌≤◌, ℤ, 
 use Rattle.std.specs.List.{enumerate_from}
 use Rattle.std.proofs.Math.ListN.{get_or-eq_default}
 use Rattle.std.proofs.lemmas.Bool.Decides.{nat_tests}
-use Rattle.msg_buffer.specs.Prelude.{History, Kept, StandsFor}
-use Rattle.msg_frames.specs.declared.account.Account.{Account}
+use Rattle.msg_buffer.specs.Prelude.{History, Kept, StandsFor, count, missed, unread}
+use Rattle.msg_buffer.proofs.Unread.{length-unread}
+use Rattle.msg_frames.specs.{Prelude.State, declared.account.Account.Account}
 use Rattle.msg_scenario_data.specs.declared.scenario.Scenario.{Scenario}
 use Rattle.msg_text.specs.Prelude.{Text}
 use Rattle.msg_world.specs.{Prelude.IsWhole, Prelude.Parts, Prelude.PartsStand, Prelude.WorldState, Prelude.i64_values, Prelude.slot, declared.part.Part.TheVariants.OfResource, declared.part.Part.TheVariants.OfType, declared.record.Record.Record}
@@ -37,10 +38,11 @@ resource_told name None value some stands = absurd cc
 resource_told name (Some v) value some stands = rw stands refl
 
 past_told : (o : Option (Kept (Record ℤ))) (h : History (Record ℤ)) (place : ℕ) → IsSome o
-    → IfSome o (λ k. StandsFor k h) → past_kept o place ≡ past_json h place
+    → IfSome o (λ k. StandsFor k h) → past_kept o place
+    ≡ past_json (record { lost = missed h place; unread = length (unread h place) }) (count h)
 unfolding past_kept
 past_told None h place some stands = absurd cc
-past_told (Some k) h place some stands = rw (stands.count, stands.oldest) refl
+past_told (Some k) h place some stands = rw (stands.count, stands.oldest, length-unread h place) refl
 
 module _ (s : Scenario) (world : Parts ℤ) (w : WorldState i64_values) (whole : IsWhole world)
     (stands : PartsStand world w) where
@@ -61,24 +63,26 @@ module _ (s : Scenario) (world : Parts ℤ) (w : WorldState i64_values) (whole :
       (λ k x lt. resource_told x.0 (slot (OfResource k) world) (w.resources k)
       (whole (OfResource k) (omega (arith, lt, many))) (stands (OfResource k)))
 
-  -- ---- readers
+-- ---- readers
 
+module _ (s : Scenario) (world : Parts ℤ) (now : State i64_values) (whole : IsWhole world)
+    (stands : PartsStand world now.world) where
   -- a type that isn't there has no text
   none_told : (t place : ℕ) → ¬ (t < length world.types) → past_kept (slot (OfType t) world) place ≡ []
   unfolding past_kept
   none_told t place out = rw (get_or-eq_default world.types None {n = t} (omega (arith, out))) refl
 
-  rest_told : (t place : ℕ) → past_kept (slot (OfType t) world) place ≡ rest_json (length world.types) w t place
-  rest_told t place = elim (nat_lt t (length world.types)) as (λ b. nat_lt t (length world.types) ≡ b
-      → past_kept (slot (OfType t) world) place ≡ rest_json (length world.types) w t place) [
+  rest_told : (a : Account) → past_kept (slot (OfType a.of_type) world) a.place ≡ rest_json (length world.types) now a
+  rest_told a = elim (nat_lt a.of_type (length world.types)) as (λ b. nat_lt a.of_type (length world.types) ≡ b
+      → past_kept (slot (OfType a.of_type) world) a.place ≡ rest_json (length world.types) now a) [
         | true ↦ λ is. rw is
-            (past_told (slot (OfType t) world) (w.histories t) place (whole (OfType t) (grind (arith, nat_tests, is)))
-            (stands (OfType t)))
-        | false ↦ λ is. rw is (none_told t place (grind (arith, nat_tests, is)))
+            (past_told (slot (OfType a.of_type) world) (now.world.histories a.of_type) a.place
+            (whole (OfType a.of_type) (grind (arith, nat_tests, is))) (stands (OfType a.of_type)))
+        | false ↦ λ is. rw is (none_told a.of_type a.place (grind (arith, nat_tests, is)))
       ] refl
 
   pub accounts_told : (accounts : List Account) → length world.types ≡ length s.types
-      → accounts_kept s world accounts ≡ listed (account_json s w) accounts
+      → accounts_kept s world accounts ≡ listed (account_json s now) accounts
   accounts_told accounts many =
-      alike (λ x. account_kept s world x.1) (λ x. account_json s w x.1) accounts
-      (λ k a lt. grind (arith, rest_told a.of_type a.place, many))
+      alike (λ x. account_kept s world x.1) (λ x. account_json s now x.1) accounts
+      (λ k a lt. grind (arith, rest_told a, many))

@@ -1,13 +1,13 @@
 -- What a frame came to, and what its readers were given, as lines of JSON. Names have no character
 -- that JSON writes in another way.
-use Rattle.std.specs.Prelude.{ℕ, zero, suc, ◌-◌, max, nat_lt, ℤ, List, [], ◌++◌, Option, Some, None, length, slice_get, zip, flat_map, codes, decimal, if◌then◌else◌}
+use Rattle.std.specs.Prelude.{ℕ, zero, suc, nat_lt, ℤ, List, [], ◌++◌, Option, Some, None, length, slice_get, zip, flat_map, codes, decimal, if◌then◌else◌}
 use Rattle.std.specs.{Fmt.signed_decimal, List.enumerate_from, Option.option_map_or}
 use Rattle.msg_buffer.specs.{Prelude.History, Prelude.count, Prelude.oldest, declared.instance.Written.Written}
 use Rattle.msg_world.specs.{Prelude.WorldState, Prelude.i64_values, declared.record.Record.Record}
 use Rattle.msg_system.specs.{declared.op.Op.Op, declared.reply.Took.Took, declared.reply.Reply.Reply}
 use Rattle.msg_system.specs.declared.op.Op.TheVariants as op
 use Rattle.msg_system.specs.declared.reply.Reply.TheVariants as reply
-use Rattle.msg_frames.specs.{declared.account.Account.Account, declared.frame.Frame.Frame, declared.log.Log.Log, declared.log.Turn.Turn}
+use Rattle.msg_frames.specs.{Prelude.State, Prelude.backlog_of, declared.account.Account.Account, declared.backlog.Backlog.Backlog, declared.frame.Frame.Frame, declared.log.Log.Log, declared.log.Turn.Turn}
 use Rattle.msg_frames.specs.declared.log.Outcome.{Outcome}
 use Rattle.msg_frames.specs.declared.log.Outcome.TheVariants.{Ran, Skipped}
 use Rattle.msg_text.specs.Prelude.{Text}
@@ -201,17 +201,18 @@ standing_json a (Some start) =
     ++ codes ",\"missed\":" ++ decimal a.missed ++ codes ",\"cleared\":" ++ decimal a.cleared
     ++ codes ",\"place\":" ++ decimal a.place
 
--- what there is past a place: how many were dropped, how many are kept, and how many were ever
--- written
-abbrev pub past_json : History (Record ℤ) → ℕ → Text
-past_json h place =
-    codes ",\"lost\":" ++ decimal (oldest h - place)
-    ++ codes ",\"unread\":" ++ decimal (count h - max (oldest h) place)
-    ++ codes ",\"written\":" ++ decimal (count h)
+-- what there is past a reader's place, of so many messages that were ever written: how many were
+-- dropped, and how many are kept
+abbrev pub past_json : Backlog → ℕ → Text
+past_json left written =
+    codes ",\"lost\":" ++ decimal left.lost ++ codes ",\"unread\":" ++ decimal left.unread
+    ++ codes ",\"written\":" ++ decimal written
 
--- the same of a type by its number, of so many; nothing of a type that isn't among them
-abbrev pub rest_json : ℕ → WorldState i64_values → ℕ → ℕ → Text
-rest_json types w t place = if nat_lt t types then past_json (w.histories t) place else []
+-- the same by an account; nothing of a type that isn't among so many
+abbrev pub rest_json : ℕ → State i64_values → Account → Text
+rest_json types now a =
+    if nat_lt a.of_type types
+    then past_json (backlog_of now a) (count (now.world.histories a.of_type)) else []
 
 -- which reader it is
 unfoldable pub reader_json : Scenario → Account → Text
@@ -220,12 +221,11 @@ reader_json s a =
     ++ type_name s a.of_type ++ codes "\""
 
 -- a reader
-abbrev pub account_json : Scenario → WorldState i64_values → Account → Text
-account_json s w a =
-    reader_json s a ++ standing_json a a.start
-    ++ rest_json (length s.types) w a.of_type a.place ++ codes "}"
+abbrev pub account_json : Scenario → State i64_values → Account → Text
+account_json s now a =
+    reader_json s a ++ standing_json a a.start ++ rest_json (length s.types) now a ++ codes "}"
 
 -- the line of the readers
-abbrev pub readers_line : Scenario → List Account → WorldState i64_values → Text
-readers_line s accounts w =
-    codes "{\"readers\":[" ++ listed (account_json s w) accounts ++ codes "]}\n"
+abbrev pub readers_line : Scenario → List Account → State i64_values → Text
+readers_line s accounts now =
+    codes "{\"readers\":[" ++ listed (account_json s now) accounts ++ codes "]}\n"

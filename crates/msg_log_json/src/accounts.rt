@@ -1,6 +1,7 @@
 // The line of the readers.
 ghost use Rattle.std.specs.Prelude.{◌≡◌, ◌++◌, OnOk, codes, length};
-ghost use Rattle.msg_world.specs.Prelude.{IsWhole, PartsStand, WorldState, i64_values, slot};
+ghost use Rattle.msg_frames.specs.Prelude.{State};
+ghost use Rattle.msg_world.specs.Prelude.{IsWhole, PartsStand, i64_values, slot};
 ghost use Rattle.msg_world.specs.declared.part.Part.TheVariants.{OfType};
 ghost use Rattle.msg_log_json.specs.Prelude as Spec;
 ghost use Rattle.msg_log_json.specs.inner.KeptJson.{account_kept, accounts_kept, past_kept};
@@ -23,8 +24,8 @@ pub fn add_readers_line(
     requires whole { IsWhole world.now }
     requires types { length world.now.types ≡ length scenario.now.types }
     ensures appends { OnOk result
-        ((w : WorldState i64_values) → PartsStand world.now w
-        → text.new.items ≡ text.old.items ++ Spec.readers_line scenario.now accounts.now w) }
+        ((now : State i64_values) → PartsStand world.now now.world
+        → text.new.items ≡ text.old.items ++ Spec.readers_line scenario.now accounts.now now) }
 {
     text.extend_from_slice(b"{\"readers\":[")?;
     add_accounts(text, scenario, accounts, world)?;
@@ -105,7 +106,7 @@ fn add_past(text: &mut Vec<u8>, of_type: TypeNo, place: u64, world: &World) -> R
     add_count(
         text,
         b",\"unread\":",
-        count.saturating_sub(oldest.max(place)),
+        count.saturating_sub(place.max(oldest)),
     )?;
     add_count(text, b",\"written\":", count)
 }

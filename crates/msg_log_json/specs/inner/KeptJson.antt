@@ -5,7 +5,7 @@ use Rattle.msg_frames.specs.declared.account.Account.{Account}
 use Rattle.msg_world.specs.{Prelude.Parts, Prelude.slot, declared.part.Part.TheVariants.OfResource, declared.part.Part.TheVariants.OfType, declared.record.Record.Record}
 use Rattle.msg_scenario_data.specs.declared.scenario.Scenario.{Scenario}
 use Rattle.msg_text.specs.Prelude.{Text}
-use Rattle.msg_log_json.specs.LogJson.{kept_json, listed, numbered, reader_json, resource_json, standing_json}
+use Rattle.msg_log_json.specs.LogJson.{kept_json, listed, numbered, past_json, reader_json, resource_json, standing_json}
 
 -- a type by its name, by what is kept of it
 abbrev pub type_kept : Text → Option (Kept (Record ℤ)) → Text
@@ -30,9 +30,10 @@ resources_kept s world =
 unfoldable pub past_kept : Option (Kept (Record ℤ)) → ℕ → Text
 past_kept None place = []
 past_kept (Some k) place =
-    codes ",\"lost\":" ++ decimal (k.oldest - place)
-    ++ codes ",\"unread\":" ++ decimal (kept_count k - max k.oldest place)
-    ++ codes ",\"written\":" ++ decimal (kept_count k)
+    past_json (record {
+      lost = k.oldest - place;
+      unread = kept_count k - max place k.oldest;
+    }) (kept_count k)
 
 -- a reader
 abbrev pub account_kept : Scenario → Parts ℤ → Account → Text
