@@ -1,8 +1,8 @@
 // Refuses one request for memory of the program that loads this library: the one whose number the variable REFUSED
 // gives, counted from 1. Only requests of the program's own code count, and none of the C library. Where the request
-// is made, the file that REFUSED_MARK names is made too. At the end the file that REQUESTS names gets one line: how many
-// requests were made, for how many bytes in all, how many blocks of memory were never given back, and how many threads
-// were started.
+// is made, the file that REFUSED_MARK names is made too. At the end the file that REQUESTS names gets one line: how
+// many requests were made, for how many bytes in all, how many blocks of memory were never given back, and how many
+// threads were started.
 #define _GNU_SOURCE
 #include <dlfcn.h>
 #include <fcntl.h>

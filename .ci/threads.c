@@ -1,7 +1,7 @@
-// Counts the threads that the program which loads this library starts: the file that THREADS names has a `t` for each.
-// If HELD is a number, a thread that has started others waits at each request for so many bytes or more until these have
-// ended. So a job that makes such a request lasts until all jobs are done but those that others were as long over,
-// however short they are and whatever else the machine does. The file has an `h` where the first thread makes such a
+// Counts the threads that the program which loads this library starts: the file that THREADS names has a `t` for
+// each. If HELD is a number, a thread that has started others waits at each request for so many bytes or more until
+// these have ended. So a job that makes such a request lasts until the others have run all jobs that are left,
+// however short these are and whatever else the machine does. The file has an `h` where the first thread makes such a
 // request after it has started others and before it waits for their end itself, and a `w` for each write on standard
 // output.
 #define _GNU_SOURCE
