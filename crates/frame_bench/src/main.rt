@@ -2,9 +2,10 @@
 //! takes for a job: by `valgrind --tool=callgrind`, once for some frames and once for twice as
 //! many. It prints how many turns were taken, and how many messages were written and read.
 //!
-//! `frame_bench KIND FRAMES`, where KIND says what each system does in its turn: `idle` nothing,
-//! `skipped` has a condition that doesn't hold, `get` gets a resource, `len` asks for a length,
-//! `write` writes a message, `read` reads two by a script, and `decide` reads two by a behavior.
+//! `frame_bench KIND FRAMES [WORKERS]`, where KIND says what each system does in its turn: `idle`
+//! nothing, `skipped` has a condition that doesn't hold, `get` gets a resource, `len` asks for a
+//! length, `write` writes a message, `batch` writes 1,024, `read` reads two by a script, `limited`
+//! reads one of two, and `decide` reads two by a behavior. On one worker, or on that many.
 #![tactic(auto)]
 
 mod poster;
@@ -50,14 +51,28 @@ fn reading(alloc: Global, from: TypeNo) -> BehaviorSystem<Reading> {
     BehaviorSystem::new(alloc, Reading { from }, access, Start::Zero, 0)
 }
 
+/// A batch of 1,024 values.
+fn batch(alloc: Global, own: TypeNo) -> Result<Op, NoMemory> {
+    let values = Vec::from_slice(alloc, &[1; 1024])?;
+    Ok(Op::Batch(own, Items::from_vec(values)))
+}
+
 /// What a script of this kind does in its turn.
-fn op_of(kind: &str, own: TypeNo, shared: TypeNo, r: ResNo) -> anyhow::Result<Option<Op>> {
+fn op_of(
+    alloc: Global,
+    kind: &str,
+    own: TypeNo,
+    shared: TypeNo,
+    r: ResNo,
+) -> anyhow::Result<Option<Op>> {
     Ok(match kind {
         "idle" | "skipped" => None,
         "get" => Some(Op::Get(r)),
         "len" => Some(Op::Len(shared)),
         "write" => Some(Op::Write(own, 1)),
+        "batch" => Some(batch(alloc, own)?),
         "read" => Some(Op::Read(shared, None)),
+        "limited" => Some(Op::Read(shared, Some(1))),
         _ => bail!("no kind has this name"),
     })
 }
@@ -88,10 +103,11 @@ fn bench<R: Threads + AllocGlobal + Print + Sync, S: Numbered + SystemOf<Value =
     rt: &R,
     systems: EngineBuilder<S>,
     mut poster: Poster,
+    workers: Workers,
 ) -> anyhow::Result<()> {
     let world = World::new(rt.alloc(), &[1_000_000; 64], &[0])?;
     let mut engine = systems.build(world)?;
-    engine.run_loop(rt, &mut poster, u64::MAX, Workers::new(1).unwrap())?;
+    engine.run_loop(rt, &mut poster, u64::MAX, workers)?;
     tell(rt, &engine, poster.turns)
 }
 
@@ -123,7 +139,7 @@ fn add_script(
     shared: TypeNo,
     r: ResNo,
 ) -> anyhow::Result<()> {
-    let system = script(alloc, op_of(kind, own, shared, r)?)?;
+    let system = script(alloc, op_of(alloc, kind, own, shared, r)?)?;
     systems.add_system(system, conditions_of(alloc, kind, r)?, 1)?;
     Ok(())
 }
@@ -148,12 +164,13 @@ fn run<R: Threads + AllocGlobal + Print + Sync>(
     rt: &R,
     kind: &str,
     frames: u64,
+    workers: Workers,
 ) -> anyhow::Result<()> {
     let alloc = rt.alloc();
     let (shared, r) = (TypeNo::new(0).unwrap(), ResNo::new(0).unwrap());
     let poster = Poster {
         left: frames,
-        posts: if kind == "read" || kind == "decide" {
+        posts: if kind == "read" || kind == "limited" || kind == "decide" {
             2
         } else {
             0
@@ -162,16 +179,28 @@ fn run<R: Threads + AllocGlobal + Print + Sync>(
         turns: 0,
     };
     if kind == "decide" {
-        bench(rt, readers(alloc, shared)?, poster)
+        bench(rt, readers(alloc, shared)?, poster, workers)
     } else {
-        bench(rt, scripts(alloc, kind, shared, r)?, poster)
+        bench(rt, scripts(alloc, kind, shared, r)?, poster, workers)
     }
 }
 
 fn main(rt: HostRuntime) -> anyhow::Result<()> {
     let words: Vec<String> = env::args(&rt)?.skip(1).collect(rt.alloc())?;
-    let [kind, frames] = words.as_slice() else {
-        bail!("wanted a kind and a number of frames");
+    let (kind, frames, workers) = match words.as_slice() {
+        [kind, frames] => (kind, frames, 1),
+        [kind, frames, workers] => (
+            kind,
+            frames,
+            workers.parse().context("a number of workers")?,
+        ),
+        _ => bail!("wanted a kind, a number of frames, and one of workers or none"),
     };
-    run(&rt, kind, frames.parse().context("a number of frames")?)
+    let workers = Workers::new(workers).context("from 1 to 64 workers")?;
+    run(
+        &rt,
+        kind,
+        frames.parse().context("a number of frames")?,
+        workers,
+    )
 }
