@@ -6,3 +6,5 @@ pub mod Lists
 pub mod Uses
 -- Turns of a function's system
 pub mod FunctionTurns
+-- What is put into an answer
+pub mod Putting

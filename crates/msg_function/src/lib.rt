@@ -11,6 +11,7 @@ mod laws;
 mod outbox;
 mod port;
 mod ports;
+pub mod ready;
 mod turn;
 
 pub use either::Either;
