@@ -153,9 +153,7 @@ impl Host for Follower {
         self.frames -= 1;
         let value = last.map_or(7, |log| digits_of(log.turns.as_slice()));
         let posts = Vec::from_slice(alloc, &[(type_no(0), value)])?;
-        Ok(Some(Frame {
-            posts: Items::from_vec(posts),
-        }))
+        Ok(Some(Frame::of(posts)))
     }
 }
 
