@@ -6,9 +6,7 @@ ghost use Rattle.msg_world.specs.Prelude.{i64_values};
 use crate::equal::{expect_eq, expect_text};
 use crate::making::{Act, Does, add, engine_over, readers, scripted_engine, workers};
 use crate::told::expect_engine;
-use msg_exec::{
-    EngineBuilder, EngineOf, Frame, Host, Log, LoopFault, NoMemory, RunFault, Turn,
-};
+use msg_exec::{EngineBuilder, EngineOf, Frame, Host, Log, LoopFault, NoMemory, RunFault, Turn};
 use msg_order::Rule;
 use msg_part_tests::meeting::Meeting;
 use msg_part_tests::numbers::type_no;
