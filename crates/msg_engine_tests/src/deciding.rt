@@ -119,9 +119,9 @@ impl Behavior for Asked {
     }
 }
 
-/// How many messages each of two systems writes in a turn, and how often it is asked for an op: once
-/// for each, and once more unless the turn has as many as may be.
-const ASKED: &[(u64, u64)] = &[(0, 1), (1, 2), (3, 4), (63, 64), (64, 64), (65, 64)];
+/// How many messages each of two systems would write in a turn, and how often it is asked for an op:
+/// once for each that it writes, and once more.
+const ASKED: &[(u64, u64)] = &[(0, 1), (1, 2), (3, 4), (63, 64), (64, 65), (65, 65)];
 
 /// A system that writes so many messages to this type.
 fn asked_system(
