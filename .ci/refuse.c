@@ -1,17 +1,20 @@
 // Refuses one request for memory of the program that loads this library: the one whose number the variable REFUSED
 // gives, counted from 1. Only requests of the program's own code count, and none of the C library. Where the request
-// is made, the file that REFUSED_MARK names is made too. At the end the file that REQUESTS names gets one line: how many
-// requests were made, and for how many bytes in all.
+// is made, the file that REFUSED_MARK names is made too. At the end the file that REQUESTS names gets one line: how
+// many requests were made, for how many bytes in all, how many blocks of memory were never given back, and how many
+// threads were started.
 #define _GNU_SOURCE
+#include <dlfcn.h>
 #include <fcntl.h>
 #include <link.h>
+#include <pthread.h>
 #include <stdatomic.h>
 #include <stdio.h>
 #include <stdlib.h>
 #include <sys/syscall.h>
 #include <unistd.h>
 
-static atomic_long made, bytes;
+static atomic_long made, bytes, kept, started;
 static long refused;
 static const char *mark;
 static char *first, *last;
@@ -42,15 +45,28 @@ void _exit(int status) {
     const char *name = getenv("REQUESTS");
     FILE *file = name ? fopen(name, "w") : NULL;
     if (file) {
-        fprintf(file, "%ld %ld\n", atomic_load(&made), atomic_load(&bytes));
+        fprintf(file, "%ld %ld %ld %ld\n", atomic_load(&made), atomic_load(&bytes), atomic_load(&kept),
+                atomic_load(&started));
         fclose(file);
     }
     syscall(SYS_exit_group, status);
     __builtin_unreachable();
 }
 
+typedef int starter(pthread_t *, const pthread_attr_t *, void *(*)(void *), void *);
+
+int pthread_create(pthread_t *thread, const pthread_attr_t *attr, void *(*run)(void *), void *with) {
+    starter *start = (starter *)dlsym(RTLD_NEXT, "pthread_create");
+    atomic_fetch_add(&started, 1);
+    return start(thread, attr, run, with);
+}
+
+static int is_own(char *caller) {
+    return first <= caller && caller < last;
+}
+
 static int is_refused(char *caller, size_t size) {
-    if (caller < first || last <= caller)
+    if (!is_own(caller))
         return 0;
     atomic_fetch_add(&bytes, (long)size);
     if (atomic_fetch_add(&made, 1) + 1 != refused)
@@ -62,11 +78,26 @@ static int is_refused(char *caller, size_t size) {
 
 extern void *__libc_malloc(size_t);
 extern void *__libc_realloc(void *, size_t);
+extern void __libc_free(void *);
 
 void *malloc(size_t size) {
-    return is_refused(__builtin_return_address(0), size) ? NULL : __libc_malloc(size);
+    char *caller = __builtin_return_address(0);
+    void *block = is_refused(caller, size) ? NULL : __libc_malloc(size);
+    if (block && is_own(caller))
+        atomic_fetch_add(&kept, 1);
+    return block;
 }
 
 void *realloc(void *old, size_t size) {
-    return is_refused(__builtin_return_address(0), size) ? NULL : __libc_realloc(old, size);
+    char *caller = __builtin_return_address(0);
+    void *block = is_refused(caller, size) ? NULL : __libc_realloc(old, size);
+    if (block && !old && is_own(caller))
+        atomic_fetch_add(&kept, 1);
+    return block;
+}
+
+void free(void *block) {
+    if (block && is_own(__builtin_return_address(0)))
+        atomic_fetch_sub(&kept, 1);
+    __libc_free(block);
 }

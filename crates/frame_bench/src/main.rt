@@ -2,15 +2,24 @@
 //! takes for a job: by `valgrind --tool=callgrind`, once for some frames and once for twice as
 //! many. It prints how many turns were taken, and how many messages were written and read.
 //!
-//! `frame_bench KIND FRAMES`, where KIND says what each system does in its turn: `idle` nothing,
-//! `skipped` has a condition that doesn't hold, `get` gets a resource, `len` asks for a length,
-//! `write` writes a message, `read` reads two by a script, and `decide` reads two by a behavior.
+//! `frame_bench KIND FRAMES [WORKERS]`, where KIND says what each system does in its turn: `idle`
+//! nothing, `skipped` has a condition that doesn't hold, `get` gets a resource, `len` asks for a
+//! length, `write` writes a message, `batch` writes 1,024, `read` reads two by a script, `limited`
+//! reads one of two, and `decide` reads two by a behavior. Of `boxed` each system is in a box, and
+//! half of them read by a script and half by a behavior. On one worker, or on that many.
 #![tactic(auto)]
 
+ghost use Rattle.std.specs.Prelude.{IfOk};
+ghost use Rattle.msg_exec.specs.Prelude.{IsEngine};
+ghost use Rattle.msg_frames.specs.Prelude.{IsNew};
+ghost use Rattle.msg_world.specs.Prelude.{IsWhole, i64_values};
+
+mod boxes;
 mod poster;
 mod reader;
 
 use anyhow::{Context, bail};
+use boxes::run_boxes;
 use msg_exec::{EngineBuilder, EngineOf, Workers};
 use msg_system::{
     Access, BehaviorSystem, Condition, Items, NoMemory, Numbered, Op, Probe, Program, Scripted,
@@ -28,8 +37,10 @@ use std::thread::Threads;
 /// How many systems there are, and as many types.
 const SYSTEMS: u32 = 64;
 
-/// A script of at most one op.
-fn script(alloc: Global, op: Option<Op>) -> Result<Scripted, NoMemory> {
+/// A script of at most one op, which writes as this number.
+fn script(alloc: Global, op: Option<Op>, number: u32) -> Result<Scripted, NoMemory>
+    ensures new { IfOk result (λ s. IsNew number (⟦<Scripted as SystemOf>⟧.meaning s)) }
+{
     let mut ops = Vec::new(alloc);
     if let Some(op) = op {
         ops.push(op)?;
@@ -40,24 +51,40 @@ fn script(alloc: Global, op: Option<Op>) -> Result<Scripted, NoMemory> {
             ops,
             start: Start::Zero,
         },
-        0,
+        number,
     ))
 }
 
-/// A system that decides to read.
-fn reading(alloc: Global, from: TypeNo) -> BehaviorSystem<Reading> {
+/// A system that decides to read, and writes as this number.
+fn reading(alloc: Global, from: TypeNo, number: u32) -> BehaviorSystem<Reading>
+    ensures new { IsNew number (⟦<BehaviorSystem<Reading> as SystemOf>⟧.meaning result) }
+{
     let access = Access::none().with_read_type(from);
-    BehaviorSystem::new(alloc, Reading { from }, access, Start::Zero, 0)
+    BehaviorSystem::new(alloc, Reading { from }, access, Start::Zero, number)
+}
+
+/// A batch of 1,024 values.
+fn batch(alloc: Global, own: TypeNo) -> Result<Op, NoMemory> {
+    let values = Vec::from_slice(alloc, &[1; 1024])?;
+    Ok(Op::Batch(own, Items::from_vec(values)))
 }
 
 /// What a script of this kind does in its turn.
-fn op_of(kind: &str, own: TypeNo, shared: TypeNo, r: ResNo) -> anyhow::Result<Option<Op>> {
+fn op_of(
+    alloc: Global,
+    kind: &str,
+    own: TypeNo,
+    shared: TypeNo,
+    r: ResNo,
+) -> anyhow::Result<Option<Op>> {
     Ok(match kind {
         "idle" | "skipped" => None,
         "get" => Some(Op::Get(r)),
         "len" => Some(Op::Len(shared)),
         "write" => Some(Op::Write(own, 1)),
+        "batch" => Some(batch(alloc, own)?),
         "read" => Some(Op::Read(shared, None)),
+        "limited" => Some(Op::Read(shared, Some(1))),
         _ => bail!("no kind has this name"),
     })
 }
@@ -83,23 +110,42 @@ fn tell<R: Print, S: SystemOf<Value = i64>>(
     Ok(())
 }
 
+/// The world before the first frame.
+fn world(alloc: Global) -> Result<World, NoMemory>
+    ensures whole { IfOk result IsWhole }
+{
+    World::new(alloc, &[1_000_000; 64], &[0])
+}
+
+/// Runs the frames that are given, and prints what was done.
+fn run_frames<R: Threads + Print + Sync, S: SystemOf<Value = i64> + Send>(
+    rt: &R,
+    mut engine: EngineOf<S>,
+    mut poster: Poster,
+    workers: Workers,
+) -> anyhow::Result<()>
+    requires engine { IsEngine i64_values S.meaning engine }
+{
+    engine.run_loop(rt, &mut poster, u64::MAX, workers)?;
+    tell(rt, &engine, poster.turns)
+}
+
 /// Runs frames of these systems, and prints what was done.
 fn bench<R: Threads + AllocGlobal + Print + Sync, S: Numbered + SystemOf<Value = i64> + Send>(
     rt: &R,
     systems: EngineBuilder<S>,
-    mut poster: Poster,
+    poster: Poster,
+    workers: Workers,
 ) -> anyhow::Result<()> {
-    let world = World::new(rt.alloc(), &[1_000_000; 64], &[0])?;
-    let mut engine = systems.build(world)?;
-    engine.run_loop(rt, &mut poster, u64::MAX, Workers::new(1).unwrap())?;
-    tell(rt, &engine, poster.turns)
+    let engine = systems.build(world(rt.alloc())?)?;
+    run_frames(rt, engine, poster, workers)
 }
 
 /// Systems that decide to read.
 fn readers(alloc: Global, from: TypeNo) -> anyhow::Result<EngineBuilder<BehaviorSystem<Reading>>> {
     let mut systems = EngineBuilder::new(alloc);
     for _ in 0..SYSTEMS {
-        systems.add_system(reading(alloc, from), Vec::new(alloc), 1)?;
+        systems.add_system(reading(alloc, from, 0), Vec::new(alloc), 1)?;
     }
     Ok(systems)
 }
@@ -123,7 +169,7 @@ fn add_script(
     shared: TypeNo,
     r: ResNo,
 ) -> anyhow::Result<()> {
-    let system = script(alloc, op_of(kind, own, shared, r)?)?;
+    let system = script(alloc, op_of(alloc, kind, own, shared, r)?, 0)?;
     systems.add_system(system, conditions_of(alloc, kind, r)?, 1)?;
     Ok(())
 }
@@ -148,30 +194,42 @@ fn run<R: Threads + AllocGlobal + Print + Sync>(
     rt: &R,
     kind: &str,
     frames: u64,
+    workers: Workers,
 ) -> anyhow::Result<()> {
     let alloc = rt.alloc();
     let (shared, r) = (TypeNo::new(0).unwrap(), ResNo::new(0).unwrap());
     let poster = Poster {
         left: frames,
-        posts: if kind == "read" || kind == "decide" {
-            2
-        } else {
-            0
+        posts: match kind {
+            "read" | "limited" | "decide" | "boxed" => 2,
+            _ => 0,
         },
         to: shared,
         turns: 0,
     };
-    if kind == "decide" {
-        bench(rt, readers(alloc, shared)?, poster)
-    } else {
-        bench(rt, scripts(alloc, kind, shared, r)?, poster)
+    match kind {
+        "boxed" => run_boxes(rt, shared, poster, workers),
+        "decide" => bench(rt, readers(alloc, shared)?, poster, workers),
+        _ => bench(rt, scripts(alloc, kind, shared, r)?, poster, workers),
     }
 }
 
 fn main(rt: HostRuntime) -> anyhow::Result<()> {
     let words: Vec<String> = env::args(&rt)?.skip(1).collect(rt.alloc())?;
-    let [kind, frames] = words.as_slice() else {
-        bail!("wanted a kind and a number of frames");
+    let (kind, frames, workers) = match words.as_slice() {
+        [kind, frames] => (kind, frames, 1),
+        [kind, frames, workers] => (
+            kind,
+            frames,
+            workers.parse().context("a number of workers")?,
+        ),
+        _ => bail!("wanted a kind, a number of frames, and one of workers or none"),
     };
-    run(&rt, kind, frames.parse().context("a number of frames")?)
+    let workers = Workers::new(workers).context("from 1 to 64 workers")?;
+    run(
+        &rt,
+        kind,
+        frames.parse().context("a number of frames")?,
+        workers,
+    )
 }

@@ -1,14 +1,11 @@
-ghost use Rattle.std.specs.Prelude.{◌≡◌};
-
 use crate::{InputFault, WordFault};
 use msg_json::Refusal;
 use msg_text::ReportFault;
-use msg_world::NoMemory;
 use thiserror::Error;
 
 mod print;
 
-pub use print::{print_fault, refusal_line};
+pub use print::print_fault;
 
 /// What ended the program.
 #[derive(Debug, Drop, Error)]
@@ -23,22 +20,12 @@ pub enum MainFault {
     #[error("refused {0}")]
     Refused(#[from] Refusal),
     /// The file that was to be checked was refused, and these lines tell where and why.
-    #[error("refused")]
-    Told(Vec<u8>),
-    /// Memory was refused while an engine was made of a scenario, or while a file was checked.
+    #[error("refused {0}")]
+    Told(Refusal, Vec<u8>),
+    /// Memory was refused while an engine was made of a scenario.
     #[error("want of memory")]
     Built,
     /// The answers or the report weren't printed to their end.
     #[error("{0}")]
     Report(#[from] ReportFault),
-}
-
-impl From<NoMemory> for MainFault {
-    ghost use Rattle.msg_command.specs.declared.fault.MainFault.TheVariants.{Built as NoEngine};
-
-    ghost from_gives = { λ _ fault. fault ≡ NoEngine };
-
-    fn from(_error: NoMemory) -> Self {
-        MainFault::Built
-    }
 }

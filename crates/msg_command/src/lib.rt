@@ -6,6 +6,6 @@ mod input;
 mod limits;
 mod words;
 
-pub use fault::{MainFault, print_fault, refusal_line};
+pub use fault::{MainFault, print_fault};
 pub use input::{InputFault, MAX_BYTES, read_all};
 pub use words::{Action, WordFault, parse_words};

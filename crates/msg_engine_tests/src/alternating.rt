@@ -108,8 +108,9 @@ fn replies_to(turn: &Turn) -> Option<usize> {
     }
 }
 
-/// Each turn has so many replies, or was skipped.
-fn expect_turns(rt: &impl Abort, turns: &[Turn], replies: Option<usize>) {
+/// So many systems took their turns. Each turn has so many replies, or was skipped.
+fn expect_turns(rt: &impl Abort, turns: &[Turn], number: usize, replies: Option<usize>) {
+    expect_eq(rt, turns.len(), number);
     for turn in turns {
         expect_eq(rt, replies_to(turn), replies);
     }
@@ -123,10 +124,10 @@ fn expect_written(rt: &impl Abort, world: &World, wrote: (usize, usize)) {
     }
 }
 
-/// A frame: what is posted, whether it is replayed with system 1 before system 0, how many replies
-/// each turn has, if it isn't skipped, and how many messages each system writes to its first type
-/// and to its second.
-type Frame = (&'static [i64], bool, Option<usize>, (usize, usize));
+/// A frame: what is posted, whether it is replayed with system 1 before system 0, how many systems
+/// have joined, how many replies the turn of each has, if it isn't skipped, and how many messages
+/// each system writes to its first type and to its second.
+type Frame = (&'static [i64], bool, usize, Option<usize>, (usize, usize));
 
 /// Runs or replays a frame.
 fn log_of<R: Threads + Sync + Abort + AllocGlobal, S: SystemOf<Value = i64> + Send>(
@@ -138,7 +139,7 @@ fn log_of<R: Threads + Sync + Abort + AllocGlobal, S: SystemOf<Value = i64> + Se
     requires engine { IsEngine i64_values S.meaning engine.old }
     ensures engine { IsEngine i64_values S.meaning engine.new }
 {
-    let (posts, is_replayed, _replies, _wrote) = frame;
+    let (posts, is_replayed, _joined, _replies, _wrote) = frame;
     let log = if is_replayed {
         replay(rt, engine, posts, &[1, 0])
     } else {
@@ -157,10 +158,10 @@ fn expect_frame<R: Threads + Sync + Abort + AllocGlobal, S: SystemOf<Value = i64
     ensures engine { IsEngine i64_values S.meaning engine.new }
 {
     let log = log_of(rt, engine, number, frame);
-    expect_turns(rt, log.turns.as_slice(), frame.2);
+    expect_turns(rt, log.turns.as_slice(), frame.2, frame.3);
     drop(log);
     let world = engine.world().expect(rt, "a world");
-    expect_written(rt, world, frame.3);
+    expect_written(rt, world, frame.4);
 }
 
 /// Two systems and three frames, of which the second has no message.
@@ -180,9 +181,9 @@ const ROWS: &[Row] = &[
         join: 1,
         asks: false,
         frames: &[
-            (&[1], false, Some(1), (1, 0)),
-            (&[], false, Some(1), (0, 1)),
-            (&[1], false, Some(1), (1, 0)),
+            (&[1], false, 2, Some(1), (1, 0)),
+            (&[], false, 2, Some(1), (0, 1)),
+            (&[1], false, 2, Some(1), (1, 0)),
         ],
     },
     Row {
@@ -190,9 +191,9 @@ const ROWS: &[Row] = &[
         join: 1,
         asks: false,
         frames: &[
-            (&[1], false, Some(0), (0, 0)),
-            (&[], false, Some(0), (0, 0)),
-            (&[1], false, Some(0), (0, 0)),
+            (&[1], false, 2, Some(0), (0, 0)),
+            (&[], false, 2, Some(0), (0, 0)),
+            (&[1], false, 2, Some(0), (0, 0)),
         ],
     },
     // never more than 64 messages, and a reply that says so
@@ -201,9 +202,9 @@ const ROWS: &[Row] = &[
         join: 1,
         asks: false,
         frames: &[
-            (&[1], false, Some(65), (64, 0)),
-            (&[], false, Some(65), (0, 64)),
-            (&[1], false, Some(65), (64, 0)),
+            (&[1], false, 2, Some(65), (64, 0)),
+            (&[], false, 2, Some(65), (0, 64)),
+            (&[1], false, 2, Some(65), (64, 0)),
         ],
     },
     // 64 messages are a whole turn
@@ -211,7 +212,7 @@ const ROWS: &[Row] = &[
         writes: 64,
         join: 1,
         asks: false,
-        frames: &[(&[1], false, Some(64), (64, 0))],
+        frames: &[(&[1], false, 2, Some(64), (64, 0))],
     },
     // nothing before they joined
     Row {
@@ -219,9 +220,9 @@ const ROWS: &[Row] = &[
         join: 3,
         asks: false,
         frames: &[
-            (&[1], false, Some(0), (0, 0)),
-            (&[], false, Some(0), (0, 0)),
-            (&[1], false, Some(1), (1, 0)),
+            (&[1], false, 0, None, (0, 0)),
+            (&[], false, 0, None, (0, 0)),
+            (&[1], false, 2, Some(1), (1, 0)),
         ],
     },
     // a skipped turn isn't told: the next one writes as it would have written
@@ -230,9 +231,9 @@ const ROWS: &[Row] = &[
         join: 1,
         asks: true,
         frames: &[
-            (&[1], false, Some(1), (1, 0)),
-            (&[], false, None, (0, 0)),
-            (&[1], false, Some(1), (0, 1)),
+            (&[1], false, 2, Some(1), (1, 0)),
+            (&[], false, 2, None, (0, 0)),
+            (&[1], false, 2, Some(1), (0, 1)),
         ],
     },
     // a replayed turn is told
@@ -241,9 +242,9 @@ const ROWS: &[Row] = &[
         join: 1,
         asks: false,
         frames: &[
-            (&[1], false, Some(1), (1, 0)),
-            (&[], true, Some(1), (0, 1)),
-            (&[1], false, Some(1), (1, 0)),
+            (&[1], false, 2, Some(1), (1, 0)),
+            (&[], true, 2, Some(1), (0, 1)),
+            (&[1], false, 2, Some(1), (1, 0)),
         ],
     },
 ];

@@ -4,12 +4,12 @@ ghost use Rattle.msg_world.specs.Prelude.{i64_values};
 
 use crate::equal::{expect_eq, expect_text};
 use crate::expecting::expect_frame;
-use crate::making::{Act, Does, add, engine_of, reader};
+use crate::making::{Act, Does, add, engine_of, reader, scripted};
 use crate::told::expect_engine;
 use msg_exec::{BuildError, BuildRefusal, EngineBuilder, EngineOf, Workers};
 use msg_order::Rule;
 use msg_part_tests::numbers::type_no;
-use msg_system::{Scripted, Start, SystemOf};
+use msg_system::{Op, Scripted, Start, SystemOf};
 use msg_world::World;
 use std::alloc::Global;
 use std::panic::Expect;
@@ -135,6 +135,28 @@ fn refused_engines(rt: HostRuntime) {
     for row in REFUSED {
         expect_refused(&rt, row);
     }
+}
+
+/// Why no engine is made of a script of these ops that is to run before itself, over one type.
+fn expect_none_before_itself(rt: &(impl Abort + AllocGlobal), ops: Vec<Op>, why: &str) {
+    let mut systems = EngineBuilder::new(rt.alloc());
+    let script = scripted(rt, ops, Start::Zero);
+    add(rt, &mut systems, script, Vec::new(rt.alloc()), 1);
+    systems.add_rule(Rule::before(0, 0)).expect(rt, "a rule");
+    let world = World::new(rt.alloc(), &[10], &[]).expect(rt, "a world");
+    let refused = systems.build(world).err();
+    expect_text(rt, &refused.expect(rt, why), why);
+}
+
+/// A script that reads and writes the only type, and one without ops.
+#[test]
+fn a_script_before_itself(rt: HostRuntime) {
+    let rt = &rt;
+    let ops = vec![in rt.alloc(); Op::Forward(type_no(0), type_no(0))];
+    let why = "system 0 reads and writes one type or resource";
+    expect_none_before_itself(rt, ops.expect(rt, "ops"), why);
+    let why = "the rules go round in a circle through system 0";
+    expect_none_before_itself(rt, Vec::new(rt.alloc()), why);
 }
 
 #[test]

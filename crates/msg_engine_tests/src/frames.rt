@@ -14,10 +14,11 @@ use std::panic::Expect;
 use std::process::Abort;
 use std::sync::atomic::Ordering;
 use std::thread::Threads;
+use std::time::Clock;
 
-/// How many readers there are, on how many workers they run, and which of them the gate holds until
-/// it was called for all readers. If it holds all, each worker has a thread and a number of its
-/// own.
+/// How many readers there are, on how many workers they run, and which of them the gate holds in
+/// the first frame until it was called for all readers. If it holds all, each worker has a thread
+/// and a number of its own.
 type Row = (u32, u32, [bool; 5]);
 
 const ROWS: &[Row] = &[
@@ -42,12 +43,12 @@ fn expect_reads(rt: &impl Abort, log: &Log, number: u32, (post, reads): (&str, &
 }
 
 /// The first frame runs by `run_frame`: its workers start one another.
-fn expect_first<R: Threads + Sync + Abort + AllocGlobal>(
+fn expect_first<R: Threads + Sync + Abort + AllocGlobal, C: Clock + Sync>(
     rt: &R,
     engine: &mut EngineOf<Scripted>,
     number: u32,
     workers: u32,
-    gate: &HoldGate,
+    gate: &HoldGate<'_, C>,
 )
     requires engine { IsEngine i64_values ⟦<Scripted as SystemOf>⟧.meaning engine.old }
     ensures engine { IsEngine i64_values ⟦<Scripted as SystemOf>⟧.meaning engine.new }
@@ -63,14 +64,14 @@ fn expect_first<R: Threads + Sync + Abort + AllocGlobal>(
     drop(log);
 }
 
-/// The second frame runs by `run_frames`: if the other workers ran at least half of the first
-/// frame's jobs, the first worker starts them all at once.
-fn expect_second<R: Threads + Sync + Abort + AllocGlobal>(
+/// The second frame runs by `run_frames`. What the first has shown decides whether its workers rest
+/// and how many start at once, so nobody is held in it.
+fn expect_second<R: Threads + Sync + Abort + AllocGlobal, C: Clock + Sync>(
     rt: &R,
     engine: &mut EngineOf<Scripted>,
     number: u32,
     workers: u32,
-    gate: &HoldGate,
+    gate: &HoldGate<'_, C>,
 )
     requires engine { IsEngine i64_values ⟦<Scripted as SystemOf>⟧.meaning engine.old }
 {
@@ -89,12 +90,12 @@ fn expect_second<R: Threads + Sync + Abort + AllocGlobal>(
     drop((log, logs, frames));
 }
 
-fn expect_row<R: Threads + Sync + Abort + AllocGlobal>(rt: &R, row: &Row) {
+fn expect_row<R: Threads + Clock + Sync + Abort + AllocGlobal>(rt: &R, row: &Row) {
     let (number, workers, held) = *row;
     let mut engine = readers(rt, rt.alloc(), number);
-    let gate = HoldGate::new(workers, held, number as u64);
+    let gate = HoldGate::new(rt, workers, held, number as u64);
     expect_first(rt, &mut engine, number, workers, &gate);
-    let gate = HoldGate::new(workers, held, number as u64);
+    let gate = HoldGate::new(rt, workers, [false; 5], number as u64);
     expect_second(rt, &mut engine, number, workers, &gate);
     drop(engine);
 }
@@ -153,7 +154,7 @@ fn the_gate_comes_first_on_a_board(rt: HostRuntime) {
 #[test]
 fn readers_meet(rt: HostRuntime) {
     for (number, workers) in [(20, 20), (65, 2)] {
-        let gate = MeetGate::new(workers as u64);
+        let gate = MeetGate::new(&rt, workers as u64);
         run_readers(&rt, number, workers, &gate);
         gate.expect_met(&rt, number as u64);
     }

@@ -2,22 +2,10 @@
 use crate::equal::expect_eq;
 use crate::prefaced::note;
 use msg_exec::Gate;
+use msg_part_tests::meeting::Meeting;
 use std::process::Abort;
 use std::sync::atomic::{AtomicU64, Ordering};
-use std::thread::yield_now;
-
-/// Holds those of five systems that `held` names until `awaited` calls came, and counts the calls
-/// whose worker's number is in use by another call, or isn't below the number of workers.
-#[derive(Drop)]
-pub struct HoldGate {
-    workers: u32,
-    held: [bool; 5],
-    awaited: u64,
-    came: AtomicU64,
-    limits_met: AtomicU64,
-    busy: [AtomicU64; 5],
-    clashes: AtomicU64,
-}
+use std::time::Clock;
 
 fn zero() -> AtomicU64 {
     AtomicU64::new(0)
@@ -32,43 +20,26 @@ fn expect_count(rt: &impl Abort, calls: &AtomicU64, number: u64) {
     expect_eq(rt, calls.load(Ordering::SeqCst), number);
 }
 
-impl HoldGate {
-    /// For at most five systems.
-    pub fn new(workers: u32, held: [bool; 5], awaited: u64) -> HoldGate {
-        HoldGate {
+/// Which of at most five workers are in a call, and how many calls there were whose worker's number
+/// was in use by another call, or wasn't below the number of workers.
+#[derive(Drop)]
+struct Busy {
+    workers: u32,
+    busy: [AtomicU64; 5],
+    clashes: AtomicU64,
+}
+
+impl Busy {
+    fn new(workers: u32) -> Busy {
+        Busy {
             workers,
-            held,
-            awaited,
-            came: zero(),
-            limits_met: zero(),
             busy: [zero(), zero(), zero(), zero(), zero()],
             clashes: zero(),
         }
     }
 
-    /// `calls` calls came and no more, each that was held saw all that it awaited, and no worker's
-    /// number was in use twice.
-    pub fn expect_met(&self, rt: &impl Abort, calls: u64) {
-        let limits_met = self.limits_met.load(Ordering::SeqCst);
-        let clashes = self.clashes.load(Ordering::SeqCst);
-        let came = self.came.load(Ordering::SeqCst);
-        let held = self.held;
-        expect_eq(rt, (held, limits_met, clashes, came), (held, 0, 0, calls));
-    }
-
-    fn hold(&self) {
-        for _ in 0..50_000_000u64 {
-            if self.came.load(Ordering::SeqCst) >= self.awaited {
-                return;
-            }
-        }
-        count(&self.limits_met);
-    }
-}
-
-impl Gate for HoldGate {
-    fn pass(&self, worker: u32, system: u32) {
-        if worker > 4 || worker >= self.workers || system > 4 {
+    fn begin(&self, worker: u32) {
+        if worker > 4 || worker >= self.workers {
             count(&self.clashes);
             return;
         }
@@ -76,11 +47,53 @@ impl Gate for HoldGate {
         if busy.swap(1, Ordering::SeqCst) != 0 {
             count(&self.clashes);
         }
-        count(&self.came);
-        if self.held[system as usize] {
-            self.hold();
+    }
+
+    fn end(&self, worker: u32) {
+        if worker <= 4 {
+            self.busy[worker as usize].store(0, Ordering::SeqCst);
         }
-        busy.store(0, Ordering::SeqCst);
+    }
+}
+
+/// Holds those of five systems that `held` names until `awaited` calls came, and counts the calls
+/// whose worker's number is in use by another call, or isn't below the number of workers.
+#[derive(Drop)]
+pub struct HoldGate<'a, C> {
+    busy: Busy,
+    held: [bool; 5],
+    meeting: Meeting<'a, C>,
+}
+
+impl<'a, C: Clock> HoldGate<'a, C> {
+    /// For at most five systems.
+    pub fn new(clock: &'a C, workers: u32, held: [bool; 5], awaited: u64) -> HoldGate<'a, C> {
+        HoldGate {
+            busy: Busy::new(workers),
+            held,
+            meeting: Meeting::new(clock, awaited),
+        }
+    }
+
+    /// `calls` calls came and no more, each that was held saw all that it awaited, and no worker's
+    /// number was in use twice.
+    pub fn expect_met(&self, rt: &impl Abort, calls: u64) {
+        let missed = self.meeting.missed();
+        let clashes = self.busy.clashes.load(Ordering::SeqCst);
+        let came = self.meeting.came();
+        let held = self.held;
+        expect_eq(rt, (held, missed, clashes, came), (held, 0, 0, calls));
+    }
+}
+
+impl<C: Clock + Sync> Gate for HoldGate<'_, C> {
+    fn pass(&self, worker: u32, system: u32) {
+        self.busy.begin(worker);
+        self.meeting.come();
+        if system < 5 && self.held[system as usize] {
+            self.meeting.wait();
+        }
+        self.busy.end(worker);
     }
 }
 
@@ -115,42 +128,30 @@ impl Gate for OneByOne {
     }
 }
 
-/// Holds each call until `awaited` calls came: so many are on threads of their own then. Once a
-/// call has waited long enough, none waits any more.
+/// Holds each call until `awaited` calls came: so many are on threads of their own then.
 #[derive(Drop)]
-pub struct MeetGate {
-    awaited: u64,
-    came: AtomicU64,
-    alone: AtomicU64,
+pub struct MeetGate<'a, C> {
+    meeting: Meeting<'a, C>,
 }
 
-impl MeetGate {
-    pub fn new(awaited: u64) -> MeetGate {
+impl<'a, C: Clock> MeetGate<'a, C> {
+    pub fn new(clock: &'a C, awaited: u64) -> MeetGate<'a, C> {
         MeetGate {
-            awaited,
-            came: zero(),
-            alone: zero(),
+            meeting: Meeting::new(clock, awaited),
         }
     }
 
     /// `calls` calls came and no more, and each saw all that it awaited.
     pub fn expect_met(&self, rt: &impl Abort, calls: u64) {
-        expect_count(rt, &self.came, calls);
-        expect_count(rt, &self.alone, 0);
+        let found = (self.meeting.came(), self.meeting.missed());
+        expect_eq(rt, found, (calls, 0));
     }
 }
 
-impl Gate for MeetGate {
+impl<C: Clock + Sync> Gate for MeetGate<'_, C> {
     fn pass(&self, _worker: u32, _system: u32) {
-        count(&self.came);
-        for _ in 0..2_000_000u64 {
-            let (came, alone) = (&self.came, &self.alone);
-            if came.load(Ordering::SeqCst) >= self.awaited || alone.load(Ordering::SeqCst) > 0 {
-                return;
-            }
-            yield_now();
-        }
-        count(&self.alone);
+        self.meeting.come();
+        self.meeting.wait();
     }
 }
 

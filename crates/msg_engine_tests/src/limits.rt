@@ -1,8 +1,8 @@
-// Each limit, met by a frame that succeeds: all types and all resources, each written; all ops of a
-// turn; all systems, of which the last writes; 1,024 rules; 8 conditions, each with 16 nots; 1,024
-// values in a batch, 1,024 posts and 100,000; frames up to the last that a system may join with,
-// and a million; all workers; an order longer than there can be systems; and a read of the greatest
-// limit.
+// Each limit, met by a frame that succeeds: all types and all resources, each written by one system
+// and by one each; all ops of a turn; all systems, of which the last writes; 1,024 rules; 8
+// conditions, each with 16 nots; 1,024 values in a batch and more, 1,024 posts and 100,000; frames
+// up to the last that a system may join with, more in one call, and a million; all workers; an
+// order longer than there can be systems; and a read of the greatest limit.
 ghost use Rattle.std.specs.Prelude.{◌<◌};
 ghost use Rattle.msg_exec.specs.Prelude.{IsEngine};
 ghost use Rattle.msg_world.specs.Prelude.{i64_values};
@@ -83,25 +83,23 @@ fn writers_of_all(rt: &impl Abort, alloc: Global) -> EngineOf<Scripted>
     engine_over(rt, alloc, systems, &[1; MAX_TYPES], &[7; MAX_RESOURCES])
 }
 
-/// The type of this number has just one message, of this value.
-fn expect_written(rt: &impl Abort, world: &World, number: u32, value: i64)
+/// The type of this number has just one message, this one.
+fn expect_written(rt: &impl Abort, world: &World, number: u32, record: Record)
     requires below { number < MAX_TYPES }
 {
     let messages = world.messages(type_no(number)).expect(rt, "it is home");
     let found = (messages.count(), messages.current().len());
     let first = messages.get(MessageId(0)).copied();
-    expect_eq(
-        rt,
-        (number, found, first),
-        (number, (1, 1), Some(by(0, value))),
-    );
+    expect_eq(rt, (number, found, first), (number, (1, 1), Some(record)));
 }
 
-/// Each type and each resource has what was written to it.
-fn expect_all_written(rt: &impl Abort, world: &World) {
+/// Each type and each resource has what was written to it: by one system, or to each type by the
+/// system of its number.
+fn expect_all_written(rt: &impl Abort, world: &World, by_one: bool) {
     for number in 0..MAX_TYPES as u32 {
         let value = number as i64 + 100;
-        expect_written(rt, world, number, value);
+        let writer = if by_one { 0 } else { number };
+        expect_written(rt, world, number, by(writer, value));
         let set = world.resource(res_no(number));
         expect_eq(rt, (number, set), (number, Some(value)));
     }
@@ -116,8 +114,47 @@ fn types_resources_and_ops(rt: HostRuntime) {
     expect_eq(rt, replies_of(rt, &log, 0).len(), MAX_OPS);
     expect_eq(rt, replies_of(rt, &log, 1).len(), MAX_OPS);
     drop(log);
-    expect_all_written(rt, engine.world().expect(rt, "a world"));
+    expect_all_written(rt, engine.world().expect(rt, "a world"), true);
     drop(engine);
+}
+
+/// Adds a script of each of these ops.
+fn add_each(rt: &(impl Abort + AllocGlobal), systems: &mut EngineBuilder<Scripted>, ops: Vec<Op>) {
+    for op in ops {
+        let ops = vec![in rt.alloc(); op].expect(rt, "an op");
+        let script = scripted(rt, ops, Start::Zero);
+        add(rt, systems, script, Vec::new(rt.alloc()), 1);
+    }
+}
+
+/// An engine of a script for each type, which writes it, and of one for each resource, which sets
+/// it.
+fn writers_of_each(rt: &(impl Abort + AllocGlobal)) -> EngineOf<Scripted>
+    ensures engine { IsEngine i64_values ⟦<Scripted as SystemOf>⟧.meaning result }
+{
+    let mut systems = EngineBuilder::new(rt.alloc());
+    let (writes, sets) = ops_on_all(rt, rt.alloc());
+    add_each(rt, &mut systems, writes);
+    add_each(rt, &mut systems, sets);
+    let resources = &[7; MAX_RESOURCES];
+    engine_over(rt, rt.alloc(), systems, &[1; MAX_TYPES], resources)
+}
+
+/// As many writers as may run side by side, on so many workers.
+fn expect_writers<R: Threads + Sync + Abort + AllocGlobal>(rt: &R, workers: u32) {
+    let mut engine = writers_of_each(rt);
+    let log = run_frame(rt, &mut engine, &[], workers, &NoGate);
+    expect_eq(rt, log.turns.as_slice().len(), MAX_TYPES + MAX_RESOURCES);
+    drop(log);
+    expect_all_written(rt, engine.world().expect(rt, "a world"), false);
+    drop(engine);
+}
+
+#[test]
+fn writers_side_by_side(rt: HostRuntime) {
+    for workers in [1, 2, MAX_WORKERS] {
+        expect_writers(&rt, workers);
+    }
 }
 
 /// Each turn from this place on tells this.
@@ -340,6 +377,55 @@ fn run_and_recycle<R: Threads + Sync + Abort + AllocGlobal, S: SystemOf<Value = 
     for _frame in 0..number {
         let log = run_frame(rt, engine, &[], 1, &NoGate);
         engine.recycle(log);
+    }
+}
+
+/// More frames in one call than a system may wait before it joins, each with one turn.
+#[test]
+fn many_frames_in_one_call(rt: HostRuntime) {
+    let rt = &rt;
+    const NUMBER: u32 = LAST_JOIN + 1;
+    let mut engine = readers(rt, rt.alloc(), 1);
+    let (frames, mut logs) = (quiet_frames(rt, rt.alloc(), NUMBER), Vec::new(rt.alloc()));
+    let ran = run_frames(rt, &mut engine, &frames, 1, &NoGate, &mut logs);
+    ran.expect(rt, "frames");
+    expect_eq(
+        rt,
+        (engine.frames_run(), logs.len()),
+        (NUMBER, NUMBER as usize),
+    );
+    drop((engine, frames));
+    for log in &logs {
+        expect_replies(rt, replies_of(rt, log, 0), " read from 0:");
+    }
+    drop(logs);
+}
+
+/// An engine of a script that writes a batch of so many values to the first type.
+fn batching(rt: &impl Abort, alloc: Global, number: i64) -> EngineOf<Scripted>
+    ensures engine { IsEngine i64_values ⟦<Scripted as SystemOf>⟧.meaning result }
+{
+    let acts = &[(0, Does::WritesFrom(0, number)), (0, Does::Reads)];
+    scripted_engine(rt, alloc, u64::MAX, acts, &[])
+}
+
+/// Batches of more values than a file's op may have, each written in one op.
+#[test]
+fn many_values_in_one_op(rt: HostRuntime) {
+    let rt = &rt;
+    const ROWS: &[(i64, &str)] = &[
+        (4_097, " wrote 4097 from 0"),
+        (100_001, " wrote 100001 from 0"),
+    ];
+    for (number, told) in ROWS {
+        let mut engine = batching(rt, rt.alloc(), *number);
+        let log = run_frame(rt, &mut engine, &[], 1, &NoGate);
+        drop(engine);
+        expect_replies(rt, replies_of(rt, &log, 0), told);
+        let (_, missed, first, items) = items_of(rt, replies_of(rt, &log, 1));
+        expect_eq(rt, (missed, first, items.len() as i64), (0, 0, *number));
+        expect_values(rt, items, 0);
+        drop(log);
     }
 }
 

@@ -190,9 +190,8 @@ pub fn run_life<R: Threads + Sync>(
 mod tests {
     use super::{run_both, run_life, run_waking};
     use crate::equal::expect_eq;
-    use crate::expecting::replies_of;
     use crate::making::{quiet_frames, workers};
-    use crate::told::expect_accounts;
+    use crate::told::{expect_accounts, expect_log};
     use msg_exec::{Frame, Log};
     use std::panic::Expect;
     use std::process::Abort;
@@ -203,17 +202,23 @@ mod tests {
         let frames = quiet_frames(rt, rt.alloc(), 3);
         let workers = (workers(rt, 1), workers(rt, 7));
         let logs = run_both(rt, rt.alloc(), &frames, workers).expect(rt, "logs");
-        expect_eq(rt, logs.0.len(), 3);
-        expect_eq(rt, &logs.0, &logs.1);
+        expect_three(rt, &logs.0);
+        expect_three(rt, &logs.1);
         drop((frames, logs));
     }
 
-    /// There are three logs of two turns, and in each the reader ran.
+    /// What three quiet frames tell: in each the writer writes a 7, which the reader reads.
+    const TOLD: [&str; 3] = [
+        "[0 wrote 1 from 0][1 read from 0: 0=7]",
+        "[0 wrote 1 from 1][1 read from 1: 0=7]",
+        "[0 wrote 1 from 2][1 read from 2: 0=7]",
+    ];
+
+    /// These are the logs of three quiet frames.
     fn expect_three(rt: &impl Abort, logs: &[Log]) {
         expect_eq(rt, logs.len(), 3);
-        for log in logs {
-            expect_eq(rt, log.turns.as_slice().len(), 2);
-            replies_of(rt, log, 1);
+        for (log, told) in logs.iter().zip(&TOLD) {
+            expect_log(rt, log, told);
         }
     }
 

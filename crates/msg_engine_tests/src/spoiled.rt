@@ -15,6 +15,7 @@ use std::process::Abort;
 use std::sync::Arc;
 use std::sync::atomic::{AtomicU64, Ordering};
 use std::thread::Threads;
+use std::time::Clock;
 
 /// Each call that runs a frame answers `Spoiled`.
 fn expect_none_runs<R: Threads + Sync + Abort + AllocGlobal, S: SystemOf<Value = i64> + Send>(
@@ -90,7 +91,7 @@ fn a_second_run_without_memory(rt: HostRuntime) {
 const ROWS: &[(u32, u32, u32)] = &[(2, 1, 0), (2, 2, 1), (5, 2, 4), (5, 64, 4)];
 
 /// If one job has no memory, `run` others of its batch are run.
-fn expect_run_of_others<R: Threads + Sync + Abort + AllocGlobal>(
+fn expect_run_of_others<R: Threads + Clock + Sync + Abort + AllocGlobal>(
     rt: &R,
     readers: u32,
     workers: u32,
@@ -98,7 +99,7 @@ fn expect_run_of_others<R: Threads + Sync + Abort + AllocGlobal>(
 ) {
     let runs = shared_number(rt, rt.alloc());
     let mut engine = failing_engine(rt, rt.alloc(), readers, 0, &runs);
-    let gate = HoldGate::new(workers, [true; 5], workers.min(readers) as u64);
+    let gate = HoldGate::new(rt, workers, [true; 5], workers.min(readers) as u64);
     let log = try_frame(rt, &mut engine, &[], workers, &gate);
     expect_fault(rt, log, RunFault::NoMemory);
     expect_spoiled(rt, &mut engine, 0);

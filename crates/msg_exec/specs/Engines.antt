@@ -82,8 +82,8 @@ module _ {S V : Type 0} {values : Values V} (meaning : S → Meaning V) where
   -- called. (`HasRunFrames` says exactly what a call appended that ran frames.)
   pub record HasRunSince (s : State values) (frames : List (Frame V)) (logs : List (Log V))
       (e : EngineOf S V) : Type 0 where
-    -- each log tells the same as that of its frame, but may have the turns in another order, as that
-    -- of a replay does; if no frame was replayed, they are equal (`frames_run_one_by_one`)
+    -- each log tells the same as that of its frame, but may have the turns in another order, as
+    -- that of a replay does; if no frame was replayed, they are equal (`frames_run_one_by_one`)
     pub tell : AllZip TellsTheSame logs (run frames s).logs
     -- each run from s is complete, whatever its frames
     pub complete : (these : List (Frame V)) → IsCompleteRun these s

@@ -9,7 +9,7 @@ mod read;
 mod run;
 mod text;
 
-pub use read::{check_calls, read_calls};
+pub use read::{check_calls, read_calls, read_file};
 pub use run::run_calls;
 
 /// A buffer's limit, and the calls to be made on it. The cursor of each call is made by the calls

@@ -6,6 +6,6 @@ mod calls;
 mod limits;
 
 pub use call::Call;
-pub use calls::{Calls, check_calls, read_calls, run_calls};
+pub use calls::{Calls, check_calls, read_calls, read_file, run_calls};
 pub use msg_json::{Fault, FileFault, Key, Location, Reason, Refusal, Step};
 pub use msg_text::{MemorySink, NoMemory, PutFault, ReportFault, RunFault, Sink, StdSink};

@@ -23,7 +23,7 @@ module _ {V : Type 0} {values : Values V} where
       joined_still fs (frame f m).state i
       (grind (arith, cases_Bool, nat_tests, joined_is m i, joined_is (frame f m).state i, frame_keeps order f m, frames_keep order f m, has))
 
-  begins : (start : Start) (s : State values) (i t : ℕ) → (s.members i).job.system.start ≡ start → t < s.types
+  pub begins : (start : Start) (s : State values) (i t : ℕ) → (s.members i).job.system.start ≡ start → t < s.types
       → IsTrue ((s.members i).job.system.needs.reads (OfType t))
       → IsAtStart start (count (s.world.histories t)) ((joined_member (counts s) (s.members i)).job.system.places t)
   begins Zero s i t is below reads = grind (arith, cases_Bool, is, reads)

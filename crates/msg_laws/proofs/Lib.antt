@@ -17,6 +17,7 @@ mod ReadersTakeAll
 mod ReadersStayUpToDate
 mod ProgramsReadAll
 mod WakeUps
+mod BeginsWoken
 mod Latency
 -- ---- worked runs
 mod ReadingsOfRows

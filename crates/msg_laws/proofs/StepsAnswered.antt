@@ -2,9 +2,9 @@
 use Rattle.msg_frames.proofs.ReaderOverJob.{by_system}
 use Rattle.msg_frames.specs.{Frames.turn_order, declared.frame.Frame.Frame, declared.log.Turn.Turn}
 use Rattle.msg_frames.specs.Prelude.{State, after_posts, after_turn_of, after_turns_of, before_turns, frame, outcome_of, post_replies, post_steps, replies_of, turns_steps}
-use Rattle.msg_buffer.specs.declared.instance.Written.{Written}
 use Rattle.msg_laws.specs.Prelude.{AreAnswered, done_in}
-use Rattle.msg_system.specs.{Prelude.AfterProgram, Prelude.Job, Prelude.Meaning, Prelude.Step, Prelude.after_at_most, Prelude.after_job, Prelude.after_op, Prelude.is_cut, Prelude.next_op, Prelude.one_more, Prelude.refusal, Prelude.turn, Prelude.write_reply, declared.limits.TheConstants.MAX_OPS, declared.op.Op.Op, declared.op.Op.TheVariants.Batch, declared.op.Op.TheVariants.Write, declared.reply.Reply.Reply, declared.reply.Reply.TheVariants.Full, declared.reply.Reply.TheVariants.Outside}
+use Rattle.msg_system.proofs.WholeTurns.{op_is_done}
+use Rattle.msg_system.specs.{Prelude.AfterProgram, Prelude.Job, Prelude.Meaning, Prelude.Step, Prelude.after_at_most, Prelude.after_job, Prelude.is_cut, Prelude.next_op, Prelude.one_more, Prelude.refusal, Prelude.turn, declared.limits.TheConstants.MAX_OPS, declared.op.Op.Op, declared.reply.Reply.Reply, declared.reply.Reply.TheVariants.Full, declared.reply.Reply.TheVariants.Outside}
 use Rattle.msg_world.specs.{Prelude.Values, Prelude.WorldState, Prelude.after_update, declared.record.TheConstants.HOST}
 use Rattle.std.proofs.Common.{Bool, List, None, Option, Some, [], append_assoc, arith, false, filter, flat_map, if◌then◌else◌, length, map, nat_lt, option_map, option_to_list, refl, suc, true, zero, ℕ, ◌++◌, ◌∷◌, ◌≡◌}
 use Rattle.std.proofs.lemmas.{Bool.cases_Bool, List.Elements.filter-append, List.append-nil, List.map-append}
@@ -13,17 +13,7 @@ module _ {V : Type 0} {values : Values V} where
   abbrev answer_to : ℕ × Step values → ℕ × Reply V
   answer_to x = (x.0, x.1.reply)
 
-written_is_done : (V : Type 0) (o : Option Written) → is_cut {V = V} (write_reply o) ≡ false
-written_is_done V None = refl
-written_is_done V (Some numbers) = refl
-
 module _ {V : Type 0} {values : Values V} where
-  -- an op that is done doesn't cut its turn
-  op_is_done : (op : Op V) (w : ℕ) (ps : ℕ → ℕ) (s : WorldState values) → is_cut (after_op op w ps s).reply ≡ false
-  op_is_done (Write t v) w ps s = written_is_done V _
-  op_is_done (Batch t vs) w ps s = written_is_done V _
-  op_is_done op w ps s = grind arith
-
   one_is_done : (o : Option (Op V)) (w : ℕ) (far : AfterProgram values) → done_in far.replies ≡ far.replies
       → done_in (one_more o w far).replies ≡ (one_more o w far).replies
   one_is_done None w far so = so

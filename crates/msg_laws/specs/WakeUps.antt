@@ -1,11 +1,12 @@
 -- Systems that are woken by a message and then read all, and what that assures them of.
-use Rattle.std.specs.Prelude.{All, IsTrue, List, [], length, ℕ, ◌++◌, ◌<◌, ◌∷◌, ◌≡◌, ◌≤◌}
+use Rattle.std.specs.Prelude.{All, IsTrue, List, [], length, ℕ, ◌++◌, ◌<◌, ◌∷◌, ◌≡◌, ◌≤◌, ◌⊎◌}
 use Rattle.msg_order.specs.Prelude.{has_joined}
 use Rattle.std.specs.List.{list_any}
 use Rattle.msg_buffer.specs.Prelude.{IsPresent, count}
-use Rattle.msg_world.specs.Prelude.{Values}
-use Rattle.msg_system.specs.{Prelude.of_program, declared.condition.Probe.TheVariants.OnMessage, declared.limits.TheConstants.MAX_OPS, declared.program.Program.Program}
-use Rattle.msg_frames.specs.{Frames.turn_order, Prelude.IsSoundState, Prelude.State, Prelude.after_turns_of, Prelude.before_turns, Prelude.frame, Prelude.join_flags, Prelude.reader_place, Prelude.run, declared.frame.Frame.Frame, declared.log.Outcome.TheVariants.Skipped}
+use Rattle.msg_order.specs.declared.rule.Rule.{Rule}
+use Rattle.msg_world.specs.{Prelude.Values, Prelude.WorldState, declared.part.Part.TheVariants.OfType}
+use Rattle.msg_system.specs.{Prelude.Meaning, Prelude.conditions_of, Prelude.of_program, declared.condition.Probe.TheVariants.OnMessage, declared.limits.TheConstants.MAX_OPS, declared.program.Program.Program, declared.start.Start.TheVariants.Current}
+use Rattle.msg_frames.specs.{Frames.turn_order, Prelude.IsSoundState, Prelude.State, Prelude.after_turns_of, Prelude.before_turns, Prelude.first_state, Prelude.frame, Prelude.join_flags, Prelude.reader_place, Prelude.run, declared.frame.Frame.Frame, declared.log.Outcome.TheVariants.Skipped, declared.place.Place.Place}
 use Rattle.msg_laws.specs.UpToDate.{IsUpToDate, MissesNothing, NothingDrained, reads_all}
 
 -- The one condition of system i is that a message of type t came. What stands from the reader's
@@ -39,6 +40,19 @@ module _ {V : Type 0} {values : Values V} where
       ReadsAllIfWoken i t f s × ReadsAllWhenWoken i t frames (frame f s).state
 
 -- ---- laws
+
+-- Who has joined in a first state, reads a type, and waits for a message of it, is woken by it. It
+-- is up to date too if nothing of the type was written before, or if it starts at the count.
+abbrev pub WhoBeginsIsWoken : {V : Type 0} → Values V → Type 0
+WhoBeginsIsWoken {V} values = (systems : List (Meaning V)) (places : List (Place V))
+    (rules : List Rule) (types : ℕ) (world : WorldState values) (i t : ℕ)
+    → let s : State values = first_state systems places rules types world in
+    IsSoundState s → t < types → IsTrue (has_joined (join_flags s) i)
+    → IsTrue ((s.members i).job.system.needs.reads (OfType t))
+    → conditions_of (s.members i).job ≡ record { nots = 0; probe = OnMessage t } ∷ []
+    → IsWokenBy t i s
+    × ((count (world.histories t) ≡ 0) ⊎ ((s.members i).job.system.start ≡ Current)
+    → IsUpToDate s i t)
 
 -- Who is woken by a type and was skipped had nothing of it unread when its turn came.
 abbrev pub WhoSleepsHasNothingUnread : {V : Type 0} → Values V → Type 0

@@ -58,8 +58,10 @@ pub fn who_reads_each_frame_misses_nothing<V: Value>()
 
 /// A system whose one condition is that a message of a type came, and which reads all of the type
 /// if it runs, loses no wake-up. If it was skipped, nothing was unread by it as its turn came. So
-/// if it is up to date, it misses nothing over a run, unless a system drains the type.
+/// if it is up to date, it misses nothing over a run, unless a system drains the type. One that has
+/// joined in a first state over a world without messages of the type begins so.
 pub fn no_wake_up_is_lost<V: Value>()
+    ensures begins { Spec.WhoBeginsIsWoken V.values }
     ensures sleeps { Spec.WhoSleepsHasNothingUnread V.values }
     ensures woken { Spec.WhoIsWokenStaysSo V.values }
     ensures law { Spec.NoWakeUpIsLost V.values }

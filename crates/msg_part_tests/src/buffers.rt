@@ -146,3 +146,63 @@ fn each_item_makes_one_message(rt: HostRuntime) {
     expect_eq(rt, written, (Some(50), Some(60)));
     drop(buffer);
 }
+
+/// The numbers from 0 to below this one.
+fn numbers(rt: &(impl Abort + AllocGlobal), end: i64) -> Vec<i64> {
+    (0..end).collect(rt.alloc()).have(rt)
+}
+
+/// A buffer with more than a million messages, written one by one.
+fn after_a_million(rt: &(impl Abort + AllocGlobal)) -> Messages<i64> {
+    let mut buffer = Messages::new(rt.alloc(), u64::MAX);
+    for number in 0..1_000_001 {
+        buffer.write(number).have(rt);
+    }
+    buffer
+}
+
+/// More than a million messages in one buffer, of which the last come in batches. All are drained.
+#[test]
+fn more_than_a_million_messages(rt: HostRuntime) {
+    let rt = &rt;
+    let mut buffer = after_a_million(rt);
+    let wrote = buffer.write_batch(numbers(rt, 4_097)).ok();
+    expect_eq(
+        rt,
+        wrote,
+        Some(Written {
+            first: 1_000_001,
+            n: 4_097,
+        }),
+    );
+    let wrote = buffer.write_batch(numbers(rt, 1)).ok();
+    expect_eq(
+        rt,
+        wrote,
+        Some(Written {
+            first: 1_004_098,
+            n: 1,
+        }),
+    );
+    let items = numbers(rt, 100_001);
+    let same = |value: &i64| -> i64 { *value };
+    let wrote = buffer.write_each(&items, &same).ok();
+    expect_eq(
+        rt,
+        wrote,
+        Some(Written {
+            first: 1_004_099,
+            n: 100_001,
+        }),
+    );
+    drop(items);
+    let all = buffer.drain().have(rt);
+    drop(buffer);
+    let last = all.last().map(|instance| (instance.id, instance.message));
+    expect_eq(
+        rt,
+        (all.len(), last),
+        (1_104_100, Some((MessageId(1_104_099), 100_000))),
+    );
+    drop(all);
+}

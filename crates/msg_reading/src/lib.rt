@@ -6,4 +6,4 @@ mod read;
 
 pub use msg_json::{Fault, FileFault, Refusal};
 pub use msg_scenario_data::{Kind, Name, Scenario, SystemSpec};
-pub use read::{check_scenario, read_scenario, read_sections};
+pub use read::{check_scenario, read_scenario, read_sections, read_value};

@@ -63,8 +63,8 @@ pub fn check_scenario(alloc: Global, bytes: &[u8]) -> Result<Scenario, FileFault
     Ok(read_value(alloc, &value)?)
 }
 
-/// The scenario that a JSON value is.
-fn read_value(alloc: Global, value: &Value) -> Result<Scenario, Fault>
+/// The scenario that a JSON value is, or the fault that it is refused for.
+pub fn read_value(alloc: Global, value: &Value) -> Result<Scenario, Fault>
     ensures ok { IfOk result (IsReadAs (view value.now)) }
     ensures runnable { IfOk result IsRunnable }
     ensures refused { IfErr result (λ e. (e.reason ≡ NoRoom) ⊎ HasFault (view value.now) e) }

@@ -3,7 +3,7 @@ ghost use Rattle.std.specs.Prelude.{◌≡◌, [], IfSome, Some};
 ghost use Rattle.msg_reports.specs.Prelude.{IsReported};
 ghost use Rattle.msg_scenario.specs.FromBytes.{IsOfScenario};
 
-use crate::equal::{Have, expect_eq};
+use crate::equal::{Have, expect_eq, expect_text};
 use crate::narrow::Narrow;
 use crate::reports::{LAG, LAG_REPORT};
 use crate::sparing::workers;
@@ -107,4 +107,16 @@ fn calls_files_that_arent_answered(rt: HostRuntime) {
     expect_eq(rt, cut, Err(AnswerFault::Report(ReportFault::Write)));
     sink.expect(rt, 1, &ANSWERS.as_bytes()[..9]);
     drop(sink);
+}
+
+#[test]
+fn answer_faults_say_why(rt: HostRuntime) {
+    const WHY: &[(AnswerFault, &str)] = &[
+        (AnswerFault::Refused(Refusal::NotJson), "refused 1 NotJson"),
+        (AnswerFault::NoMemory, "want of memory"),
+        (AnswerFault::Report(ReportFault::Write), "write fault"),
+    ];
+    for (fault, why) in WHY {
+        expect_text(&rt, fault, why);
+    }
 }

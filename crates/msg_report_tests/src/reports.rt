@@ -7,10 +7,11 @@ use crate::narrow::Narrow;
 use crate::scenario_files::accepted;
 use crate::sparing::{sparing_engine, sparing_systems, workers};
 use msg_exec::{Gate, NoGate, RunFault, Workers};
+use msg_part_tests::meeting::Meeting;
 use msg_scenario::{MemorySink, ReportFault, Scenario, Sink, report, run_scenario};
 use std::process::Abort;
-use std::sync::atomic::{AtomicU64, Ordering};
 use std::thread::Threads;
+use std::time::Clock;
 
 /// A reader that runs before the writer, in two frames.
 pub const LAG: &str =
@@ -214,38 +215,30 @@ fn systems_without_memory(rt: HostRuntime) {
 
 /// Holds system 0 until it was called for another.
 #[derive(Drop)]
-struct HoldGate {
-    came: AtomicU64,
-    limits_met: AtomicU64,
+struct HoldGate<'a, C> {
+    others: Meeting<'a, C>,
 }
 
-impl Gate for HoldGate {
+impl<C: Clock + Sync> Gate for HoldGate<'_, C> {
     fn pass(&self, _worker: u32, system: u32) {
-        if system != 0 {
-            self.came.fetch_add(1, Ordering::SeqCst);
-            return;
+        if system == 0 {
+            self.others.wait();
+        } else {
+            self.others.come();
         }
-        for _ in 0..50_000_000u64 {
-            if self.came.load(Ordering::SeqCst) > 0 {
-                return;
-            }
-        }
-        self.limits_met.fetch_add(1, Ordering::SeqCst);
     }
 }
 
-/// One reader is held until the other came, so each needs a worker of its own.
-fn expect_side_by_side<R: Threads + Sync + Abort + AllocGlobal>(rt: &R, of_engine: bool) {
+/// In the first frame one reader is held until the other came, so each needs a worker of its own.
+fn expect_side_by_side<R: Threads + Clock + Sync + Abort + AllocGlobal>(rt: &R, of_engine: bool) {
     let gate = HoldGate {
-        came: AtomicU64::new(0),
-        limits_met: AtomicU64::new(0),
+        others: Meeting::new(rt, 1),
     };
     let mut sink = MemorySink::new();
     let (put, _) = report_of(rt, two_readers(2, of_engine), &gate, &mut sink);
     expect_eq(rt, put, Ok(()));
-    let came = gate.came.load(Ordering::SeqCst);
-    let limits_met = gate.limits_met.load(Ordering::SeqCst);
-    expect_eq(rt, (came, limits_met), (2, 0));
+    let found = (gate.others.came(), gate.others.missed());
+    expect_eq(rt, found, (2, 0));
     expect_eq(rt, sink.bytes(), WHOLE.as_bytes());
     drop(sink);
     drop(gate);

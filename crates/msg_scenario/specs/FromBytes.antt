@@ -5,10 +5,10 @@ use Rattle.msg_json.specs.Prelude.{IsJsonOf, IsNotJson, IsRefusedFor}
 use Rattle.msg_json.specs.declared.fault.Fault.{Fault}
 use Rattle.msg_json.specs.declared.refusal.Refusal.{Refusal}
 use Rattle.msg_json.specs.declared.refusal.Refusal.TheVariants as refusal
-use Rattle.msg_text.specs.Prelude.{AppendsPrefix, one_failure_more}
+use Rattle.msg_text.specs.Prelude.{AppendsPrefix, Text, one_failure_more}
 use Rattle.msg_text.specs.declared.report_fault.ReportFault.{ReportFault}
 use Rattle.msg_text.specs.declared.report_fault.ReportFault.TheVariants as report_fault
-use Rattle.msg_files.specs.Prelude.{TakesFirstLines, calls_text, file_of}
+use Rattle.msg_files.specs.Prelude.{file_of}
 use Rattle.msg_files.specs.declared.calls.Calls.{Calls}
 use Rattle.msg_reading.specs.Prelude.{IsReadAs}
 use Rattle.msg_reports.specs.Prelude.{IsReported}
@@ -30,16 +30,14 @@ pub record AreOfCalls (bytes : List ℕ) (Holds : Calls → Type 0) : Type 0 whe
   pub read : file_of value ≡ Ok calls
   pub holds : Holds calls
 
-module _ {S : Type 0} (contents : S → Option (List ℕ)) (failures : S → ℕ) (calls : Calls) where
-  -- What answers leave that ended in this fault.
-  pub record EndsAnswers (fault : ReportFault) (old new : S) : Type 0 where
-    -- the sink took a front of the lines
-    pub prefix : AppendsPrefix (contents old) (contents new) (calls_text calls)
-    -- one put failed if the fault says so; else none did, there was no memory for a call, and the
-    -- sink took the lines of those before it
+module _ {S : Type 0} (contents : S → Option (List ℕ)) (failures : S → ℕ) (text : Text) where
+  -- What a text leaves whose puts ended in this fault.
+  pub record EndsText (fault : ReportFault) (old new : S) : Type 0 where
+    -- the sink took a front of it
+    pub prefix : AppendsPrefix (contents old) (contents new) text
+    -- one put failed if the fault says so; else none did, and there was no memory
     pub ended : ((fault ≡ report_fault.Write) × (failures new ≡ one_failure_more (failures old)))
-        ⊎ ((fault ≡ report_fault.NoMemory) × (failures new ≡ failures old)
-        × TakesFirstLines (contents old) (contents new) calls)
+        ⊎ ((fault ≡ report_fault.NoMemory) × (failures new ≡ failures old))
 
 -- The bytes are refused for this, if it is told which faults a value has: they are no JSON text, or
 -- they are the text of a value with such a fault; or memory was refused.

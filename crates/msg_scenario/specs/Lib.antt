@@ -1,1 +1,3 @@
+pub mod Checked
 pub mod FromBytes
+pub mod inner

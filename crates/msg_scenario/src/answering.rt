@@ -1,18 +1,20 @@
 // From the bytes of a file to what a sink takes.
-ghost use Rattle.std.specs.Prelude.{◌≡◌, Err, IfOk, OnErr, OnOk};
+ghost use Rattle.std.specs.Prelude.{◌≡◌, ◌<◌, Err, IfOk, OnErr, OnOk};
 ghost use Rattle.std.specs.Io.KnownBytes.{Appends};
 ghost use Rattle.msg_text.specs.declared.report_fault.ReportFault.{ReportFault as FaultView};
 ghost use Rattle.msg_json.specs.declared.refusal.Refusal.{Refusal as RefusalView};
-ghost use Rattle.msg_files.specs.Prelude.{calls_text, file_of};
+ghost use Rattle.msg_files.specs.Prelude.{TakesFirstLines, calls_text, file_of};
+ghost use Rattle.msg_plans.specs.Prelude.{plan_text};
 ghost use Rattle.msg_reading.specs.Prelude.{HasFault};
 ghost use Rattle.msg_reports.specs.Prelude.{IsReported, LeavesReport};
 ghost use Rattle.msg_scenario_data.specs.Prelude.{IsRunnable};
-ghost use Rattle.msg_scenario.specs.FromBytes.{AreOfCalls, EndsAnswers, IsOfScenario, IsRefusedFile};
+ghost use Rattle.msg_scenario.specs.FromBytes.{AreOfCalls, EndsText, IsOfScenario, IsRefusedFile};
 
 use crate::AnswerFault;
 use crate::scenario_system::systems_of;
 use msg_exec::{NoGate, NoMemory, Workers};
 use msg_files::{read_calls, run_calls};
+use msg_plans::{Form, put_plan};
 use msg_reading::read_scenario;
 use msg_reports::run_scenario;
 use msg_scenario_data::Scenario;
@@ -32,7 +34,12 @@ pub fn answer_bytes<S: Sink>(alloc: Global, bytes: &[u8], sink: &mut S) -> Resul
     ensures quiet { OnOk result (S.failures sink.new ≡ S.failures sink.old) }
     ensures report { (fault : FaultView) → result ≡ Err (AnswerFault.Report fault)
         → AreOfCalls bytes.now (λ calls.
-        EndsAnswers S.contents S.failures calls fault sink.old sink.new) }
+        EndsText S.contents S.failures (calls_text calls) fault sink.old sink.new) }
+
+    // If there was no memory for a call, the lines of those before it were put.
+    ensures lines { result ≡ Err (AnswerFault.Report ReportFault.NoMemory)
+        → AreOfCalls bytes.now (λ calls.
+        TakesFirstLines (S.contents sink.old) (S.contents sink.new) calls) }
     ensures refused { (why : RefusalView) → result ≡ Err (AnswerFault.Refused why)
         → IsRefusedFile (λ d e. file_of d ≡ Err e) bytes.now why }
     ensures unread { (why : RefusalView) → result ≡ Err (AnswerFault.Refused why)
@@ -102,4 +109,41 @@ pub fn report_bytes<R: Threads + Sync + AllocGlobal, S: Sink>(
     let came = run_systems(rt, &scenario, workers, sink);
     drop(scenario);
     Ok(came??)
+}
+
+/// Tells the plan of a frame of a scenario file, as lines or for Graphviz. Nothing is run. Frames
+/// are counted from 1; one past the last of the file has the plan that it would have.
+///
+/// # Errors
+///
+/// `Refused` if the bytes are no scenario file, and then the sink is as it was; `Report` if the
+/// sink failed, or if there was no memory for the plan, and then the sink is as it was too.
+pub fn plan_bytes<S: Sink>(
+    alloc: Global,
+    bytes: &[u8],
+    frame: u32,
+    form: Form,
+    sink: &mut S,
+) -> Result<(), AnswerFault>
+    requires some { 0 < frame }
+    ensures ok { OnOk result (IsOfScenario bytes.now (λ scenario.
+        Appends (S.contents sink.old) (S.contents sink.new) (plan_text form scenario frame))) }
+    ensures quiet { OnOk result (S.failures sink.new ≡ S.failures sink.old) }
+    ensures report { (fault : FaultView) → result ≡ Err (AnswerFault.Report fault)
+        → IsOfScenario bytes.now (λ scenario.
+        EndsText S.contents S.failures (plan_text form scenario frame) fault sink.old sink.new) }
+    ensures memory { result ≡ Err (AnswerFault.Report ReportFault.NoMemory)
+        → sink.new ≡ sink.old }
+    ensures refused { (why : RefusalView) → result ≡ Err (AnswerFault.Refused why)
+        → IsRefusedFile HasFault bytes.now why }
+    ensures unread { (why : RefusalView) → result ≡ Err (AnswerFault.Refused why)
+        → sink.new ≡ sink.old }
+
+    // A plan needs no engine.
+    ensures no_engine { ¬ (result ≡ Err AnswerFault.NoMemory) }
+{
+    let scenario = read_scenario(alloc, bytes)?;
+    let put = put_plan(alloc, &scenario, frame, form, sink);
+    drop(scenario);
+    Ok(put?)
 }

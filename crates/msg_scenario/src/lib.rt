@@ -4,11 +4,15 @@
 
 mod answer_fault;
 mod answering;
+mod check_fault;
+mod checking;
 pub mod laws;
 mod scenario_system;
 
 pub use answer_fault::AnswerFault;
-pub use answering::{answer_bytes, report_bytes};
+pub use answering::{answer_bytes, plan_bytes, report_bytes};
+pub use check_fault::CheckFault;
+pub use checking::check_bytes;
 pub use msg_files::{Call, Calls, check_calls, read_calls, run_calls};
 pub use msg_json::{Fault, FileFault, Key, Location, Reason, Refusal, Step, add_told};
 pub use msg_plans::{Cause, Clash, Form, User, add_unfit, clash_of, put_plan, round};

@@ -25,19 +25,19 @@ op_kept ops i op is =
     (λ p h. grind (arith, false≢true, list_any_at (λ o. (op_needs o).reads p) ops i op lt (rw at h))))
     (none_or_all _ (op_parts op).written (λ p h. list_any_at (λ o. (op_needs o).writes p) ops i op lt (rw at h)))
 
--- so what comes next is done
-program_next : {V : Type 0} (ops : List (Op V)) (k : ℕ) → length ops ≤ MAX_OPS
-    → option_and_then (λ op. if nat_lt k MAX_OPS && keeps_to (program_needs ops) op then Some op else None) (slice_get ops k)
-    ≡ slice_get ops k
-program_next ops k few =
+-- what comes next of such ops is done, if there are at most `MAX_OPS`
+pub next_of_ops : {V : Type 0} (n : Needs) (ops : List (Op V)) (k : ℕ) → length ops ≤ MAX_OPS
+    → ((op : Op V) → slice_get ops k ≡ Some op → keeps_to n op ≡ true)
+    → option_and_then (λ op. if nat_lt k MAX_OPS && keeps_to n op then Some op else None) (slice_get ops k) ≡ slice_get ops k
+next_of_ops n ops k few kept =
     elim (slice_get_cases ops k).1 [
-      | inl h ↦ grind (arith, op_kept ops k h.0 h.2, h.1, h.2)
+      | inl h ↦ grind (arith, kept h.0 h.2, h.1, h.2)
       | inr h ↦ rw (slice_get_past ops k (omega (arith, h.0))) refl
     ]
 
 program_nexts : {V : Type 0} (program : Program V) (w : ℕ) (ps : ℕ → ℕ) → length program.ops ≤ MAX_OPS
     → next_op (of_program program w ps) ≡ (λ (rs : List (Reply V)). slice_get program.ops (length rs))
-program_nexts program w ps few = fun_ext (λ rs. program_next program.ops (length rs) few)
+program_nexts program w ps few = fun_ext (λ rs. next_of_ops (program_needs program.ops) program.ops (length rs) few (op_kept program.ops (length rs)))
 
 -- and nothing is asked for after it
 program_over : {V : Type 0} (program : Program V) (w : ℕ) (ps : ℕ → ℕ) (rs : List (Reply V)) → length rs ≡ length program.ops

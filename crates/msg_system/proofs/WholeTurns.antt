@@ -1,9 +1,10 @@
 -- Turns that nothing cuts.
-use Rattle.std.proofs.Common.{All, ◌≡◌, ℕ, zero, suc, ◌<◌, ◌≤◌, ◌++◌, ◌⊎◌, ◌&&◌, if◌then◌else◌, nat_lt, IsTrue, List, [], ◌∷◌, length, map, Option, Some, None, option_and_then, refl, subst, sym, ap, ◌∙◌, arith, inl, inr}
+use Rattle.std.proofs.Common.{All, ◌≡◌, false, ℕ, zero, suc, ◌<◌, ◌≤◌, ◌++◌, ◌⊎◌, ◌&&◌, if◌then◌else◌, nat_lt, IsTrue, List, [], ◌∷◌, length, map, Option, Some, None, option_and_then, refl, subst, sym, ap, ◌∙◌, arith, inl, inr}
 use Rattle.std.proofs.{lemmas.Bool.cases_eq, lemmas.List.append-nil, lemmas.List.get_or_append_left, Math.Seq.get_or-append_seam, lemmas.List.length_push, lemmas.Option.none-some, lemmas.Option.slice_get_past}
 use Rattle.msg_world.specs.Prelude.{Values, WorldState}
-use Rattle.msg_system.specs.Prelude.{AfterProgram, IsWholeTurn, Meaning, Needs, Op, Program, Reply, Step, TurnsAreWhole, TurnsWithinBounds, after_at_most, after_op, after_program, cut_after, keeps_to, next_done, next_op, of_program, one_more, turn}
-use Rattle.msg_system.specs.declared.limits.TheConstants.{MAX_OPS}
+use Rattle.msg_system.specs.Prelude.{AfterProgram, IsWholeTurn, Meaning, Needs, Op, Program, Reply, Step, TurnsAreWhole, TurnsWithinBounds, after_at_most, after_op, after_program, cut_after, is_cut, keeps_to, next_done, next_op, of_program, one_more, turn, write_reply}
+use Rattle.msg_system.specs.declared.{limits.TheConstants.MAX_OPS, op.Op.TheVariants.Batch, op.Op.TheVariants.Write}
+use Rattle.msg_buffer.specs.declared.instance.Written.{Written}
 use Rattle.msg_system.proofs.{Deciding.stays, Turns.in_order, Turns.op_kept}
 
 kept_among : {V : Type 0} (k : ℕ) (n : Needs) (o : Option (Op V)) → k < MAX_OPS → ((op : Op V) → o ≡ Some op → IsTrue (keeps_to n op))
@@ -115,12 +116,12 @@ module _ {V : Type 0} {values : Values V} (m : Meaning V) (s : WorldState values
       stays (next_op m) m.writer m.places s most k few over ∙ same
 
   -- nothing is told if the rule has ended
-  ends_itself : (far : AfterProgram values) → m.rule [] far.replies ≡ None
+  pub ends_itself : (far : AfterProgram values) → m.rule [] far.replies ≡ None
       → record far { replies = far.replies ++ cut_after (m.rule []) far.replies } ≡ far
   ends_itself far ended = rw (ended, append-nil) refl
 
 -- a turn goes as far as the ops do
-told_alike : {V : Type 0} {values : Values V} (rule : List (Reply V) → Option (Op V)) (a b : AfterProgram values) → a ≡ b
+pub told_alike : {V : Type 0} {values : Values V} (rule : List (Reply V) → Option (Op V)) (a b : AfterProgram values) → a ≡ b
     → record a { replies = a.replies ++ cut_after rule a.replies } ≡ record b { replies = b.replies ++ cut_after rule b.replies }
 told_alike {values = values} rule a b same =
     ap (λ (e : AfterProgram values). record e { replies = e.replies ++ cut_after rule e.replies }) same
@@ -144,6 +145,19 @@ are_whole {V} m s bounds =
       far = is;
       ended = subst (λ (e : AfterProgram _). m.rule [] e.replies ≡ None) (sym is) ended;
     }
+
+-- ---- replies to ops that were done
+
+written_is_done : (V : Type 0) (o : Option Written) → is_cut {V = V} (write_reply o) ≡ false
+written_is_done V None = refl
+written_is_done V (Some numbers) = refl
+
+module _ {V : Type 0} {values : Values V} where
+  -- an op that is done doesn't cut its turn
+  pub op_is_done : (op : Op V) (w : ℕ) (ps : ℕ → ℕ) (s : WorldState values) → is_cut (after_op op w ps s).reply ≡ false
+  op_is_done (Write t v) w ps s = written_is_done V _
+  op_is_done (Batch t vs) w ps s = written_is_done V _
+  op_is_done op w ps s = grind arith
 
 -- ---- programs
 

@@ -18,7 +18,39 @@ pub struct Condition<V = i64> {
 }
 
 impl<V: Value> Condition<V> {
+    ghost use Rattle.std.specs.Prelude.{◌≡◌, ◌+◌, ◌<◌};
     ghost use Rattle.msg_system.specs.Needs.{IsAccessOf, condition_needs};
+
+    /// Whether messages of this type came since it was last asked.
+    pub fn on_message(t: TypeNo) -> Condition<V>
+        ensures condition { result ≡ record { nots = 0; probe = Probe.OnMessage t } }
+    {
+        Condition {
+            nots: 0,
+            probe: Probe::OnMessage(t),
+        }
+    }
+
+    /// Whether a resource has this value.
+    pub fn resource_equals(r: ResNo, value: V) -> Condition<V>
+        ensures condition { result ≡ record { nots = 0; probe = Probe.ResourceEquals r value } }
+    {
+        Condition {
+            nots: 0,
+            probe: Probe::ResourceEquals(r, value),
+        }
+    }
+
+    /// Whether this doesn't hold.
+    pub fn not(self) -> Condition<V>
+        requires few { self.nots < 255 }
+        ensures condition { result ≡ record self { nots = self.nots + 1 } }
+    {
+        Condition {
+            nots: self.nots + 1,
+            probe: self.probe,
+        }
+    }
 
     /// What its probe reads.
     pub fn access(&self) -> Access

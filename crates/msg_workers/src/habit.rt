@@ -1,5 +1,5 @@
 // Whether workers have paid, and how many to start at once.
-ghost use Rattle.std.specs.Prelude.{◌≡◌, ◌+◌, ◌&&◌, if◌then◌else◌, max, nat_le};
+ghost use Rattle.std.specs.Prelude.{◌≡◌, ◌+◌, ◌-◌, ◌*◌, ◌/◌, ◌<◌, ◌↔◌, ◌&&◌, ◌||◌, IsTrue, if◌then◌else◌, max, min, nat_le, nat_lt, not};
 
 /// At most so many batches run in place between two tries.
 const LONGEST_PAUSE: u32 = 256;
@@ -72,7 +72,14 @@ impl Habit {
 
     /// How the next batch runs: over workers if enough ran in place, and workers paid or there is
     /// the price of a try. If there isn't, some more run in place.
-    pub(crate) fn next_way(&mut self, has_price: bool) -> Way {
+    pub(crate) fn next_way(&mut self, has_price: bool) -> Way
+        ensures over { result ≡ Way.OverWorkers
+            ↔ ((self.old.in_place ≡ 0) × IsTrue (self.old.pays || has_price)) }
+        ensures one_less { 0 < self.old.in_place
+            → self.new ≡ record self.old { in_place = self.old.in_place - 1 } }
+        ensures some_more { self.old.in_place ≡ 0 → IsTrue (not (self.old.pays || has_price))
+            → self.new ≡ record self.old { in_place = LOOKED_AT - 1 } }
+    {
         if self.in_place == 0 {
             if self.pays || has_price {
                 return Way::OverWorkers;
@@ -88,7 +95,14 @@ impl Habit {
     }
 
     /// Learns how much the batch did that was tried over workers, and whether it paid.
-    pub(crate) fn did_over_workers(&mut self, size: u64) {
+    pub(crate) fn did_over_workers(&mut self, size: u64)
+        ensures pays { self.new.pays ≡ (self.old.many
+            || nat_le WORTH (size / max self.old.jobs 1 * self.old.others)) }
+        ensures pause { self.new.pause ≡ (if self.new.pays then self.old.pause / 2
+            else min (max (self.old.pause * 2) 1) LONGEST_PAUSE) }
+        ensures in_place { self.new.in_place ≡ (if self.new.pays then 0 else self.new.pause) }
+        ensures tried { self.new.tried ≡ size }
+    {
         let by_others = (size / u64::from(self.jobs.max(1))).saturating_mul(u64::from(self.others));
         self.tried = size;
         self.pays = self.many || by_others >= WORTH;
@@ -101,7 +115,11 @@ impl Habit {
     }
 
     /// Learns how much the batch did that ran in place.
-    pub(crate) fn did_in_place(&mut self, size: u64) {
+    pub(crate) fn did_in_place(&mut self, size: u64)
+        ensures larger { self.new ≡ record self.old {
+          in_place = (if nat_lt self.old.tried (size / 2) then 0 else self.old.in_place);
+        } }
+    {
         if size / 2 > self.tried {
             self.in_place = 0;
         }
@@ -113,6 +131,10 @@ impl Habit {
         ensures at_once { self.new.at_once
             ≡ (if nat_le (own + own) jobs && nat_le self.old.at_once (came + came)
             then max came 1 else 1) }
+        ensures jobs { self.new.jobs ≡ jobs }
+        ensures others { self.new.others ≡ jobs - own }
+        ensures many { 2 < workers → self.new.many
+            ≡ (nat_lt own jobs && nat_le jobs (4 * (jobs - own))) }
     {
         let others = jobs.saturating_sub(own);
         let is_short = own > jobs / 2 || came < self.at_once.div_ceil(2);

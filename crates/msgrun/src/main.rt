@@ -7,20 +7,15 @@
 //! alone those of standard input; `msgrun check FILE` and `msgrun plan FILE --frame K` run nothing.
 #![tactic(auto)]
 
-ghost use Rattle.std.specs.Prelude.{◌≡◌, ◌<◌, ◌≤◌, IfOk};
-ghost use Rattle.msg_scenario_data.specs.Prelude.{IsRunnable};
-ghost use Rattle.msgrun.specs.Prelude.{main_fault, status_after};
+ghost use Rattle.std.specs.Prelude.{◌≡◌, ◌<◌, ◌≤◌};
+ghost use Rattle.msgrun.specs.Prelude.{main_fault, main_fault_of_check, status_after};
 
-mod checking;
-
-use checking::check;
 use msg_command::{Action, InputFault, MainFault, WordFault, parse_words, print_fault, read_all};
 use msg_exec::{MAX_WORKERS, Workers};
-use msg_plans::{Form, put_plan};
-use msg_reading::read_scenario;
-use msg_scenario::{AnswerFault, answer_bytes, report_bytes};
-use msg_scenario_data::Scenario;
-use msg_text::{StdSink, put_all, put_text};
+use msg_scenario::{
+    AnswerFault, CheckFault, Form, answer_bytes, check_bytes, plan_bytes, report_bytes,
+};
+use msg_text::{StdSink, put_all};
 use std::env::Env;
 use std::fs::Files;
 use std::io::{ErrorKind, Input, Print};
@@ -42,7 +37,7 @@ fn run<R: AllocGlobal + Env + Files + Input + Print + Sync + Threads>(
         Action::Buffer(file) => answer_calls(rt, file),
         Action::Run { file, workers } => answer_scenario(rt, file, workers),
         Action::Check(file) => check_file(rt, file),
-        Action::Plan { file, frame, dot } => tell_plan(rt, file, frame, dot),
+        Action::Plan { file, frame, dot } => plan_scenario(rt, file, frame, dot),
     }
 }
 
@@ -96,23 +91,28 @@ fn as_main_fault(fault: AnswerFault) -> MainFault
     }
 }
 
-/// Checks a file, and puts its counts on standard output.
+/// Why a file that was checked doesn't pass, as the fault that ends the program.
+fn check_as_main_fault(fault: CheckFault) -> MainFault
+    ensures fault { result ≡ main_fault_of_check fault }
+{
+    match fault {
+        CheckFault::Refused(why, lines) => MainFault::Told(why, lines),
+        CheckFault::Report(fault) => MainFault::Report(fault),
+    }
+}
+
+/// Checks a file, and tells what it has on standard output.
 fn check_file<R: AllocGlobal + Files + Input + Print>(
     rt: &R,
     file: String,
 ) -> Result<(), MainFault> {
-    let text = told_of(rt, file)?;
-    Ok(put_text(text.as_slice(), &mut StdSink::new(io::writer(rt)))?)
-}
-
-/// What is told of a file that is checked.
-fn told_of<R: AllocGlobal + Files + Input>(rt: &R, file: String) -> Result<Vec<u8>, MainFault> {
     let bytes = bytes_of(rt, Some(file))?;
-    check(rt.alloc(), bytes.as_slice())
+    let mut output = StdSink::new(io::writer(rt));
+    check_bytes(rt.alloc(), bytes.as_slice(), &mut output).map_err(check_as_main_fault)
 }
 
-/// Puts the plan of a frame of a scenario file on standard output, as lines or for Graphviz.
-fn tell_plan<R: AllocGlobal + Files + Input + Print>(
+/// Tells the plan of a frame of a scenario file on standard output, as lines or for Graphviz.
+fn plan_scenario<R: AllocGlobal + Files + Input + Print>(
     rt: &R,
     file: String,
     frame: u32,
@@ -120,33 +120,10 @@ fn tell_plan<R: AllocGlobal + Files + Input + Print>(
 ) -> Result<(), MainFault>
     requires some { 0 < frame }
 {
-    let scenario = scenario_of(rt, file)?;
     let form = if dot { Form::Dot } else { Form::Lines };
-    let told = print_plan(rt, &scenario, frame, form);
-    drop(scenario);
-    told
-}
-
-/// Puts the plan of a frame of a scenario on standard output.
-fn print_plan<R: AllocGlobal + Print>(
-    rt: &R,
-    scenario: &Scenario,
-    frame: u32,
-    form: Form,
-) -> Result<(), MainFault>
-    requires runnable { IsRunnable scenario.now }
-    requires some { 0 < frame }
-{
-    let mut output = StdSink::new(io::writer(rt));
-    Ok(put_plan(rt.alloc(), scenario, frame, form, &mut output)?)
-}
-
-/// The scenario of a scenario file.
-fn scenario_of<R: AllocGlobal + Files + Input>(rt: &R, file: String) -> Result<Scenario, MainFault>
-    ensures runnable { IfOk result IsRunnable }
-{
     let bytes = bytes_of(rt, Some(file))?;
-    Ok(read_scenario(rt.alloc(), bytes.as_slice())?)
+    let mut output = StdSink::new(io::writer(rt));
+    plan_bytes(rt.alloc(), bytes.as_slice(), frame, form, &mut output).map_err(as_main_fault)
 }
 
 /// All bytes of a file, or of standard input.

@@ -1,22 +1,42 @@
-ghost use Rattle.std.specs.Prelude.{◌≡◌};
-ghost use Rattle.msg_text.specs.Prelude.{TakesUnlessFailed};
-ghost use Rattle.msg_command.specs.Prelude.{line_of, refusal_line, status_of};
+ghost use Rattle.std.specs.Prelude.{◌≡◌, ◌++◌, OnErr, OnOk};
+ghost use Rattle.std.specs.Io.KnownBytes.{Appends};
+ghost use Rattle.msg_text.specs.Prelude.{AppendsPrefix, TakesUnlessFailed, one_failure_more};
+ghost use Rattle.msg_command.specs.Prelude.{line_of, lines_of, refusal_line, status_of};
 
 use crate::fault::MainFault;
 use crate::{InputFault, WordFault};
 use msg_json::Refusal;
-use msg_text::{ReportFault, Sink, put_all};
+use msg_text::{PutFault, ReportFault, Sink, put_all};
 use msg_world::RunFault;
 
-/// Puts the fault's line into the sink, and gives the status that the program ends with. Help has
-/// no line. A failure of the sink changes nothing of the status. It takes no memory.
+/// Puts the fault's line into the sink, and the lines that tell of a checked file below it, and
+/// gives the status that the program ends with. Help has no line. A failure of the sink changes
+/// nothing of the status. It takes no memory.
 pub fn print_fault<S: Sink>(fault: &MainFault, sink: &mut S) -> u8
-    ensures line { TakesUnlessFailed (S.contents sink.old) (S.contents sink.new)
-        (S.failures sink.old) (S.failures sink.new) (line_of fault.now) }
+    ensures lines { TakesUnlessFailed (S.contents sink.old) (S.contents sink.new)
+        (S.failures sink.old) (S.failures sink.new) (lines_of fault.now) }
     ensures status { result ≡ status_of fault.now }
 {
-    let _ = put_all(sink, line_of(fault));
+    if let MainFault::Told(why, lines) = fault {
+        let _ = put_both(refusal_line(*why), lines.as_slice(), sink);
+    } else {
+        let _ = put_all(sink, line_of(fault));
+    }
     status_of(fault)
+}
+
+/// Puts one text after another.
+fn put_both<S: Sink>(first: &[u8], second: &[u8], sink: &mut S) -> Result<(), PutFault>
+    ensures ok { OnOk result
+        (Appends (S.contents sink.old) (S.contents sink.new) (first.now ++ second.now)) }
+    ensures quiet { OnOk result (S.failures sink.new ≡ S.failures sink.old) }
+    ensures prefix { OnErr result
+        (AppendsPrefix (S.contents sink.old) (S.contents sink.new) (first.now ++ second.now)) }
+    ensures failed { OnErr result (S.failures sink.new ≡ one_failure_more (S.failures sink.old)) }
+{
+    put_all(sink, first)?;
+    put_all(sink, second)?;
+    Ok(())
 }
 
 fn line_of(fault: &MainFault) -> &[u8]
@@ -28,7 +48,7 @@ fn line_of(fault: &MainFault) -> &[u8]
         MainFault::Input(InputFault::Failed) => b"msgrun: cannot read input\n",
         MainFault::Input(InputFault::TooLarge) => b"msgrun: input too large\n",
         MainFault::Refused(refusal) => refusal_line(*refusal),
-        MainFault::Told(text) => text.as_slice(),
+        MainFault::Told(why, _) => refusal_line(*why),
         MainFault::Report(ReportFault::Run(RunFault::Spoiled)) => b"msgrun: run fault 1 Spoiled\n",
         MainFault::Report(ReportFault::Run(RunFault::BadOrder)) => {
             b"msgrun: run fault 2 BadOrder\n"
@@ -45,7 +65,7 @@ fn line_of(fault: &MainFault) -> &[u8]
 }
 
 /// The line of a refusal.
-pub fn refusal_line(refusal: Refusal) -> &'static [u8]
+fn refusal_line(refusal: Refusal) -> &'static [u8]
     ensures line { result.now ≡ refusal_line refusal }
 {
     match refusal {
@@ -72,7 +92,7 @@ fn status_of(fault: &MainFault) -> u8
         MainFault::Words(WordFault::Bad)
         | MainFault::Input(InputFault::TooLarge)
         | MainFault::Refused(_)
-        | MainFault::Told(_) => 2,
+        | MainFault::Told(..) => 2,
         _ => 1,
     }
 }

@@ -13,6 +13,8 @@ mod call;
 mod file;
 mod part;
 
+pub use file::read_file;
+
 /// The calls file that the bytes are a JSON text of, or the refusal for the first fault.
 pub fn read_calls(alloc: Global, bytes: &[u8]) -> Result<Calls, Refusal>
     ensures ok { IfOk result (λ file. (d : Data) × IsJsonOf bytes.now d × (file_of d ≡ Ok file)) }
@@ -33,5 +35,5 @@ pub fn check_calls(alloc: Global, bytes: &[u8]) -> Result<Calls, FileFault>
     ensures fault { IfErr result (IsFaultOf (λ d e. file_of d ≡ Err e) bytes.now) }
 {
     let value = parse(alloc, bytes)?;
-    Ok(file::read_file(alloc, &value)?)
+    Ok(read_file(alloc, &value)?)
 }

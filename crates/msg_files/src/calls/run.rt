@@ -27,8 +27,8 @@ pub fn run_calls<S: Sink>(alloc: Global, calls: &Calls, sink: &mut S) -> Result<
     ensures prefix { OnErr result
         (AppendsPrefix (S.contents sink.old) (S.contents sink.new) (calls_text calls.now)) }
 
-    // The sink failed if the fault is `Write`, and not if it is `NoMemory`; then it took the lines of
-    // the calls before the one that there was no memory for.
+    // The sink failed if the fault is `Write`, and not if it is `NoMemory`; then it took the lines
+    // of the calls before the one that there was no memory for.
     ensures write { result ≡ Err ReportFault.Write
         → S.failures sink.new ≡ one_failure_more (S.failures sink.old) }
     ensures memory { result ≡ Err ReportFault.NoMemory → S.failures sink.new ≡ S.failures sink.old }

@@ -131,3 +131,14 @@ fn help(rt: HostRuntime) {
     drop(help);
     expect_text(rt, &PutFault, "the sink failed");
 }
+
+/// What is told of a file that was checked is printed as it is.
+#[test]
+fn a_checked_file(rt: HostRuntime) {
+    let rt = &rt;
+    let lines = Vec::from_slice(rt.alloc(), b"where and why\n").have(rt);
+    let told = MainFault::Told(lines);
+    expect_printed(rt, &told, "where and why\n", 2);
+    expect_text(rt, &told, "refused");
+    drop(told);
+}

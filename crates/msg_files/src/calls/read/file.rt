@@ -15,7 +15,7 @@ use msg_world::Items;
 use serde_json::Value;
 use std::alloc::Global;
 
-/// The calls file that a JSON value is.
+/// The calls file that a JSON value is, or its first fault.
 pub fn read_file(alloc: Global, value: &Value) -> Result<Calls, Fault>
     ensures file { Reads (file_of (view value.now)) result }
 {

@@ -1,5 +1,5 @@
-use Rattle.msg_laws.proofs.WakeUps.{no_wake_up, who_sleeps, woken_stays}
+use Rattle.msg_laws.proofs.{BeginsWoken.who_begins, WakeUps.no_wake_up, WakeUps.who_sleeps, WakeUps.woken_stays}
 use Rattle.msg_laws.proofs.reader_laws.no_wake_up_is_lost.Goals as goal
 
 pub returns : goal.returns
-returns g c = record { sleeps = who_sleeps; woken = woken_stays; law = no_wake_up }
+returns g c = record { begins = who_begins; sleeps = who_sleeps; woken = woken_stays; law = no_wake_up }

@@ -1,0 +1,43 @@
+use Rattle.std.proofs.Common.{◌≡◌, ◌∙◌, arith, length, rules}
+use Rattle.msg_function.specs.Functions.{answered}
+use Rattle.msg_function.proofs.FunctionTurns.{parts_told, function_ran}
+use Rattle.msg_system.proofs.Runs.{same_loan_trans}
+use Rattle.msg_function.proofs.Steps.{still_writable}
+use Rattle.msg_function.proofs.Uses.{shown_each, writable_each}
+use Rattle.msg_function.proofs.function_system.FunctionSystemSystemOf.run.Goals as goal
+
+pub read_ports-requires : goal.read_ports-requires
+read_ports-requires g c = record { shown = rw c.as_slice.ensures.items (shown_each _ _ _ c.requires.covers) }
+
+pub answer-requires : goal.answer-requires
+answer-requires g c =
+    let long : c.len-before.result ≡ length c.args.out.now.items = search rules in
+    let first = rw c.as_slice.ensures.items at c.in_ok-read_ports.ensures.ran in
+    let told = parts_told _ _ _ _ _ _ _ first ∙ c.args.self.now.as_many_reads in
+    (omega arith, (rw (c.since.ensures.rest, c.as_slice-2.ensures.value, long) told, c.clear.ensures.nothing))
+
+pub write_lists-requires : goal.write_lists-requires
+write_lists-requires g c =
+    let same = c.in_ok-read_ports.ensures.ran.same in (
+      omega arith,
+      (
+        rw c.as_slice-3.ensures.items c.args.self.now.as_many_writes,
+        rw c.as_slice-3.ensures.items (λ i d lt. still_writable _ _ _ same (writable_each _ _ _ c.requires.covers i d lt)),
+      ),
+    )
+
+pub returns-clause-shape : goal.returns-clause-shape
+returns-clause-shape g c =
+    rw c.into_taken.ensures.taken
+    ((same_loan_trans _ _ _ c.in_ok-read_ports.ensures.ran.same c.in_ok-write_lists.ensures.ran.same).shape)
+
+pub returns-clause-ran : goal.returns-clause-ran
+returns-clause-ran g c =
+    let self = c.args.self.now in
+    let long : c.len-before.result ≡ length c.args.out.now.items = search rules in
+    let made = rw (c.since.ensures.rest, c.as_slice-2.ensures.value, long) at c.in_ok-answer.ensures.answers in
+    let first = rw c.as_slice.ensures.items at c.in_ok-read_ports.ensures.ran in
+    let second = rw c.as_slice-3.ensures.items at c.in_ok-write_lists.ensures.ran in
+    rw c.in_ok-write_lists.ensures.stays
+    (function_ran g.T.Function.answers self.reads self.writes (rw (self.as_many_reads, self.as_many_writes) self.few) self.function self.start
+    _ _ _ _ _ _ _ _ _ _ _ _ (answered c.answer.new.outbox) first made second c.into_taken.ensures.taken)

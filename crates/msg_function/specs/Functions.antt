@@ -1,0 +1,184 @@
+-- What a function is given and answers, and what its system does.
+use Rattle.std.specs.Prelude.{All, ◌≡◌, false, ℕ, suc, ◌==◌, ◌-◌, ◌++◌, Bool, not, ◌&&◌, List, [], ◌∷◌, Option, Some, None, fold, length, map, option_map, option_to_list, slice_get, slice_index_or, take, if◌then◌else◌}
+use Rattle.std.specs.List.{list_any}
+use Rattle.msg_world.specs.declared.part.Part.{Part}
+use Rattle.msg_world.specs.declared.part.Part.TheVariants.{OfType, OfResource}
+use Rattle.msg_world.specs.declared.record.Record.{Record}
+use Rattle.msg_world.specs.Prelude.{Values, WorldState, same_part}
+use Rattle.msg_system.specs.declared.reply.Reply.{Reply}
+use Rattle.msg_system.specs.declared.reply.Reply.TheVariants as reply
+use Rattle.msg_system.specs.declared.op.Op.{Op}
+use Rattle.msg_system.specs.declared.op.Op.TheVariants as op
+use Rattle.msg_system.specs.declared.start.Start.{Start}
+use Rattle.msg_system.specs.Prelude.{Meaning, Needs, Rule, after_program, after_turn, brought, is_cut, is_resource, turn}
+use Rattle.msg_function.specs.declared.inbox.Inbox.{Inbox}
+use Rattle.msg_function.specs.declared.outbox.Outbox.{Outbox}
+use Rattle.msg_function.specs.declared.port.Port.{Port}
+use Rattle.msg_function.specs.declared.port.Port.TheVariants.{Messages, Resource}
+
+-- ---- what it is given
+
+-- What came of each part that is read: its messages, how many were missed, or its value.
+pub record Given (V : Type 0) : Type 0 where
+  pub messages : ℕ → List (Record V)
+  pub missed : ℕ → ℕ
+  pub value : ℕ → Option V
+
+module _ {V : Type 0} where
+  -- how many messages a reply says were missed
+  abbrev pub missed_of : Option (Reply V) → ℕ
+  missed_of (Some (reply.Read took)) = took.missed
+  missed_of _ = 0
+
+  -- the value that a reply tells
+  abbrev pub value_of : Option (Reply V) → Option V
+  value_of (Some (reply.Value v)) = Some v
+  value_of _ = None
+
+  -- what is given by the replies to what is read
+  abbrev pub given_by : List (Reply V) → Given V
+  given_by replies = record {
+    messages = λ k. brought (slice_get replies k);
+    missed = λ k. missed_of (slice_get replies k);
+    value = λ k. value_of (slice_get replies k);
+  }
+
+  -- what an inbox has
+  abbrev pub given : Inbox V → Given V
+  given inbox = given_by inbox.replies.now
+
+  -- how many parts it is given
+  abbrev pub parts : Inbox V → ℕ
+  parts inbox = length inbox.replies.now
+
+-- ---- what it answers
+
+-- the values for each part that is written, by its place
+abbrev pub Answer : Type 0 → Type 0
+Answer V = ℕ → List V
+
+module _ {V : Type 0} where
+  -- no values
+  abbrev pub nothing : Answer V
+  nothing k = []
+
+  -- these values more for part k
+  abbrev pub put_all : ℕ → List V → Answer V → Answer V
+  put_all k values answer = λ j. if j == k then answer j ++ values else answer j
+
+  -- one more
+  abbrev pub put : ℕ → V → Answer V → Answer V
+  put k value answer = put_all k (value ∷ []) answer
+
+  -- what an outbox has
+  abbrev pub answered : {n : ℕ} → Outbox V n → Answer V
+  answered outbox k = slice_index_or (map (λ list. list.items) outbox.lists.items) k []
+
+-- ---- its ops
+
+module _ {V : Type 0} where
+  -- the op that reads a part
+  abbrev pub read_op : Port → Op V
+  read_op (Messages t) = op.Read t None
+  read_op (Resource r) = op.Get r
+
+  -- the op that writes values to a part: a batch, or to a resource the last of them
+  abbrev pub write_op : Port → List V → V → Op V
+  write_op (Messages t) values last = op.Batch t values
+  write_op (Resource r) values last = op.Set r last
+
+  -- the same; none if there are no values
+  abbrev pub written_op : Port → List V → List (Op V)
+  written_op port values =
+      option_to_list (option_map (write_op port values) (slice_get values (length values - 1)))
+
+  -- the ops that write an answer, part by part
+  abbrev pub written_ops : List Port → Answer V → List (Op V)
+  written_ops [] answer = []
+  written_ops (port ∷ ports) answer =
+      written_op port (answer 0) ++ written_ops ports (λ k. answer (suc k))
+
+-- ---- its system
+
+-- the part of a port
+abbrev pub part_of : Port → Part
+part_of (Messages t) = OfType t
+part_of (Resource r) = OfResource r
+
+-- the type, if the port is one
+abbrev pub port_type : Port → Option ℕ
+port_type (Messages t) = Some t
+port_type (Resource r) = None
+
+-- one of the ports is this part
+abbrev pub some_port_is : List Port → Part → Bool
+some_port_is ports p = list_any (λ port. same_part p (part_of port)) ports
+
+-- A resource that is also written isn't listed as read: it is used once, for writing. A type that is
+-- both read and written stays both: that is a clash, with which no engine is built.
+abbrev pub ports_needs : List Port → List Port → Needs
+ports_needs reads writes = record {
+  reads = λ p. some_port_is reads p && not (is_resource p && some_port_is writes p);
+  writes = some_port_is writes;
+}
+
+-- a function: of a memory and of what is given it makes the memory after it, and the answer
+abbrev pub FunctionOf : Type 0 → Type 0 → Type 0
+FunctionOf V M = M → Given V → M × Answer V
+
+module _ {V M : Type 0} (answers : FunctionOf V M) (reads writes : List Port) where
+  -- what it makes of the replies of a turn, of which the first are those to what it reads
+  abbrev pub made_of : M → List (Reply V) → M × Answer V
+  made_of memory replies = answers memory (given_by (take (length reads) replies))
+
+  -- the ops of a turn: it reads each part, and then writes what it answers to that
+  abbrev pub turn_ops : M → List (Reply V) → List (Op V)
+  turn_ops memory replies = map read_op reads ++ written_ops writes (made_of memory replies).1
+
+  -- its memory after turns that were answered so
+  abbrev pub memory_after : M → List (List (Reply V)) → M
+  memory_after memory turns = fold (λ m replies. (made_of m replies).0) memory turns
+
+  -- its rule: op k of the turn after k replies
+  abbrev pub function_rule : M → Rule V
+  function_rule memory turns replies =
+      slice_get (turn_ops (memory_after memory turns) replies) (length replies)
+
+  -- the system of a function that has this memory, after a turn with these last ops
+  abbrev pub of_function : M → Start → ℕ → (ℕ → ℕ) → List (Op V) → Meaning V
+  of_function memory start writer places last = record {
+    needs = ports_needs reads writes;
+    start = start;
+    writer = writer;
+    places = places;
+    rule = function_rule memory;
+    last = last;
+  }
+
+  -- one that was given nothing yet
+  abbrev pub new_function : M → Start → ℕ → Meaning V
+  new_function memory start writer = of_function memory start writer (λ t. 0) (map read_op reads)
+
+module _ {V M : Type 0} {values : Values V} (answers : FunctionOf V M) (reads writes : List Port) where
+  -- what it makes of what it reads in its turn on a world
+  abbrev pub made_on : M → Meaning V → WorldState values → M × Answer V
+  made_on memory m s =
+      answers memory (given_by (after_program (map read_op reads) m.writer m.places s).replies)
+
+  -- what it reads there, and then all that it answers to that
+  abbrev pub ops_on : M → Meaning V → WorldState values → List (Op V)
+  ops_on memory m s = map read_op reads ++ written_ops writes (made_on memory m s).1
+
+-- no reply of a turn tells that it was cut
+abbrev pub TellsOfNoCut : {V : Type 0} {values : Values V} → Meaning V → WorldState values → Type 0
+TellsOfNoCut m s = All (λ reply. is_cut reply ≡ false) (turn m s).replies
+
+-- A turn is never cut: it is all that is read, and then all that is answered to that. After it the
+-- system has the memory that was made of that.
+pub record TurnIsWhole {V M : Type 0} {values : Values V} (answers : FunctionOf V M)
+    (reads writes : List Port) (memory : M) (m : Meaning V) (s : WorldState values) : Type 0 where
+  pub is : turn m s ≡ after_program (ops_on answers reads writes memory m s) m.writer m.places s
+  pub after : after_turn m s
+      ≡ of_function answers reads writes (made_on answers reads writes memory m s).0 m.start m.writer
+      (turn m s).places (ops_on answers reads writes memory m s)
+  pub uncut : TellsOfNoCut m s

@@ -1,0 +1,4 @@
+pub mod Prelude
+pub mod Functions
+pub mod Ready
+pub mod inner

@@ -1,0 +1,45 @@
+ghost use Rattle.std.specs.Prelude.{◌≡◌, ◌<◌};
+
+use msg_system::{Reply, brought};
+use msg_world::{Record, Value};
+
+/// What a system is given in a turn: what came of each part that it reads, in the order in which it
+/// was made with them.
+#[derive(Clone, Copy)]
+pub struct Inbox<'a, V> {
+    pub(crate) replies: &'a [Reply<V>],
+}
+
+impl<'a, V: Value> Inbox<'a, V> {
+    ghost use Rattle.msg_function.specs.Functions.{given, parts};
+
+    /// The messages of part `k` that it hadn't read yet. There are none if that is a resource.
+    pub fn read(&self, k: usize) -> &[Record<V>]
+        requires there { k < parts self.now }
+        ensures messages { result.now ≡ (given self.now).messages k }
+    {
+        brought(self.replies, k)
+    }
+
+    /// How many messages of part `k` it missed since it last read.
+    pub fn missed(&self, k: usize) -> u64
+        requires there { k < parts self.now }
+        ensures missed { result ≡ (given self.now).missed k }
+    {
+        match self.replies.get(k) {
+            Some(Reply::Read(took)) => took.missed,
+            _ => 0,
+        }
+    }
+
+    /// The value of part `k`. None if that is a type.
+    pub fn value(&self, k: usize) -> Option<V>
+        requires there { k < parts self.now }
+        ensures value { result ≡ (given self.now).value k }
+    {
+        match self.replies.get(k) {
+            Some(Reply::Value(value)) => Some(*value),
+            _ => None,
+        }
+    }
+}

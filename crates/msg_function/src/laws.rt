@@ -1,0 +1,31 @@
+// Laws: the turn of a function's system isn't cut. They need no code.
+ghost use Rattle.std.specs.Prelude.{◌+◌, ◌≤◌, ℕ, List, length};
+ghost use Rattle.msg_world.specs.Prelude.{WorldState};
+ghost use Rattle.msg_system.specs.{declared.limits.TheConstants.MAX_OPS, declared.op.Op.Op, declared.start.Start.Start};
+ghost use Rattle.msg_function.specs.{declared.port.Port.Port, Functions.TellsOfNoCut, Functions.TurnIsWhole, Functions.of_function};
+
+use crate::{Function, FunctionSystem};
+use msg_system::SystemOf;
+
+/// The turn of a function's system is never cut, neither by its access nor by the limit of ops: it
+/// is all that the system reads, and then all that the function answers to that. Then the system is
+/// again one of that function, with the memory that came of that; so no later turn is cut either.
+pub fn a_functions_turn_is_whole<
+    T: Function<READS, WRITES>,
+    const READS: usize,
+    const WRITES: usize,
+>()
+    ensures law { (reads writes : List Port) (memory : T) (start : Start) (writer : ℕ)
+        (places : ℕ → ℕ) (last : List (Op T.Value)) (s : WorldState T.Value.values)
+        → length reads + length writes ≤ MAX_OPS
+        → TurnIsWhole T.answers reads writes memory
+        (of_function T.answers reads writes memory start writer places last) s }
+{}
+
+/// The same of a system, as it is: no reply of its turn tells of a cut, whatever the world.
+pub fn no_turn_is_cut<T: Function<READS, WRITES> + Send, const READS: usize, const WRITES: usize>(
+    system: &FunctionSystem<T, READS, WRITES>,
+)
+    ensures law { (s : WorldState T.Value.values)
+        → TellsOfNoCut (⟦<FunctionSystem<T, READS, WRITES> as SystemOf>⟧.meaning system.now) s }
+{}

@@ -1,0 +1,38 @@
+ghost use Rattle.std.specs.Prelude.{◌≡◌};
+
+use msg_json::Refusal;
+use msg_text::ReportFault;
+use msg_world::NoMemory;
+use thiserror::Error;
+
+/// Why the check of a file's bytes didn't end with their counts.
+#[derive(Debug, Drop, Error)]
+pub enum CheckFault {
+    /// They are refused for this, and these lines tell where and why.
+    #[error("refused {0}")]
+    Refused(Refusal, Vec<u8>),
+    /// The counts weren't put to their end, or there was no memory.
+    #[error("{0}")]
+    Report(ReportFault),
+}
+
+impl From<NoMemory> for CheckFault {
+    ghost use Rattle.msg_scenario.specs.declared.check_fault.CheckFault.TheVariants.{Report as NotTold};
+    ghost use Rattle.msg_text.specs.declared.report_fault.ReportFault.TheVariants.{NoMemory as NoRoom};
+
+    ghost from_gives = { λ _ fault. fault ≡ NotTold NoRoom };
+
+    fn from(_error: NoMemory) -> Self {
+        CheckFault::Report(ReportFault::NoMemory)
+    }
+}
+
+impl From<ReportFault> for CheckFault {
+    ghost use Rattle.msg_scenario.specs.declared.check_fault.CheckFault.TheVariants.{Report as NotTold};
+
+    ghost from_gives = { λ came fault. fault ≡ NotTold came };
+
+    fn from(came: ReportFault) -> Self {
+        CheckFault::Report(came)
+    }
+}
