@@ -11,7 +11,7 @@ use Rattle.clap.specs.Takes.{is_valid, default_passes, bundle_passes, bundle_ste
 use Rattle.clap.specs.declared.parser.matches.ValueSource.TheVariants.{DefaultValue, CommandLine}
 use Rattle.clap.specs.declared.builder.ArgAction.TheVariants.{Set, SetTrue, Help}
 use Rattle.clap.proofs.OnLiterals.{clap_on_literals}
-use Rattle.msg_command.specs.Prelude.{dot_rule, file_app, file_rule, frame_rule, plan_app, run_app, workers_rule}
+use Rattle.msg_command.specs.Prelude.{dot_rule, file_app, file_rule, frame_rule, json_rule, plan_app, run_app, serve_app, workers_rule}
 use Rattle.std.proofs.lemmas.Bool.{and_from, and_parts}
 
 -- ---- rows
@@ -254,6 +254,12 @@ file_built = with_index 1 (filled file_rule)
 abbrev workers_built : Rule
 workers_built = with_index 2 (filled workers_rule)
 
+abbrev json_built : Rule
+json_built = with_index 2 (filled json_rule)
+
+abbrev pub serve_shape : Shape
+serve_shape = built_leaf serve_app.top
+
 abbrev pub plan_shape : Shape
 plan_shape = built_leaf plan_app.top
 
@@ -286,11 +292,12 @@ file_given name words passes =
     let given = (and_parts (is_given (codes "FILE") rows) _ are.1).0 in
     first_there (codes "FILE") rows are.0 (grind (arith, given))
 
--- ---- run FILE --workers N
+-- ---- run FILE --workers N --json
 
 run_valued : EachValued run_shape.rules
 unfolding clap_on_literals
-run_valued = (set_valued file_built refl refl, (set_valued workers_built refl refl, (help_valued help_built refl, tt)))
+run_valued =
+    (set_valued file_built refl refl, (flag_valued json_built refl refl, (set_valued workers_built refl refl, (help_valued help_built refl, tt))))
 
 -- `run` takes words only with a FILE, and a number of workers is there, given or by default
 pub run_given : (words : List Text) → level_passes run_shape [] Spec.nothing_held words false ≡ true
@@ -301,6 +308,26 @@ run_given words passes =
     let rows = Spec.rows_after run_shape.rules [] words in
     let are = valued_rows run_shape words run_valued passes in
     let first = (Spec.settled run_shape.rules (Spec.walk run_shape.rules [] Spec.nothing_held words).held).rows in
+    let given = (and_parts (is_given (codes "FILE") rows) _ are.1).0 in
+    let workers_row : is_some (find (λ r. bytes_eq r.id (codes "workers")) rows) ≡ true =
+    grind (arith, default_there workers_built (Spec.with_default (Spec.with_default first file_built) json_built) refl refl) in
+    (first_there (codes "FILE") rows are.0 (grind (arith, given)), first_there (codes "workers") rows are.0 workers_row)
+
+-- ---- serve FILE --workers N
+
+serve_valued : EachValued serve_shape.rules
+unfolding clap_on_literals
+serve_valued = (set_valued file_built refl refl, (set_valued workers_built refl refl, (help_valued help_built refl, tt)))
+
+-- `serve` takes words only with a FILE, and a number of workers is there, given or by default
+pub serve_given : (words : List Text) → level_passes serve_shape [] Spec.nothing_held words false ≡ true
+    → ((file : Text) × (first_of (codes "FILE") (Spec.rows_after serve_shape.rules [] words) ≡ Some file))
+    × ((text : Text) × (first_of (codes "workers") (Spec.rows_after serve_shape.rules [] words) ≡ Some text))
+unfolding clap_on_literals
+serve_given words passes =
+    let rows = Spec.rows_after serve_shape.rules [] words in
+    let are = valued_rows serve_shape words serve_valued passes in
+    let first = (Spec.settled serve_shape.rules (Spec.walk serve_shape.rules [] Spec.nothing_held words).held).rows in
     let given = (and_parts (is_given (codes "FILE") rows) _ are.1).0 in
     let workers_row : is_some (find (λ r. bytes_eq r.id (codes "workers")) rows) ≡ true =
     grind (arith, default_there workers_built (Spec.with_default first file_built) refl refl) in

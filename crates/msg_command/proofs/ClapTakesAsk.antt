@@ -1,5 +1,5 @@
--- Words that clap takes ask for something, or for what there can't be: `buffer` and `check` have their FILE, `run` and
--- `plan` their FILE and a number, and nothing else is entered.
+-- Words that clap takes ask for something, or for what there can't be: `buffer` and `check` have their FILE, `run`,
+-- `plan` and `serve` their FILE and a number, and nothing else is entered.
 use Rattle.std.proofs.Common.{arith, ◌≡◌, ◌⊎◌, inl, inr, ℕ, get_or, List, [], ◌∷◌, refl, ap, Option, Some, None, Bool, true, false, codes, fold, is_some, ◌&&◌, ◌||◌, cond, if◌then◌else◌, not, option_map}
 use Rattle.std.specs.{Str.bytes_eq, Option.option_map_or}
 use Rattle.std.proofs.lemmas.{Slice.Eq.bytes_eq-Decides, Bool.and_parts}
@@ -11,7 +11,7 @@ use Rattle.clap.specs.Takes.{entered_passes, level_passes, other_passes, step_pa
 use Rattle.clap.proofs.OnLiterals.{clap_on_literals}
 use Rattle.msg_command.specs.Prelude.{AsksForNone, asked, msgrun_app, number_in}
 use Rattle.msg_command.specs.declared.limits.TheConstants.{LAST_FRAME, MAX_WORKERS}
-use Rattle.msg_command.proofs.ClapFillsRows.{file_given, plan_given, plan_shape, run_given, run_shape}
+use Rattle.msg_command.proofs.ClapFillsRows.{file_given, plan_given, plan_shape, run_given, run_shape, serve_given, serve_shape}
 
 -- ---- a flag is no subcommand
 
@@ -92,15 +92,16 @@ help_named name isnt = grind (arith, bytes_eq-Decides (codes "help") name, bytes
 abbrev Asks : List Text → Type 0
 Asks words = (is_some (asked words) ≡ true) ⊎ AsksForNone words
 
--- the subcommands: `buffer`, `run`, `check`, `plan` and `help`
+-- the subcommands: `buffer`, `run`, `check`, `plan`, `serve` and `help`
 abbrev sub_at : ℕ → Shape
 sub_at k = get_or (built msgrun_app).subs k top
 
--- the one that a name is of, by five tests of it
-abbrev found : Bool → Bool → Bool → Bool → Bool → Option Shape
-found a b c p h =
+-- the one that a name is of, by six tests of it
+abbrev found : Bool → Bool → Bool → Bool → Bool → Bool → Option Shape
+found a b c p v h =
     cond a (Some (sub_at 0))
-    (cond b (Some (sub_at 1)) (cond c (Some (sub_at 2)) (cond p (Some (sub_at 3)) (cond h (Some (sub_at 4)) None))))
+    (cond b (Some (sub_at 1)) (cond c (Some (sub_at 2))
+    (cond p (Some (sub_at 3)) (cond v (Some (sub_at 4)) (cond h (Some (sub_at 5)) None)))))
 
 run_asks : (words rest : List Text)
     → entered (built msgrun_app) (stop_after top.rules names words) ≡ Some (rows_at run_shape rest)
@@ -126,23 +127,37 @@ plan_asks words rest sub passes =
     let text = given.1.0 in
     elim (number_in LAST_FRAME text) as (λ o. number_in LAST_FRAME text ≡ o → Asks words) [
       | Some n ↦ λ is. inl (rw (sub, given.0.1, given.1.1, is) refl)
-      | None ↦ λ is. inr (inr (rows, text, sub, given.1.1, is))
+      | None ↦ λ is. inr (inr (inl (rows, text, sub, given.1.1, is)))
     ] refl
 
-found_asks : (words rest : List Text) (a b c p h : Bool) → h ≡ false
-    → entered (built msgrun_app) (stop_after top.rules names words) ≡ option_map (λ s. rows_at s rest) (found a b c p h)
-    → option_map_or (λ s. level_passes s [] nothing_held rest false) (found a b c p h) true ≡ true → Asks words
+serve_asks : (words rest : List Text)
+    → entered (built msgrun_app) (stop_after top.rules names words) ≡ Some (rows_at serve_shape rest)
+    → level_passes serve_shape [] nothing_held rest false ≡ true → Asks words
 unfolding clap_on_literals
-found_asks words rest true b c p h isnt sub passes =
+serve_asks words rest sub passes =
+    let given = serve_given rest passes in
+    let rows = (rows_at serve_shape rest).1 in
+    let text = given.1.0 in
+    elim (number_in MAX_WORKERS text) as (λ o. number_in MAX_WORKERS text ≡ o → Asks words) [
+      | Some n ↦ λ is. inl (rw (sub, given.0.1, given.1.1, is) refl)
+      | None ↦ λ is. inr (inr (inr (rows, text, sub, given.1.1, is)))
+    ] refl
+
+found_asks : (words rest : List Text) (a b c p v h : Bool) → h ≡ false
+    → entered (built msgrun_app) (stop_after top.rules names words) ≡ option_map (λ s. rows_at s rest) (found a b c p v h)
+    → option_map_or (λ s. level_passes s [] nothing_held rest false) (found a b c p v h) true ≡ true → Asks words
+unfolding clap_on_literals
+found_asks words rest true b c p v h isnt sub passes =
     let file = file_given (codes "buffer") rest passes in
     inl (rw (sub, file.1) refl)
-found_asks words rest false true c p h isnt sub passes = run_asks words rest sub passes
-found_asks words rest false false true p h isnt sub passes =
+found_asks words rest false true c p v h isnt sub passes = run_asks words rest sub passes
+found_asks words rest false false true p v h isnt sub passes =
     let file = file_given (codes "check") rest passes in
     inl (rw (sub, file.1) refl)
-found_asks words rest false false false true h isnt sub passes = plan_asks words rest sub passes
-found_asks words rest false false false false true isnt sub passes = cc
-found_asks words rest false false false false false isnt sub passes = inl (rw sub refl)
+found_asks words rest false false false true v h isnt sub passes = plan_asks words rest sub passes
+found_asks words rest false false false false true h isnt sub passes = serve_asks words rest sub passes
+found_asks words rest false false false false false true isnt sub passes = cc
+found_asks words rest false false false false false false isnt sub passes = inl (rw sub refl)
 
 stopped_asks : (words : List Text) (o : Option (Text × List Text)) → stop_after top.rules names words ≡ o
     → entered_passes (built msgrun_app) o ≡ true → isnt_help o ≡ true → Asks words
@@ -150,7 +165,8 @@ unfolding clap_on_literals
 stopped_asks words None is passes isnt = inl (rw is refl)
 stopped_asks words (Some (name, rest)) is passes isnt =
     found_asks words rest (bytes_eq (codes "buffer") name || false) (bytes_eq (codes "run") name || false)
-    (bytes_eq (codes "check") name || false) (bytes_eq (codes "plan") name || false) (bytes_eq (codes "help") name || false) (ap (λ b. b || false) (help_named name isnt))
+    (bytes_eq (codes "check") name || false) (bytes_eq (codes "plan") name || false)
+    (bytes_eq (codes "serve") name || false) (bytes_eq (codes "help") name || false) (ap (λ b. b || false) (help_named name isnt))
     (ap (entered (built msgrun_app)) is) passes
 
 -- what words that clap takes ask for

@@ -3,26 +3,29 @@ use Rattle.std.specs.Prelude.{◌≡◌, ◌⊎◌, ℕ, [], ◌<◌, ◌≤◌,
 use Rattle.std.specs.{Char.digit_value, List.list_all, Option.option_map_or, Str.bytes_eq, Str.Parse.digits_value, Str.Parse.without_leading_plus}
 use Rattle.clap.specs.{Words.IsAmong, Words.Kinds, Words.Row, Words.Text, Words.first_of, Words.subcommand_of, declared.error.ErrorKind.ErrorKind}
 use Rattle.clap.specs.declared.error.ErrorKind.TheVariants as kind
-use Rattle.msg_command.specs.{CommandLine.msgrun_app, declared.words.Action.Action, declared.words.Action.TheVariants.Buffer, declared.words.Action.TheVariants.Run, declared.words.Action.TheVariants.Check, declared.words.Action.TheVariants.Plan, declared.words.WordFault.WordFault}
+use Rattle.msg_command.specs.{CommandLine.msgrun_app, declared.words.Action.Action, declared.words.Action.TheVariants.Buffer, declared.words.Action.TheVariants.Run, declared.words.Action.TheVariants.Check, declared.words.Action.TheVariants.Plan, declared.words.Action.TheVariants.Serve, declared.words.WordFault.WordFault}
 use Rattle.msg_command.specs.declared.limits.TheConstants.{LAST_FRAME, MAX_WORKERS}
 use Rattle.msg_command.specs.declared.words.WordFault.TheVariants as word
 
 -- a request: to answer the calls file of a name, or of standard input; to run the scenario file of
--- a name on so many workers; to check the file of a name; or to tell the plan of a frame of the
--- scenario file of a name, for Graphviz or not
+-- a name on so many workers, and tell it as JSON or not; to check the file of a name; to tell the
+-- plan of a frame of the scenario file of a name, for Graphviz or not; or to serve the scenario
+-- file of a name on so many workers
 pub data Request : Type 0 where
   buffer : Option Text → Request
-  run : Text → ℕ → Request
+  run : Text → ℕ → Bool → Request
   check : Text → Request
   plan : Text → ℕ → Bool → Request
+  serve : Text → ℕ → Request
 
 -- the request that an action stands for
 abbrev pub request_of : Action → Request
 request_of (Buffer None) = buffer None
 request_of (Buffer (Some file)) = buffer (Some (string_bytes file))
-request_of (Run file workers) = run (string_bytes file) workers
+request_of (Run file workers json) = run (string_bytes file) workers json
 request_of (Check file) = check (string_bytes file)
 request_of (Plan file frame dot) = plan (string_bytes file) frame dot
+request_of (Serve file workers) = serve (string_bytes file) workers
 
 -- one decimal digit or more, and nothing else
 abbrev pub is_numeral : Text → Bool
@@ -43,15 +46,21 @@ workers_asked rows = option_and_then (number_in MAX_WORKERS) (first_of (codes "w
 abbrev pub frame_asked : List Row → Option ℕ
 frame_asked rows = option_and_then (number_in LAST_FRAME) (first_of (codes "frame") rows)
 
--- whether --dot is among the words
-abbrev pub dot_asked : List Row → Bool
-dot_asked rows = option_map_or (λ t. bytes_eq t (codes "true")) (first_of (codes "dot") rows) false
+-- whether this flag is among the words
+abbrev pub is_asked : Text → List Row → Bool
+is_asked flag rows = option_map_or (λ t. bytes_eq t (codes "true")) (first_of flag rows) false
 
 -- a run of FILE on so many workers, if there are both
-abbrev pub run_asked : Option Text → Option ℕ → Option Request
-run_asked (Some file) (Some workers) = Some (run file workers)
-run_asked (Some file) None = None
-run_asked None workers = None
+abbrev pub run_asked : Option Text → Option ℕ → Bool → Option Request
+run_asked (Some file) (Some workers) json = Some (run file workers json)
+run_asked (Some file) None json = None
+run_asked None workers json = None
+
+-- FILE served on so many workers, if there are both
+abbrev pub serve_asked : Option Text → Option ℕ → Option Request
+serve_asked (Some file) (Some workers) = Some (serve file workers)
+serve_asked (Some file) None = None
+serve_asked None workers = None
 
 -- the plan of such a frame of FILE, if there are both
 abbrev pub plan_asked : Option Text → Option ℕ → Bool → Option Request
@@ -68,10 +77,13 @@ asked_by (Some (name, rows)) =
     then option_map (λ file. buffer (Some file)) (first_of (codes "FILE") rows)
     else (if bytes_eq name (codes "run")
     then run_asked (first_of (codes "FILE") rows) (workers_asked rows)
+    (is_asked (codes "json") rows)
     else (if bytes_eq name (codes "check")
     then option_map (λ file. check file) (first_of (codes "FILE") rows)
     else (if bytes_eq name (codes "plan")
-    then plan_asked (first_of (codes "FILE") rows) (frame_asked rows) (dot_asked rows) else None)))
+    then plan_asked (first_of (codes "FILE") rows) (frame_asked rows) (is_asked (codes "dot") rows)
+    else (if bytes_eq name (codes "serve")
+    then serve_asked (first_of (codes "FILE") rows) (workers_asked rows) else None))))
 
 -- what the words ask for, by the subcommand that clap finds in them
 abbrev pub asked : List Text → Option Request
@@ -87,6 +99,7 @@ HasNoNumber name id most words = (rows : List Row) × (text : Text)
 abbrev pub AsksForNone : List Text → Type 0
 AsksForNone words = HasNoNumber (codes "run") (codes "workers") MAX_WORKERS words
     ⊎ HasNoNumber (codes "plan") (codes "frame") LAST_FRAME words
+    ⊎ HasNoNumber (codes "serve") (codes "workers") MAX_WORKERS words
 
 -- clap tells by this kind that help or the version is asked for
 abbrev pub IsShown : ErrorKind → Type 0
@@ -104,6 +117,7 @@ IsToldOf kinds word.NoMemory = Unit {0}
 -- a run is on 1 to `MAX_WORKERS` workers, a plan of a frame from 1 to `LAST_FRAME`
 abbrev pub IsInRange : Action → Type 0
 IsInRange (Buffer file) = Unit {0}
-IsInRange (Run file workers) = (0 < workers) × (workers ≤ MAX_WORKERS)
+IsInRange (Run file workers json) = (0 < workers) × (workers ≤ MAX_WORKERS)
 IsInRange (Check file) = Unit {0}
 IsInRange (Plan file frame dot) = (0 < frame) × (frame ≤ LAST_FRAME)
+IsInRange (Serve file workers) = (0 < workers) × (workers ≤ MAX_WORKERS)

@@ -1,5 +1,5 @@
--- The command line: `msgrun`, `msgrun buffer FILE`, `msgrun run FILE --workers N`,
--- `msgrun check FILE`, or `msgrun plan FILE --frame K --dot`.
+-- The command line: `msgrun`, `msgrun buffer FILE`, `msgrun run FILE --workers N --json`,
+-- `msgrun check FILE`, `msgrun plan FILE --frame K --dot`, or `msgrun serve FILE --workers N`.
 use Rattle.std.specs.Prelude.{Some, List, [], ◌∷◌, String, codes, map, string_bytes, true}
 use Rattle.std.specs.declared.alloc.Global.{Global}
 use Rattle.clap.specs.{Words.App, Words.Rule, Words.Text, Words.new_app, Words.new_rule, Words.with_rule, Words.with_subcommand, declared.builder.ArgAction.TheVariants.Set, declared.builder.ArgAction.TheVariants.SetTrue}
@@ -21,6 +21,10 @@ workers_rule = record (new_rule (codes "workers")) {
 abbrev pub dot_rule : Rule
 dot_rule = record (new_rule (codes "dot")) { long = Some (codes "dot"); action = Some SetTrue }
 
+-- --json, which has no value
+abbrev pub json_rule : Rule
+json_rule = record (new_rule (codes "json")) { long = Some (codes "json"); action = Some SetTrue }
+
 -- --frame K, which is 1 if it doesn't stand there
 abbrev pub frame_rule : Rule
 frame_rule = record (new_rule (codes "frame")) {
@@ -38,9 +42,13 @@ file_app name = with_rule (new_app name) file_rule
 abbrev pub buffer_app : App
 buffer_app = file_app (codes "buffer")
 
--- run FILE --workers N
+-- run FILE --workers N --json
 abbrev pub run_app : App
-run_app = with_rule (file_app (codes "run")) workers_rule
+run_app = with_rule (with_rule (file_app (codes "run")) json_rule) workers_rule
+
+-- serve FILE --workers N
+abbrev pub serve_app : App
+serve_app = with_rule (file_app (codes "serve")) workers_rule
 
 -- check FILE
 abbrev pub check_app : App
@@ -66,4 +74,6 @@ running_app = with_subcommand (with_subcommand bare_app buffer_app.top) run_app.
 
 -- the whole command: nothing, or one of the subcommands
 abbrev pub msgrun_app : App
-msgrun_app = with_subcommand (with_subcommand running_app check_app.top) plan_app.top
+msgrun_app =
+    with_subcommand (with_subcommand (with_subcommand running_app check_app.top) plan_app.top)
+    serve_app.top

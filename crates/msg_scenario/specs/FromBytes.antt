@@ -13,6 +13,15 @@ use Rattle.msg_files.specs.declared.calls.Calls.{Calls}
 use Rattle.msg_reading.specs.Prelude.{IsReadAs}
 use Rattle.msg_reports.specs.Prelude.{IsReported}
 use Rattle.msg_scenario_data.specs.declared.scenario.Scenario.{Scenario}
+use Rattle.msg_serve.specs.declared.serve_fault.ServeFault.{ServeFault}
+use Rattle.msg_serve.specs.declared.serve_fault.ServeFault.TheVariants as serve_fault
+use Rattle.msg_scenario.specs.declared.answer_fault.AnswerFault.{AnswerFault}
+use Rattle.msg_scenario.specs.declared.answer_fault.AnswerFault.TheVariants as answer
+
+-- why a file wasn't answered to the end, by what its serving came to
+abbrev pub served_fault : ServeFault → AnswerFault
+served_fault serve_fault.Input = answer.Input
+served_fault (serve_fault.Report fault) = answer.Report fault
 
 -- The bytes are a scenario file, and this holds of its scenario.
 pub record IsOfScenario (bytes : List ℕ) (Holds : Scenario → Type 0) : Type 0 where

@@ -1,6 +1,7 @@
 ghost use Rattle.std.specs.Prelude.{◌≡◌};
 
 use msg_json::Refusal;
+use msg_serve::ServeFault;
 use msg_text::ReportFault;
 use msg_world::NoMemory;
 use thiserror::Error;
@@ -17,6 +18,9 @@ pub enum AnswerFault {
     /// The answers or the report weren't put to their end.
     #[error("{0}")]
     Report(ReportFault),
+    /// The input of lines failed.
+    #[error("cannot read input")]
+    Input,
 }
 
 impl From<Refusal> for AnswerFault {
@@ -46,5 +50,18 @@ impl From<ReportFault> for AnswerFault {
 
     fn from(came: ReportFault) -> Self {
         AnswerFault::Report(came)
+    }
+}
+
+impl From<ServeFault> for AnswerFault {
+    ghost use Rattle.msg_scenario.specs.FromBytes.{served_fault};
+
+    ghost from_gives = { λ came fault. fault ≡ served_fault came };
+
+    fn from(came: ServeFault) -> Self {
+        match came {
+            ServeFault::Input => AnswerFault::Input,
+            ServeFault::Report(fault) => AnswerFault::Report(fault),
+        }
     }
 }

@@ -8,6 +8,7 @@ mod check_fault;
 mod checking;
 pub mod laws;
 mod scenario_system;
+mod serving;
 
 pub use answer_fault::AnswerFault;
 pub use answering::{answer_bytes, plan_bytes, report_bytes};
@@ -19,4 +20,6 @@ pub use msg_plans::{Cause, Clash, Form, User, add_unfit, clash_of, put_plan, rou
 pub use msg_reading::{check_scenario, read_scenario, read_sections};
 pub use msg_reports::{add_system, engine_of, report, run_scenario};
 pub use msg_scenario_data::{Kind, Name, Scenario, SystemSpec};
+pub use msg_serve::{MAX_LINE, ServeFault};
 pub use msg_text::{CAPACITY, MemorySink, PutFault, ReportFault, Sink, StdSink, put_all};
+pub use serving::{serve_bytes, trace_bytes};

@@ -7,12 +7,14 @@ use Rattle.msg_scenario.specs.declared.check_fault.CheckFault.TheVariants as che
 use Rattle.msg_command.specs.Prelude.{status_of}
 use Rattle.msg_command.specs.declared.fault.MainFault.{MainFault}
 use Rattle.msg_command.specs.declared.fault.MainFault.TheVariants as main
+use Rattle.msg_command.specs.declared.input.InputFault.TheVariants as input
 
 -- the fault that ends the program, by why a file wasn't answered to its end
 abbrev pub main_fault : AnswerFault → MainFault
 main_fault (answer.Refused why) = main.Refused why
 main_fault answer.NoMemory = main.Built
 main_fault (answer.Report fault) = main.Report fault
+main_fault answer.Input = main.Input input.Failed
 
 -- the same, by why a file that was checked doesn't pass
 abbrev pub main_fault_of_check : CheckFault → MainFault

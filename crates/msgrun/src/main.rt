@@ -1,10 +1,12 @@
 //! Runs a scenario file, and reports what its systems were answered and what each reader got,
 //! missed and cleared; or answers a calls file: the calls of one message buffer and its cursors, a
 //! line for each; or checks a file, and tells where and why it is refused; or tells in which order
-//! the systems of a scenario run, and why.
+//! the systems of a scenario run, and why; or serves a scenario: each line of standard input is a
+//! frame, and is answered by a line of JSON.
 //!
-//! `msgrun run FILE --workers N` runs a scenario, `msgrun buffer FILE` answers calls, and `msgrun`
-//! alone those of standard input; `msgrun check FILE` and `msgrun plan FILE --frame K` run nothing.
+//! `msgrun run FILE --workers N` runs a scenario, `msgrun serve FILE --workers N` serves one,
+//! `msgrun buffer FILE` answers calls, and `msgrun` alone those of standard input; `msgrun check
+//! FILE` and `msgrun plan FILE --frame K` run nothing.
 #![tactic(auto)]
 
 ghost use Rattle.std.specs.Prelude.{◌≡◌, ◌<◌, ◌≤◌};
@@ -14,14 +16,18 @@ use msg_command::{Action, InputFault, MainFault, WordFault, parse_words, print_f
 use msg_exec::{MAX_WORKERS, Workers};
 use msg_scenario::{
     AnswerFault, CheckFault, Form, answer_bytes, check_bytes, plan_bytes, report_bytes,
+    serve_bytes, trace_bytes,
 };
 use msg_text::{StdSink, put_all};
 use std::env::Env;
 use std::fs::Files;
-use std::io::{ErrorKind, Input, Print};
+use std::io::{BufReader, ErrorKind, Input, Print};
 use std::process::ExitCode;
 use std::thread::Threads;
 use std::{env, fs, io};
+
+/// How many bytes of standard input are read ahead.
+const READ_AHEAD: usize = 65_536;
 
 fn main(rt: HostRuntime) -> ExitCode {
     let ended = run(&rt);
@@ -35,9 +41,14 @@ fn run<R: AllocGlobal + Env + Files + Input + Print + Sync + Threads>(
     let words = words_given(rt)?;
     match parse_words(rt.alloc(), words.as_slice())? {
         Action::Buffer(file) => answer_calls(rt, file),
-        Action::Run { file, workers } => answer_scenario(rt, file, workers),
+        Action::Run {
+            file,
+            workers,
+            json,
+        } => answer_scenario(rt, file, workers, json),
         Action::Check(file) => check_file(rt, file),
         Action::Plan { file, frame, dot } => plan_scenario(rt, file, frame, dot),
+        Action::Serve { file, workers } => serve_lines(rt, file, workers),
     }
 }
 
@@ -68,6 +79,7 @@ fn answer_scenario<R: AllocGlobal + Files + Input + Print + Sync + Threads>(
     rt: &R,
     file: String,
     workers: u32,
+    json: bool,
 ) -> Result<(), MainFault>
     requires some { 0 < workers }
     requires at_most { workers ≤ MAX_WORKERS }
@@ -77,7 +89,33 @@ fn answer_scenario<R: AllocGlobal + Files + Input + Print + Sync + Threads>(
     };
     let bytes = bytes_of(rt, Some(file))?;
     let mut output = StdSink::new(io::writer(rt));
-    report_bytes(rt, bytes.as_slice(), workers, &mut output).map_err(as_main_fault)
+    let ended = if json {
+        trace_bytes(rt, bytes.as_slice(), workers, &mut output)
+    } else {
+        report_bytes(rt, bytes.as_slice(), workers, &mut output)
+    };
+    ended.map_err(as_main_fault)
+}
+
+/// Runs the frames of a scenario file on 1 to 64 workers, and then those that are lines of standard
+/// input; each line is answered on standard output.
+fn serve_lines<R: AllocGlobal + Files + Input + Print + Sync + Threads>(
+    rt: &R,
+    file: String,
+    workers: u32,
+) -> Result<(), MainFault>
+    requires some { 0 < workers }
+    requires at_most { workers ≤ MAX_WORKERS }
+{
+    let Some(workers) = Workers::new(workers) else {
+        unreachable!()
+    };
+    let bytes = bytes_of(rt, Some(file))?;
+    let Ok(mut input) = BufReader::with_capacity(rt.alloc(), READ_AHEAD, rt.reader()) else {
+        return Err(MainFault::Built);
+    };
+    let mut output = StdSink::new(io::writer(rt));
+    serve_bytes(rt, bytes.as_slice(), workers, &mut input, &mut output).map_err(as_main_fault)
 }
 
 /// Why a file wasn't answered to its end, as the fault that ends the program.
@@ -88,6 +126,7 @@ fn as_main_fault(fault: AnswerFault) -> MainFault
         AnswerFault::Refused(refusal) => MainFault::Refused(refusal),
         AnswerFault::NoMemory => MainFault::Built,
         AnswerFault::Report(fault) => MainFault::Report(fault),
+        AnswerFault::Input => MainFault::Input(InputFault::Failed),
     }
 }
 

@@ -2,7 +2,7 @@
 ghost use Rattle.std.specs.Prelude.{◌≡◌, ◌⊎◌, [], IfOk, IfErr, OnOk, false, true};
 ghost use Rattle.clap.specs.{Words.App, Words.app_of, Words.with_subcommand, Words.rule_of, Words.fault_of, Words.takes, Words.subcommand_of, Words.subcommand_rows_of, Words.kind_of, declared.Command.out-Command as fields_of, declared.error.ErrorKind.TheVariants.OutOfMemory};
 ghost use Rattle.msg_command.specs.CommandLine.{bare_app};
-ghost use Rattle.msg_command.specs.Prelude.{IsShown, IsToldOf, buffer_app, check_app, dot_rule, file_app, file_rule, frame_rule, msgrun_app, plan_app, run_app, texts_of, workers_rule};
+ghost use Rattle.msg_command.specs.Prelude.{IsShown, IsToldOf, buffer_app, check_app, dot_rule, file_app, file_rule, frame_rule, json_rule, msgrun_app, plan_app, run_app, serve_app, texts_of, workers_rule};
 ghost use Rattle.msg_command.specs.inner.Telling.{IsHelp};
 
 use crate::words::{WordFault, help};
@@ -42,6 +42,16 @@ fn dot_arg<'a>(alloc: Global) -> Arg<'a>
     Arg::new(alloc, "dot")
         .long("dot")
         .help("Tells it as a graph, for Graphviz")
+        .action(ArgAction::SetTrue)
+}
+
+fn json_arg<'a>(alloc: Global) -> Arg<'a>
+    ensures rule { rule_of result ≡ json_rule }
+    ensures local { result.global ≡ false }
+{
+    Arg::new(alloc, "json")
+        .long("json")
+        .help("Tells each frame as a line of JSON")
         .action(ArgAction::SetTrue)
 }
 
@@ -97,6 +107,21 @@ fn run_command<'a>(alloc: Global) -> Result<Command<'a>, AllocError>
         "Runs the scenario file FILE, and reports",
         help::RUN,
         help::RUN_IN_FULL,
+    )?;
+    command.arg(json_arg(alloc))?.arg(workers_arg(alloc))
+}
+
+fn serve_command<'a>(alloc: Global) -> Result<Command<'a>, AllocError>
+    ensures app { IfOk result (λ c. app_of c ≡ serve_app) }
+    ensures local { IfOk result (λ c. (fields_of c).has_globals ≡ false) }
+{
+    let command = file_command(
+        alloc,
+        "serve",
+        "The scenario file",
+        "Runs the scenario file FILE, and then a frame for each line of standard input",
+        help::SERVE,
+        help::SERVE,
     )?;
     command.arg(workers_arg(alloc))
 }
@@ -182,7 +207,8 @@ fn command<'a>(alloc: Global) -> Result<Command<'a>, AllocError>
     let command = with_subcommand(bare_command(alloc), buffer_command(alloc));
     let command = with_subcommand(command, run_command(alloc));
     let command = with_subcommand(command, check_command(alloc));
-    with_subcommand(command, plan_command(alloc))
+    let command = with_subcommand(command, plan_command(alloc));
+    with_subcommand(command, serve_command(alloc))
 }
 
 fn fault(alloc: Global, error: clap::Error) -> WordFault

@@ -95,7 +95,9 @@ Each frame is told, and at the end what each reader got, missed and cleared:
   reader r hit start 0 got 2 missed 0 cleared 0 place 2
 
 A file may also have resources and held updates, and a system other ops, a kind, conditions
-(if), a frame to join with and a start. `msgrun help run` describes all of it.";
+(if), a frame to join with and a start. `msgrun help run` describes all of it.
+
+With --json each frame is one line of JSON, and so are the readers: `msgrun help serve`.";
 
 pub(crate) const RUN_IN_FULL: &str = "\
 FILE is JSON: message types with limits, systems with their ops, rules of order, and
@@ -155,6 +157,7 @@ The conditions:
   [\"resource_equals\",r,v]  r has the value v
   [\"not\",C]                the condition C doesn't hold; at most 16, one in another
 
+With --json each frame is one line of JSON, and so are the readers: `msgrun help serve`.
 docs/FORMATS.md has each line of the report, and `msgrun --help` the refusals and the exit
 statuses.";
 
@@ -182,3 +185,17 @@ each type; and the longest chain of systems that wait for one another:
   type hit: written by w; read by r (a frame late)
   longest chain: r w (2)
 A picture of it, if Graphviz is installed: `msgrun plan FILE --dot | dot -Tsvg`.";
+
+pub(crate) const SERVE: &str = "\
+FILE is read as `msgrun run` reads it, and its frames are run. Then each line of standard
+input is a frame, a list of posts as in FILE, and is answered by one line before the next is
+read:
+  [[\"hit\",6]]
+  {\"frame\":3,\"posts\":[{\"type\":\"hit\",\"first\":3,\"n\":1}],\"turns\":[..],
+   \"types\":{\"hit\":{\"oldest\":1,\"written\":5}},\"resources\":{}}
+A line that is refused changes nothing, and is answered by where and why:
+  [[\"hat\",6]]
+  {\"refused\":8,\"name\":\"UnknownName\",\"at\":\"[0][0]\",
+   \"why\":\"no type has this name; did you mean hit?\"}
+The line \"readers\", with its quotes, asks what each reader got, missed and cleared; that is
+told at the end of input too. A line has at most 4194304 bytes. docs/FORMATS.md has it all.";

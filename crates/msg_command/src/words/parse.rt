@@ -1,6 +1,6 @@
 ghost use Rattle.std.specs.Prelude.{◌≡◌, ◌<◌, ◌≤◌, ◌⊎◌, [], IfSome, Some, None, true, IfOk, IfErr, OnOk, codes, string_bytes};
 ghost use Rattle.clap.specs.Words.{fault_of, takes, first_of, rows_of, found_of, subcommand_rows_of};
-ghost use Rattle.msg_command.specs.Prelude.{AsksForNone, IsInRange, IsToldOf, asked, asked_by, dot_asked, frame_asked, msgrun_app, number_in, request_of, texts_of, workers_asked};
+ghost use Rattle.msg_command.specs.Prelude.{AsksForNone, IsInRange, IsToldOf, asked, asked_by, frame_asked, is_asked, msgrun_app, number_in, request_of, texts_of, workers_asked};
 
 use crate::limits::{LAST_FRAME, MAX_WORKERS};
 use crate::words::command::matches;
@@ -44,7 +44,12 @@ fn action_of(alloc: Global, matches: &ArgMatches<'_>) -> Result<Action, WordFaul
     if name == "run" {
         let file = file_of(alloc, inner)?;
         let workers = workers_of(inner)?;
-        return Ok(Action::Run { file, workers });
+        let json = is_given(inner, "json");
+        return Ok(Action::Run {
+            file,
+            workers,
+            json,
+        });
     }
     if name == "check" {
         let file = file_of(alloc, inner)?;
@@ -53,8 +58,13 @@ fn action_of(alloc: Global, matches: &ArgMatches<'_>) -> Result<Action, WordFaul
     if name == "plan" {
         let file = file_of(alloc, inner)?;
         let frame = frame_of(inner)?;
-        let dot = is_dot(inner);
+        let dot = is_given(inner, "dot");
         return Ok(Action::Plan { file, frame, dot });
+    }
+    if name == "serve" {
+        let file = file_of(alloc, inner)?;
+        let workers = workers_of(inner)?;
+        return Ok(Action::Serve { file, workers });
     }
     Err(WordFault::Bad)
 }
@@ -96,10 +106,10 @@ fn frame_of(inner: &ArgMatches<'_>) -> Result<u32, WordFault>
 }
 
 #[tactic(auto, using(crate::proofs::RowValues::row_value))]
-fn is_dot(inner: &ArgMatches<'_>) -> bool
-    ensures dot { result ≡ dot_asked (rows_of (found_of inner.now)) }
+fn is_given(inner: &ArgMatches<'_>, flag: &str) -> bool
+    ensures given { result ≡ is_asked flag.now (rows_of (found_of inner.now)) }
 {
-    match inner.get_str("dot") {
+    match inner.get_str(flag) {
         Some(text) => text == "true",
         None => false,
     }

@@ -1,0 +1,46 @@
+"""A client of `msgrun serve`: an engine of a scenario file, frame by frame, from Python."""
+import json
+import subprocess
+
+
+class Refused(Exception):
+    """A frame that was refused, and changed nothing: its `refused`, `name`, `at` and `why` are in `answer`."""
+
+    def __init__(self, answer):
+        super().__init__(f"{answer['name']} at {answer['at'] or 'the line'}: {answer['why']}")
+        self.answer = answer
+
+
+class Engine:
+    """The engine of a scenario file. `with Engine(program, file) as engine:` ends it."""
+
+    def __init__(self, program, file, workers=1):
+        words = [program, "serve", file, "--workers", str(workers)]
+        self.process = subprocess.Popen(words, stdin=subprocess.PIPE, stdout=subprocess.PIPE, text=True)
+
+    def __enter__(self):
+        return self
+
+    def __exit__(self, *_):
+        self.process.communicate()
+
+    def frame(self, posts=()):
+        """Runs a frame with these posts, each a type and a value, and returns what came of it."""
+        return self.ask([list(post) for post in posts])
+
+    def readers(self):
+        """What each reader got, missed and cleared so far."""
+        return self.ask("readers")["readers"]
+
+    def ask(self, line):
+        try:
+            print(json.dumps(line), file=self.process.stdin, flush=True)
+        except BrokenPipeError:
+            pass
+        answer = self.process.stdout.readline()
+        if not answer:
+            raise RuntimeError(f"msgrun ended with status {self.process.wait()}")
+        answer = json.loads(answer)
+        if "refused" in answer:
+            raise Refused(answer)
+        return answer
