@@ -4,14 +4,18 @@
 //!
 //! `frame_bench KIND FRAMES`, where KIND says what each system does in its turn: `idle` nothing,
 //! `skipped` has a condition that doesn't hold, `get` gets a resource, `len` asks for a length,
-//! `write` writes a message, `read` reads two by a script, and `decide` reads two by a behavior.
+//! `write` writes a message, `read` reads two by a script, `decide` reads two by a behavior,
+//! and `function` reads two by a function.
 #![tactic(auto)]
 
+mod hearing;
 mod poster;
 mod reader;
 
 use anyhow::{Context, bail};
+use hearing::Hearing;
 use msg_exec::{EngineBuilder, EngineOf, Workers};
+use msg_function::{FunctionSystem, Port};
 use msg_system::{
     Access, BehaviorSystem, Condition, Items, NoMemory, Numbered, Op, Probe, Program, Scripted,
     Start, SystemOf,
@@ -104,6 +108,19 @@ fn readers(alloc: Global, from: TypeNo) -> anyhow::Result<EngineBuilder<Behavior
     Ok(systems)
 }
 
+/// Systems that are one function.
+fn hearers(
+    alloc: Global,
+    from: TypeNo,
+) -> anyhow::Result<EngineBuilder<FunctionSystem<Hearing, 1, 0>>> {
+    let mut systems = EngineBuilder::new(alloc);
+    for _ in 0..SYSTEMS {
+        let hearer = FunctionSystem::new(alloc, Hearing { heard: 0 }, [Port::Messages(from)], [])?;
+        systems.add_system(hearer, Vec::new(alloc), 1)?;
+    }
+    Ok(systems)
+}
+
 /// The conditions of a script of this kind.
 fn conditions_of(alloc: Global, kind: &str, r: ResNo) -> Result<Vec<Condition>, NoMemory> {
     let mut conditions = Vec::new(alloc);
@@ -153,7 +170,7 @@ fn run<R: Threads + AllocGlobal + Print + Sync>(
     let (shared, r) = (TypeNo::new(0).unwrap(), ResNo::new(0).unwrap());
     let poster = Poster {
         left: frames,
-        posts: if kind == "read" || kind == "decide" {
+        posts: if kind == "read" || kind == "decide" || kind == "function" {
             2
         } else {
             0
@@ -161,7 +178,9 @@ fn run<R: Threads + AllocGlobal + Print + Sync>(
         to: shared,
         turns: 0,
     };
-    if kind == "decide" {
+    if kind == "function" {
+        bench(rt, hearers(alloc, shared)?, poster)
+    } else if kind == "decide" {
         bench(rt, readers(alloc, shared)?, poster)
     } else {
         bench(rt, scripts(alloc, kind, shared, r)?, poster)
