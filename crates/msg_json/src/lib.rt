@@ -18,4 +18,4 @@ pub use limits::{MAX_LIMIT, MAX_VALUES};
 pub use location::{Key, Location, Step};
 pub use reason::Reason;
 pub use refusal::Refusal;
-pub use told::add_told;
+pub use told::{add_question, add_reason, add_told, is_within, value_at};

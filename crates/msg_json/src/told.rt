@@ -14,8 +14,10 @@ mod reason;
 mod shown;
 
 use nearest::add_hint;
-use path::{add_path, system_name, value_at};
-use reason::add_reason;
+pub use nearest::{add_question, is_within};
+pub use path::value_at;
+use path::{add_path, system_name};
+pub use reason::add_reason;
 use shown::{add_key, add_shown};
 
 /// Adds two lines on a fault of the JSON value that a file is: where it lies and what stands there,

@@ -1,0 +1,8 @@
+use Rattle.std.proofs.Common.{◌≡◌, ◌++◌}
+use Rattle.msg_log_json.specs.Prelude.{turn_json}
+use Rattle.msg_log_json.proofs.Lists.{first_of}
+use Rattle.msg_log_json.proofs.turn.add_turns.Given as goal
+
+abbrev pub invariant-loop-k : goal.invariant-loop-k
+invariant-loop-k l =
+    l.text.items ≡ l.initial.text.items ++ first_of (λ x. turn_json l.scenario x.1) l.turns l.k

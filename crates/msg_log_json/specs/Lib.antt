@@ -1,0 +1,4 @@
+pub mod LogJson
+pub mod RefusedJson
+pub mod Prelude
+pub mod inner

@@ -1,0 +1,112 @@
+// The line of the readers.
+ghost use Rattle.std.specs.Prelude.{◌≡◌, ◌++◌, OnOk, codes, length};
+ghost use Rattle.msg_frames.specs.Prelude.{State};
+ghost use Rattle.msg_world.specs.Prelude.{IsWhole, PartsStand, i64_values, slot};
+ghost use Rattle.msg_world.specs.declared.part.Part.TheVariants.{OfType};
+ghost use Rattle.msg_log_json.specs.Prelude as Spec;
+ghost use Rattle.msg_log_json.specs.inner.KeptJson.{account_kept, accounts_kept, past_kept};
+
+use crate::list::add_comma;
+use msg_buffer::NoMemory;
+use msg_frames::Account;
+use msg_scenario_data::Scenario;
+use msg_scenario_data::names::{add_system_name, add_type};
+use msg_text::numerals::add_count;
+use msg_world::{TypeNo, World};
+
+/// The line of the readers, with what each type of the world has for them.
+pub fn add_readers_line(
+    text: &mut Vec<u8>,
+    scenario: &Scenario,
+    accounts: &[Account],
+    world: &World,
+) -> Result<(), NoMemory>
+    requires whole { IsWhole world.now }
+    requires types { length world.now.types ≡ length scenario.now.types }
+    ensures appends { OnOk result
+        ((now : State i64_values) → PartsStand world.now now.world
+        → text.new.items ≡ text.old.items ++ Spec.readers_line scenario.now accounts.now now) }
+{
+    text.extend_from_slice(b"{\"readers\":[")?;
+    add_accounts(text, scenario, accounts, world)?;
+    text.extend_from_slice(b"]}\n")
+}
+
+fn add_accounts(
+    text: &mut Vec<u8>,
+    scenario: &Scenario,
+    accounts: &[Account],
+    world: &World,
+) -> Result<(), NoMemory>
+    ensures appends { OnOk result (text.new.items
+        ≡ text.old.items ++ accounts_kept scenario.now world.now accounts.now) }
+{
+    for (k, account) in accounts.iter().enumerate() {
+        add_comma(text, k)?;
+        add_account(text, scenario, account, world)?;
+    }
+    Ok(())
+}
+
+fn add_account(
+    text: &mut Vec<u8>,
+    scenario: &Scenario,
+    account: &Account,
+    world: &World,
+) -> Result<(), NoMemory>
+    ensures appends { OnOk result (text.new.items
+        ≡ text.old.items ++ account_kept scenario.now world.now account.now) }
+{
+    add_reader(text, scenario, account)?;
+    add_standing(text, account)?;
+    add_past(text, account.of_type, account.place, world)?;
+    text.extend_from_slice(b"}")
+}
+
+/// Which reader it is.
+#[tactic(auto, unfolding(crate::specs::LogJson::reader_json))]
+fn add_reader(text: &mut Vec<u8>, scenario: &Scenario, account: &Account) -> Result<(), NoMemory>
+    ensures appends { OnOk result
+        (text.new.items ≡ text.old.items ++ Spec.reader_json scenario.now account.now) }
+{
+    text.extend_from_slice(b"{\"system\":\"")?;
+    add_system_name(text, scenario, account.system)?;
+    text.extend_from_slice(b"\",\"type\":\"")?;
+    add_type(text, scenario, account.of_type)?;
+    text.extend_from_slice(b"\"")
+}
+
+/// Where a reader stands, if it has joined.
+#[tactic(auto, unfolding(crate::specs::LogJson::standing_json))]
+fn add_standing(text: &mut Vec<u8>, account: &Account) -> Result<(), NoMemory>
+    ensures { OnOk result (text.new.items
+        ≡ text.old.items ++ Spec.standing_json account.now account.now.start) }
+{
+    let Some(start) = account.start else {
+        return text.extend_from_slice(b",\"waiting\":true");
+    };
+    add_count(text, b",\"start\":", start)?;
+    add_count(text, b",\"got\":", account.got)?;
+    add_count(text, b",\"missed\":", account.missed)?;
+    add_count(text, b",\"cleared\":", account.cleared)?;
+    add_count(text, b",\"place\":", account.place)
+}
+
+/// What there is past a place: the messages that were dropped, and those that are kept.
+#[tactic(auto, unfolding(crate::specs::inner::KeptJson::past_kept))]
+fn add_past(text: &mut Vec<u8>, of_type: TypeNo, place: u64, world: &World) -> Result<(), NoMemory>
+    ensures appends { OnOk result (text.new.items
+        ≡ text.old.items ++ past_kept (slot (OfType of_type) world.now) place) }
+{
+    let Some(messages) = world.messages(of_type) else {
+        return Ok(());
+    };
+    let (oldest, count) = (messages.oldest(), messages.count());
+    add_count(text, b",\"lost\":", oldest.saturating_sub(place))?;
+    add_count(
+        text,
+        b",\"unread\":",
+        count.saturating_sub(place.max(oldest)),
+    )?;
+    add_count(text, b",\"written\":", count)
+}

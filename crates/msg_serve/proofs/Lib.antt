@@ -1,0 +1,4 @@
+-- which requests change a state
+pub mod Requests
+-- where a name stands
+mod Names

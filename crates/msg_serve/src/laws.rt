@@ -1,0 +1,10 @@
+//! Laws of lines. Calling one makes its fact available to the caller's proof; it does nothing at run
+//! time.
+ghost use Rattle.msg_serve.specs.Prelude.{OnlyFramesChange};
+
+/// What is left after lines is what the frames among them leave, in one run: a line that asks for
+/// the accounts, or is refused, changes nothing.
+#[tactic(auto, using(crate::proofs::Requests::only_frames))]
+pub fn only_frames_change()
+    ensures law { OnlyFramesChange }
+{}

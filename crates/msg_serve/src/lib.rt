@@ -1,0 +1,17 @@
+//! A scenario whose frames go on as lines of an input: each line is a frame, and is answered by a
+//! line of JSON.
+#![tactic(auto)]
+
+mod input;
+pub mod laws;
+mod limits;
+mod request;
+mod serve_fault;
+mod server;
+mod serving;
+
+pub use input::{Line, read_line};
+pub use limits::MAX_LINE;
+pub use request::{Request, read_request};
+pub use serve_fault::ServeFault;
+pub use serving::{serve_scenario, trace_scenario};

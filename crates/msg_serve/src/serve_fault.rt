@@ -1,0 +1,37 @@
+ghost use Rattle.std.specs.Prelude.{◌≡◌};
+
+use msg_text::ReportFault;
+use msg_world::NoMemory;
+use thiserror::Error;
+
+/// Why lines weren't answered to their end.
+#[derive(Clone, Copy, Debug, PartialEq, Eq, Error)]
+pub enum ServeFault {
+    /// The input failed.
+    #[error("cannot read input")]
+    Input,
+    /// A frame couldn't be run, or an answer wasn't put to its end.
+    #[error("{0}")]
+    Report(ReportFault),
+}
+
+impl From<ReportFault> for ServeFault {
+    ghost use Rattle.msg_serve.specs.declared.serve_fault.ServeFault.TheVariants.{Report as NotPut};
+
+    ghost from_gives = { λ came fault. fault ≡ NotPut came };
+
+    fn from(came: ReportFault) -> Self {
+        ServeFault::Report(came)
+    }
+}
+
+impl From<NoMemory> for ServeFault {
+    ghost use Rattle.msg_serve.specs.declared.serve_fault.ServeFault.TheVariants.{Report as NotPut};
+    ghost use Rattle.msg_text.specs.declared.report_fault.ReportFault.TheVariants.{NoMemory as NoRoom};
+
+    ghost from_gives = { λ _ fault. fault ≡ NotPut NoRoom };
+
+    fn from(_error: NoMemory) -> Self {
+        ServeFault::Report(ReportFault::NoMemory)
+    }
+}

@@ -1,0 +1,141 @@
+// A scenario that is being served.
+ghost use Rattle.std.specs.Prelude.{◌≡◌, ◌≤◌, IsTrue, OnOk, length};
+ghost use Rattle.msg_world.specs.Prelude.{i64_values};
+ghost use Rattle.msg_exec.specs.Prelude.{EngineStands, IsEngine, PostsFit};
+ghost use Rattle.msg_frames.specs.Prelude.{State};
+ghost use Rattle.msg_log_json.specs.Prelude.{frame_line};
+ghost use Rattle.msg_serve.specs.{Served.number_of, Requests.readers, Requests.run, inner.Answering.IsAnswer};
+
+use msg_exec::{EngineOf, Frame, Log, NoGate, Workers};
+use msg_log_json::{add_frame_line, add_readers_line};
+use msg_scenario_data::Scenario;
+use msg_system::SystemOf;
+use msg_text::{ReportFault, Sink, put_text};
+use msg_world::{MAX_RESOURCES, MAX_TYPES, RunFault, World};
+use std::thread::Threads;
+
+/// A scenario that is being served: its engine, and room in which each answer is made.
+#[derive(Drop)]
+pub struct Server<'a, X> {
+    pub scenario: &'a Scenario,
+    pub engine: EngineOf<X>,
+    pub text: Vec<u8>,
+}
+
+/// Runs the next frame, and makes its line.
+pub fn run_frame<R: Threads + Sync, X: SystemOf<Value = i64> + Send>(
+    rt: &R,
+    server: &mut Server<X>,
+    frame: &Frame,
+    workers: Workers,
+) -> Result<(), ReportFault>
+    requires engine { IsEngine i64_values X.meaning server.old.engine }
+    requires posts { PostsFit server.old.engine frame.now }
+    ensures engine { IsEngine i64_values X.meaning server.new.engine }
+    ensures answers { OnOk result
+        ((now : State i64_values) → EngineStands X.meaning server.old.engine now
+        → IsAnswer X.meaning server.old.scenario.now (run frame.now) now server.new) }
+{
+    let log = match server.engine.run_frame(rt, frame, workers, &NoGate) {
+        Ok(log) => log,
+        Err(fault) => return Err(ReportFault::Run(fault)),
+    };
+    tell_frame(server, frame, &log)?;
+    server.engine.recycle(log);
+    Ok(())
+}
+
+/// Makes the line of a frame that was run, and had this log.
+fn tell_frame<X: SystemOf<Value = i64>>(
+    server: &mut Server<X>,
+    frame: &Frame,
+    log: &Log,
+) -> Result<(), ReportFault>
+    requires engine { IsEngine i64_values X.meaning server.old.engine }
+    ensures same { server.new.engine ≡ server.old.engine }
+    ensures line { OnOk result
+        ((now : State i64_values) → EngineStands X.meaning server.old.engine now
+        → server.new.text.items ≡ frame_line server.old.scenario.now (number_of now) frame.now
+        log.now now.world) }
+{
+    server.text.clear();
+    let number = server.engine.frames_run();
+    let Some(world) = server.engine.world() else {
+        return Err(ReportFault::Run(RunFault::Spoiled));
+    };
+    if !fits(server.scenario, world) {
+        return Err(ReportFault::Run(RunFault::Spoiled));
+    }
+    Ok(add_frame_line(
+        &mut server.text,
+        server.scenario,
+        u64::from(number),
+        frame,
+        log,
+        world,
+    )?)
+}
+
+/// Whether the world has as many types and resources as the scenario, as that of its engine does.
+fn fits(scenario: &Scenario, world: &World) -> bool
+    ensures few { IsTrue result → (length scenario.now.types ≤ MAX_TYPES)
+        × (length scenario.now.resources ≤ MAX_RESOURCES) }
+    ensures as_many { IsTrue result → (length world.now.types ≡ length scenario.now.types)
+        × (length world.now.resources ≡ length scenario.now.resources) }
+{
+    let types = scenario.types.as_slice().len();
+    let resources = scenario.resources.as_slice().len();
+    world.types() == types && world.resources() == resources
+}
+
+/// Runs the next frame, and says nothing of it.
+pub fn pass_frame<R: Threads + Sync, X: SystemOf<Value = i64> + Send>(
+    rt: &R,
+    server: &mut Server<X>,
+    frame: &Frame,
+    workers: Workers,
+) -> Result<(), ReportFault>
+    requires engine { IsEngine i64_values X.meaning server.old.engine }
+    requires posts { PostsFit server.old.engine frame.now }
+    ensures engine { IsEngine i64_values X.meaning server.new.engine }
+{
+    match server.engine.run_frame(rt, frame, workers, &NoGate) {
+        Ok(log) => {
+            server.engine.recycle(log);
+            Ok(())
+        }
+        Err(fault) => Err(ReportFault::Run(fault)),
+    }
+}
+
+/// Makes the line of the readers.
+pub fn tell_readers<X: SystemOf<Value = i64>>(server: &mut Server<X>) -> Result<(), ReportFault>
+    requires engine { IsEngine i64_values X.meaning server.old.engine }
+    ensures same { server.new.engine ≡ server.old.engine }
+    ensures answers { OnOk result
+        ((now : State i64_values) → EngineStands X.meaning server.old.engine now
+        → IsAnswer X.meaning server.old.scenario.now readers now server.new) }
+{
+    server.text.clear();
+    let accounts = match server.engine.accounts() {
+        Ok(accounts) => accounts,
+        Err(fault) => return Err(ReportFault::Run(fault)),
+    };
+    let Some(world) = server.engine.world() else {
+        return Err(ReportFault::Run(RunFault::Spoiled));
+    };
+    if !fits(server.scenario, world) {
+        return Err(ReportFault::Run(RunFault::Spoiled));
+    }
+    Ok(add_readers_line(
+        &mut server.text,
+        server.scenario,
+        accounts.as_slice(),
+        world,
+    )?)
+}
+
+/// Puts the answer that was made.
+pub fn put_answer<X, S: Sink>(server: &Server<X>, sink: &mut S) -> Result<(), ReportFault> {
+    put_text(server.text.as_slice(), sink)
+}
