@@ -1,5 +1,14 @@
 // The systems of a fight.
-use msg_system::{Access, Behavior, BehaviorSystem, NoMemory, Op, Reply, Start, added_up, brought};
+ghost use Rattle.std.specs.Prelude.{◌≡◌, ℤ, IsTrue, List, Some};
+ghost use Rattle.msg_world.specs.Prelude.{WorldState, i64_values};
+ghost use Rattle.msg_system.specs.Prelude.{IsUncut, keeps_to, needs_of, turn};
+ghost use Rattle.msg_system.specs.declared.{op.Op.Op as OpView, reply.Reply.Reply as ReplyView};
+ghost use Rattle.duel.specs.Roles.{next_deed};
+
+use msg_system::{
+    Access, Behavior, BehaviorSystem, NoMemory, Op, Reply, Start, SystemOf, added_up, brought,
+    turns_within_bounds_are_whole,
+};
 use msg_world::{ResNo, TypeNo};
 use std::alloc::Global;
 
@@ -25,16 +34,29 @@ pub enum Role {
 }
 
 impl Role {
-    /// A system of this role. It writes as 0 until a builder gives it a number.
-    pub fn system(self, alloc: Global) -> BehaviorSystem<Role> {
+    /// What it reads and writes: each op that it asks for keeps to that.
+    fn access(&self) -> Access
+        ensures kept { (replies : List (ReplyView ℤ)) (op : OpView ℤ)
+            → next_deed self.now replies ≡ Some op → IsTrue (keeps_to (needs_of result) op) }
+    {
         let none = Access::none();
-        let access = match &self {
+        match self {
             Role::Fighter(f) => none
                 .with_read_type(f.blows)
                 .with_write_type(f.rival)
                 .with_write_type(f.falls),
             Role::Referee(falls, fallen) => none.with_read_type(*falls).with_write_res(*fallen),
-        };
+        }
+    }
+
+    /// A system of this role. It writes as 0 until a builder gives it a number.
+    pub fn system(self, alloc: Global) -> BehaviorSystem<Role>
+        // Its turn isn't cut, whatever the world.
+        ensures uncut { let m = ⟦<BehaviorSystem<Role> as SystemOf>⟧.meaning result in
+            (s : WorldState i64_values) → IsUncut m s (turn m s) }
+    {
+        turns_within_bounds_are_whole::<i64>();
+        let access = self.access();
         BehaviorSystem::new(alloc, self, access, Start::Zero, 0)
     }
 }

@@ -5,8 +5,9 @@
 //! `frame_bench KIND FRAMES [WORKERS]`, where KIND says what each system does in its turn: `idle`
 //! nothing, `skipped` has a condition that doesn't hold, `get` gets a resource, `len` asks for a
 //! length, `write` writes a message, `batch` writes 1,024, `read` reads two by a script, `limited`
-//! reads one of two, and `decide` reads two by a behavior. Of `boxed` each system is in a box, and
-//! half of them read by a script and half by a behavior. On one worker, or on that many.
+//! reads one of two, `decide` reads two by a behavior, and `function` by a function. Of `boxed` each
+//! system is in a box, and half of them read by a script and half by a behavior. On one worker, or
+//! on that many.
 #![tactic(auto)]
 
 ghost use Rattle.std.specs.Prelude.{IfOk};
@@ -15,12 +16,15 @@ ghost use Rattle.msg_frames.specs.Prelude.{IsNew};
 ghost use Rattle.msg_world.specs.Prelude.{IsWhole, i64_values};
 
 mod boxes;
+mod hearing;
 mod poster;
 mod reader;
 
 use anyhow::{Context, bail};
 use boxes::run_boxes;
+use hearing::Hearing;
 use msg_exec::{EngineBuilder, EngineOf, Workers};
+use msg_function::{FunctionSystem, Port};
 use msg_system::{
     Access, BehaviorSystem, Condition, Items, NoMemory, Numbered, Op, Probe, Program, Scripted,
     Start, SystemOf,
@@ -150,6 +154,19 @@ fn readers(alloc: Global, from: TypeNo) -> anyhow::Result<EngineBuilder<Behavior
     Ok(systems)
 }
 
+/// Systems that are one function.
+fn hearers(
+    alloc: Global,
+    from: TypeNo,
+) -> anyhow::Result<EngineBuilder<FunctionSystem<Hearing, 1, 0>>> {
+    let mut systems = EngineBuilder::new(alloc);
+    for _ in 0..SYSTEMS {
+        let hearer = FunctionSystem::new(alloc, Hearing { heard: 0 }, [Port::Messages(from)], [])?;
+        systems.add_system(hearer, Vec::new(alloc), 1)?;
+    }
+    Ok(systems)
+}
+
 /// The conditions of a script of this kind.
 fn conditions_of(alloc: Global, kind: &str, r: ResNo) -> Result<Vec<Condition>, NoMemory> {
     let mut conditions = Vec::new(alloc);
@@ -201,7 +218,7 @@ fn run<R: Threads + AllocGlobal + Print + Sync>(
     let poster = Poster {
         left: frames,
         posts: match kind {
-            "read" | "limited" | "decide" | "boxed" => 2,
+            "read" | "limited" | "decide" | "function" | "boxed" => 2,
             _ => 0,
         },
         to: shared,
@@ -210,6 +227,7 @@ fn run<R: Threads + AllocGlobal + Print + Sync>(
     match kind {
         "boxed" => run_boxes(rt, shared, poster, workers),
         "decide" => bench(rt, readers(alloc, shared)?, poster, workers),
+        "function" => bench(rt, hearers(alloc, shared)?, poster, workers),
         _ => bench(rt, scripts(alloc, kind, shared, r)?, poster, workers),
     }
 }

@@ -1,11 +1,14 @@
--- What the parts of the game do next, and what they remember.
-use Rattle.std.specs.Prelude.{ℕ, ◌==◌, ◌||◌, ◌-◌, nat_le, List, fold, length, Option, Some, None, option_map, slice_get, if◌then◌else◌}
+-- What the parts of the game make of what they are given.
+use Rattle.std.specs.Prelude.{ℕ, ◌==◌, ◌||◌, ◌-◌, nat_le, List, fold, Option, Some, None, if◌then◌else◌}
 use Rattle.msg_world.specs.declared.record.Record.{Record}
-use Rattle.msg_system.specs.{declared.op.Op.Op, declared.op.Op.TheVariants.Read, declared.op.Op.TheVariants.Sum, declared.op.Op.TheVariants.Write, declared.reply.Reply.Reply}
-use Rattle.msg_system.specs.Prelude.{brought}
-use Rattle.tower.specs.{declared.event.Event.Event, declared.part.Creep.Creep as CreepOf, declared.part.Part.Part}
+use Rattle.msg_system.specs.Prelude.{sum_onto}
+use Rattle.msg_function.specs.Prelude.{Answer, Given, nothing, put}
+use Rattle.tower.specs.{declared.event.Event.Event, Events.event_values}
+use Rattle.tower.specs.declared.{creep.Creep.Creep, gate.Gate.Gate, tower.Tower.Tower}
+use Rattle.tower.specs.declared.creep.TheConstants as creep
+use Rattle.tower.specs.declared.tower.TheConstants as tower
+use Rattle.tower.specs.declared.gate.TheConstants as gate
 use Rattle.tower.specs.declared.event.Event.TheVariants.{Walked, Shot, Broke}
-use Rattle.tower.specs.declared.part.Part.TheVariants.{Creep, Tower, Gate}
 
 -- the health that an event leaves to a creep
 abbrev pub hurt : ℕ → ℕ → Event → ℕ
@@ -25,34 +28,33 @@ aimed reach target _ = target
 abbrev pub target_of : ℕ → List (Record Event) → Option ℕ
 target_of reach walks = fold (λ target walk. aimed reach target walk.value) None walks
 
--- what a creep of this health does: it breaks in with its last step
-abbrev pub step_of : CreepOf → ℕ → Option (Op Event)
-step_of c health = if health == 0 then None
-    else if c.left == 1 then Some (Write c.lane.breaks (Broke c.number 1))
-    else Some (Write c.lane.walks (Walked c.number (c.left - 1)))
+-- A creep that has health and way left goes a step, and breaks in with its last one.
+abbrev pub creep_answers : Creep → Given Event → Creep × Answer Event
+creep_answers c given =
+    let health : ℕ = health_after c.number c.health (given.messages creep.SHOTS) in
+    let left : ℕ = c.left - 1 in
+    if health == 0 || c.left == 0 then (record c { health = health }, nothing)
+    else (
+      record c { health = health; left = left },
+      if left == 0 then put creep.BREAKS (Broke c.number 1) nothing else put creep.WALKS (Walked c.number left) nothing,
+    )
 
--- A creep reads who was shot, and walks on while it has health and way left. A tower reads who
--- walked, and shoots. A gate adds up who broke in.
-abbrev pub next_deed : Part → List (Reply Event) → Option (Op Event)
-next_deed (Creep c) replies =
-    if length replies == 0 then
-    (if c.health == 0 || c.left == 0 then None else Some (Read c.lane.shots None))
-    else if length replies == 1 then
-    step_of c (health_after c.number c.health (brought (slice_get replies 0)))
-    else None
-next_deed (Tower t) replies =
-    if length replies == 0 then Some (Read t.lane.walks None)
-    else if length replies == 1 then
-    option_map (λ creep. Write t.lane.shots (Shot creep t.amount))
-    (target_of t.reach (brought (slice_get replies 0)))
-    else None
-next_deed (Gate breaks lives) replies =
-    if length replies == 0 then Some (Sum breaks lives) else None
+-- A tower shoots whom it aims at.
+abbrev pub tower_answers : Tower → Given Event → Tower × Answer Event
+tower_answers t given = (
+  t,
+  elim (target_of t.reach (given.messages tower.WALKS)) [
+    | None ↦ nothing
+    | Some target ↦ put tower.SHOTS (Shot target t.amount) nothing
+  ],
+)
 
--- what a part is after a turn with these replies
-abbrev pub part_after : Part → List (Reply Event) → Part
-part_after (Creep c) replies = Creep (record c {
-  health = health_after c.number c.health (brought (slice_get replies 0));
-  left = if length replies == 2 then c.left - 1 else c.left;
-})
-part_after other replies = other
+-- A gate takes from the lives what those who broke in cost.
+abbrev pub gate_answers : Gate → Given Event → Gate × Answer Event
+gate_answers g given = (
+  g,
+  elim (given.value gate.LIVES) [
+    | None ↦ nothing
+    | Some lives ↦ put gate.LEFT (sum_onto event_values lives (given.messages gate.BREAKS)) nothing
+  ],
+)

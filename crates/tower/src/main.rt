@@ -1,5 +1,5 @@
 //! A tower defence, which shows these crates over messages of a game's own: three kinds of systems
-//! that decide, put together by a builder and run on four workers.
+//! that are one function each, put together by a builder and run on four workers.
 #![tactic(auto)]
 
 ghost use Rattle.std.specs.Prelude.{◌<◌, ◌++◌, [], IfOk, List, OnOk, length, map};
@@ -7,21 +7,33 @@ ghost use Rattle.msg_world.specs.Prelude.{IsWhole, PartsStand, WorldState};
 ghost use Rattle.msg_frames.specs.Prelude.{State, first_state};
 ghost use Rattle.msg_frames.specs.declared.frame.Frame.{Frame as FrameView};
 ghost use Rattle.msg_exec.specs.Prelude.{EngineStands, HasRunFrames, HasRunSince, IsEngine, numbered_from};
+ghost use Rattle.msg_function.specs.Prelude.{TellsOfNoCut};
 ghost use Rattle.tower.specs.Events.{event_values};
 ghost use Rattle.tower.specs.declared.event.Event.{Event as EventView};
 
+mod creep;
 mod event;
-mod part;
+mod gate;
+mod tower;
 
+use creep::Creep;
 use event::Event;
+use gate::Gate;
 use msg_exec::engine_laws::{engines_stand, frames_run_one_by_one};
 use msg_exec::{EngineBuilder, EngineOf, Frame, Items, Log, NoGate, Workers};
-use msg_system::{BehaviorSystem, Condition, Probe, SystemOf};
+use msg_function::Port::{Messages, Resource};
+use msg_function::{Either, FunctionSystem, no_turn_is_cut};
+use msg_system::{Condition, SystemOf};
 use msg_world::{ResNo, TypeNo, World};
-use part::{Creep, Lane, Part, Tower};
 use std::alloc::Global;
 use std::io::Print;
 use std::thread::Threads;
+use tower::Tower;
+
+/// A system of the game: a creep, or what stands in a lane, a tower or a gate.
+type Part = Either<FunctionSystem<Creep, 1, 2>, Standing>;
+
+type Standing = Either<FunctionSystem<Tower, 1, 1>, FunctionSystem<Gate, 2, 1>>;
 
 /// How many lanes lead to the keep. In each walk two creeps, and stand a tower and a gate.
 const LANES: u32 = 3;
@@ -46,43 +58,41 @@ fn lives() -> ResNo {
     ResNo::new(0).unwrap()
 }
 
-/// The lane of this number.
-fn lane(number: u32) -> Lane
+/// The types of messages of a lane: who walks, who is shot, and who breaks in.
+fn lane(number: u32) -> [TypeNo; 3]
     requires there { number < 3 }
 {
-    Lane {
-        walks: TypeNo::new(3 * number).unwrap(),
-        shots: TypeNo::new(3 * number + 1).unwrap(),
-        breaks: TypeNo::new(3 * number + 2).unwrap(),
-    }
+    [
+        TypeNo::new(3 * number).unwrap(),
+        TypeNo::new(3 * number + 1).unwrap(),
+        TypeNo::new(3 * number + 2).unwrap(),
+    ]
 }
 
 /// Adds a creep, which walks while the keep has lives.
 fn add_creep(
-    parts: &mut EngineBuilder<BehaviorSystem<Part>, Event>,
+    parts: &mut EngineBuilder<Part, Event>,
     alloc: Global,
-    lane: &Lane,
+    lane: &[TypeNo; 3],
     number: u32,
     join: u32,
 ) -> anyhow::Result<()> {
-    let while_it_lives = Condition {
-        nots: 1,
-        probe: Probe::ResourceEquals(lives(), Event::Lives(0)),
-    };
-    let conditions = vec![in alloc; while_it_lives]?;
     let creep = Creep {
         number,
-        lane: *lane,
         health: HEALTH,
         left: STEPS,
     };
-    parts.add_system(Part::Creep(creep).system(alloc), conditions, join)?;
+    let [walks, shots, breaks] = *lane;
+    let written = [Messages(walks), Messages(breaks)];
+    let creep = FunctionSystem::new(alloc, creep, [Messages(shots)], written)?;
+    let no_lives = Condition::resource_equals(lives(), Event::Lives(0));
+    parts.add_system(Either::Left(creep), vec![in alloc; no_lives.not()]?, join)?;
     Ok(())
 }
 
 /// Adds the parts of a lane. The tower of lane n shoots with n + 1.
 fn add_lane(
-    parts: &mut EngineBuilder<BehaviorSystem<Part>, Event>,
+    parts: &mut EngineBuilder<Part, Event>,
     alloc: Global,
     number: u32,
 ) -> anyhow::Result<()>
@@ -91,19 +101,43 @@ fn add_lane(
     let lane = lane(number);
     add_creep(parts, alloc, &lane, 0, 1)?;
     add_creep(parts, alloc, &lane, 1, LATE)?;
+    let [walks, shots, breaks] = lane;
     let tower = Tower {
-        lane,
         reach: 3,
         amount: number + 1,
     };
-    parts.add_system(Part::Tower(tower).system(alloc), Vec::new(alloc), 1)?;
-    let gate = Part::Gate(lane.breaks, lives());
-    parts.add_system(gate.system(alloc), Vec::new(alloc), 1)?;
+    let tower = FunctionSystem::new(alloc, tower, [Messages(walks)], [Messages(shots)])?;
+    parts.add_system(Either::Right(Either::Left(tower)), Vec::new(alloc), 1)?;
+    let read = [Messages(breaks), Resource(lives())];
+    let gate = FunctionSystem::new(alloc, Gate, read, [Resource(lives())])?;
+    parts.add_system(Either::Right(Either::Right(gate)), Vec::new(alloc), 1)?;
     Ok(())
 }
 
+/// No turn of what stands in a lane is cut, whatever the world.
+fn no_standing_is_cut(standing: &Standing)
+    ensures law { (s : WorldState event_values)
+        → TellsOfNoCut (⟦<Standing as SystemOf>⟧.meaning standing.now) s }
+{
+    match standing {
+        Either::Left(tower) => no_turn_is_cut(tower),
+        Either::Right(gate) => no_turn_is_cut(gate),
+    }
+}
+
+/// No turn of a part is cut, whatever the world.
+fn no_part_is_cut(part: &Part)
+    ensures law { (s : WorldState event_values)
+        → TellsOfNoCut (⟦<Part as SystemOf>⟧.meaning part.now) s }
+{
+    match part {
+        Either::Left(creep) => no_turn_is_cut(creep),
+        Either::Right(standing) => no_standing_is_cut(standing),
+    }
+}
+
 /// The parts of all lanes.
-fn lanes(alloc: Global) -> anyhow::Result<EngineBuilder<BehaviorSystem<Part>, Event>> {
+fn lanes(alloc: Global) -> anyhow::Result<EngineBuilder<Part, Event>> {
     let mut parts = EngineBuilder::new(alloc);
     for number in 0..LANES {
         add_lane(&mut parts, alloc, number)?;
@@ -115,21 +149,21 @@ fn lanes(alloc: Global) -> anyhow::Result<EngineBuilder<BehaviorSystem<Part>, Ev
 fn defend<R: Threads + Sync>(
     rt: &R,
     alloc: Global,
-    parts: EngineBuilder<BehaviorSystem<Part>, Event>,
+    parts: EngineBuilder<Part, Event>,
     world: World<Event>,
     frames: &[Frame<Event>],
     workers: Workers,
-) -> anyhow::Result<(EngineOf<BehaviorSystem<Part>, Event>, Vec<Log<Event>>)>
+) -> anyhow::Result<(EngineOf<Part, Event>, Vec<Log<Event>>)>
     requires whole { IsWhole world }
 
     // Whatever the workers: the logs are those of one thread, from the first state of the parts.
     ensures one_thread { IfOk result (λ r. (w : WorldState event_values) → PartsStand world w
-        → HasRunFrames ⟦<BehaviorSystem<Part> as SystemOf>⟧.meaning frames.now (first_state
+        → HasRunFrames ⟦<Part as SystemOf>⟧.meaning frames.now (first_state
         (numbered_from 0
-        (map ⟦<BehaviorSystem<Part> as SystemOf>⟧.meaning parts.systems)) parts.places
+        (map ⟦<Part as SystemOf>⟧.meaning parts.systems)) parts.places
         parts.rules (length world.types) w) [] r.1.items r.0) }
     ensures engine { IfOk result
-        (λ r. IsEngine event_values ⟦<BehaviorSystem<Part> as SystemOf>⟧.meaning r.0) }
+        (λ r. IsEngine event_values ⟦<Part as SystemOf>⟧.meaning r.0) }
 {
     let mut engine = parts.build(world)?;
     anyhow::ensure!(
@@ -186,14 +220,12 @@ fn quiet_frames(alloc: Global) -> anyhow::Result<Vec<Frame<Event>>> {
 }
 
 /// Prints how many broke in.
-fn tell_lanes<R: Print>(
-    rt: &R,
-    engine: &EngineOf<BehaviorSystem<Part>, Event>,
-) -> anyhow::Result<()> {
+fn tell_lanes<R: Print>(rt: &R, engine: &EngineOf<Part, Event>) -> anyhow::Result<()> {
     let accounts = engine.accounts()?;
     for number in 0..LANES {
+        let [_walks, _shots, breaks] = lane(number);
         for account in &accounts {
-            if account.of_type == lane(number).breaks {
+            if account.of_type == breaks {
                 println!(rt; "lane {number}: {} broke in", account.got)?;
             }
         }
@@ -202,17 +234,14 @@ fn tell_lanes<R: Print>(
 }
 
 /// Prints how many lives are left.
-fn tell_lives<R: Print>(
-    rt: &R,
-    engine: &EngineOf<BehaviorSystem<Part>, Event>,
-) -> anyhow::Result<()> {
+fn tell_lives<R: Print>(rt: &R, engine: &EngineOf<Part, Event>) -> anyhow::Result<()> {
     if let Some(Event::Lives(left)) = engine.world().and_then(|world| world.resource(lives())) {
         println!(rt; "{left} of {LIVES} lives are left")?;
     }
     Ok(())
 }
 
-fn tell<R: Print>(rt: &R, engine: &EngineOf<BehaviorSystem<Part>, Event>) -> anyhow::Result<()> {
+fn tell<R: Print>(rt: &R, engine: &EngineOf<Part, Event>) -> anyhow::Result<()> {
     tell_lanes(rt, engine)?;
     tell_lives(rt, engine)
 }
