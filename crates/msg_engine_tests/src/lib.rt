@@ -12,6 +12,7 @@ mod beacons;
 mod building;
 #[cfg(test)]
 mod cases;
+pub mod clerks;
 pub mod clients;
 #[cfg(test)]
 mod deciding;
@@ -21,6 +22,8 @@ mod equal;
 mod expecting;
 #[cfg(test)]
 mod frames;
+#[cfg(test)]
+mod functions;
 pub mod game_values;
 #[cfg(test)]
 mod gates;
