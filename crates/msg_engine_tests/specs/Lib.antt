@@ -1,3 +1,4 @@
 pub mod Adders
 pub mod GameValues
 pub mod Pairs
+pub mod Clerks

@@ -16,6 +16,7 @@ mod boxes;
 mod building;
 #[cfg(test)]
 mod cases;
+pub mod clerks;
 pub mod clients;
 #[cfg(test)]
 mod deciding;
@@ -25,6 +26,8 @@ mod equal;
 mod expecting;
 #[cfg(test)]
 mod frames;
+#[cfg(test)]
+mod functions;
 pub mod game_values;
 #[cfg(test)]
 mod gates;
