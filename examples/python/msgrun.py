@@ -15,6 +15,9 @@ class Engine:
     """The engine of a scenario file. `with Engine(program, file) as engine:` ends it."""
 
     def __init__(self, program, file, workers=1):
+        with open(file, encoding="utf-8") as text:
+            self.scenario = json.load(text)
+        self.frames = list(self.scenario["frames"])
         words = [program, "serve", file, "--workers", str(workers)]
         self.process = subprocess.Popen(words, stdin=subprocess.PIPE, stdout=subprocess.PIPE, text=True)
 
@@ -26,7 +29,15 @@ class Engine:
 
     def frame(self, posts=()):
         """Runs a frame with these posts, each a type and a value, and returns what came of it."""
-        return self.ask([list(post) for post in posts])
+        line = [list(post) for post in posts]
+        answer = self.ask(line)
+        self.frames.append(line)
+        return answer
+
+    def record(self, file):
+        """Writes a scenario file with all frames so far: `msgrun run` gives the same replies."""
+        with open(file, "w", encoding="utf-8") as text:
+            json.dump({**self.scenario, "frames": self.frames}, text)
 
     def readers(self):
         """What each reader got, missed and cleared so far."""
