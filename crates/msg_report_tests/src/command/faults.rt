@@ -132,13 +132,14 @@ fn help(rt: HostRuntime) {
     expect_text(rt, &PutFault, "the sink failed");
 }
 
-/// What is told of a file that was checked is printed as it is.
+/// Below the line of the refusal stands what is told of a file that was checked.
 #[test]
 fn a_checked_file(rt: HostRuntime) {
     let rt = &rt;
     let lines = Vec::from_slice(rt.alloc(), b"where and why\n").have(rt);
-    let told = MainFault::Told(lines);
-    expect_printed(rt, &told, "where and why\n", 2);
-    expect_text(rt, &told, "refused");
+    let told = MainFault::Told(Refusal::Shape, lines);
+    let printed = "msgrun: refused 2 Shape\nwhere and why\n";
+    expect_printed(rt, &told, printed, 2);
+    expect_text(rt, &told, "refused 2 Shape");
     drop(told);
 }

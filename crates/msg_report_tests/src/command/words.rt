@@ -14,23 +14,55 @@ fn words_of(rt: &(impl Abort + AllocGlobal), line: &str) -> Vec<String> {
 }
 
 /// Command lines, and what they are parsed as.
-const ACTIONS: [(&str, &str); 45] = [
+const ACTIONS: [(&str, &str); 53] = [
     ("", "Ok(Buffer(None))"),
     ("buffer f", "Ok(Buffer(Some(\"f\")))"),
     ("buffer -", "Ok(Buffer(Some(\"-\")))"),
     ("buffer ''", "Ok(Buffer(Some(\"\")))"),
     ("buffer -- --help", "Ok(Buffer(Some(\"--help\")))"),
-    ("run f", "Ok(Run { file: \"f\", workers: 1 })"),
-    ("run f --workers 7", "Ok(Run { file: \"f\", workers: 7 })"),
-    ("run --workers 7 f", "Ok(Run { file: \"f\", workers: 7 })"),
-    ("run f --workers=64", "Ok(Run { file: \"f\", workers: 64 })"),
-    ("run f --workers 1", "Ok(Run { file: \"f\", workers: 1 })"),
+    ("run f", "Ok(Run { file: \"f\", workers: 1, json: false })"),
+    (
+        "run f --workers 7",
+        "Ok(Run { file: \"f\", workers: 7, json: false })",
+    ),
+    (
+        "run --workers 7 f",
+        "Ok(Run { file: \"f\", workers: 7, json: false })",
+    ),
+    (
+        "run f --workers=64",
+        "Ok(Run { file: \"f\", workers: 64, json: false })",
+    ),
+    (
+        "run f --workers 1",
+        "Ok(Run { file: \"f\", workers: 1, json: false })",
+    ),
     (
         "run -- --workers",
-        "Ok(Run { file: \"--workers\", workers: 1 })",
+        "Ok(Run { file: \"--workers\", workers: 1, json: false })",
     ),
-    ("run - --workers 2", "Ok(Run { file: \"-\", workers: 2 })"),
-    ("run ''", "Ok(Run { file: \"\", workers: 1 })"),
+    (
+        "run - --workers 2",
+        "Ok(Run { file: \"-\", workers: 2, json: false })",
+    ),
+    ("run ''", "Ok(Run { file: \"\", workers: 1, json: false })"),
+    (
+        "run f --json --workers 2",
+        "Ok(Run { file: \"f\", workers: 2, json: true })",
+    ),
+    (
+        "run --json f",
+        "Ok(Run { file: \"f\", workers: 1, json: true })",
+    ),
+    ("run f --json=false", "Err(Bad)"),
+    ("serve f", "Ok(Serve { file: \"f\", workers: 1 })"),
+    (
+        "serve f --workers 64",
+        "Ok(Serve { file: \"f\", workers: 64 })",
+    ),
+    ("serve f --workers 65", "Err(Bad)"),
+    ("serve f --json", "Err(Bad)"),
+    ("serve", "Err(Bad)"),
     ("run f --workers 0", "Err(Bad)"),
     ("run f --workers 65", "Err(Bad)"),
     ("run f --workers x", "Err(Bad)"),
