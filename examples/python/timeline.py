@@ -4,7 +4,7 @@
 
 In a plot the frames go to the right and message numbers up. The grey band has the messages that are kept: its upper edge
 is how many were written, its lower edge the oldest. Each reader is a line at its place, the number of the next message
-that it can get; where it missed messages the line is red.
+that it can get; where it missed messages the line is red, and so is what was dropped past its place at the end.
 """
 import json
 import sys
@@ -28,10 +28,10 @@ def passed(reply):
 
 
 class Reader:
-    """The places of a reader, frame by frame, and the stretches that it missed."""
+    """The places of a reader, frame by frame from its first turn on, and the stretches that it missed."""
 
-    def __init__(self):
-        self.places, self.missed = [], []
+    def __init__(self, frame, start):
+        self.places, self.missed = [(frame, start)], []
 
     def take(self, frame, reply):
         """Follows a reply: it missed the messages right before its first, and passed those from there on."""
@@ -41,16 +41,20 @@ class Reader:
         self.places.append((frame, end))
 
 
-def follow(frames):
+def follow(frames, accounts):
     """The readers by type and system, and how often each system ran and was skipped."""
     readers, turns = {}, {}
     for frame in frames:
         for turn in frame["turns"]:
-            ran, skipped = turns.get(turn["system"], (0, 0))
-            turns[turn["system"]] = (ran, skipped + 1) if turn.get("skipped") else (ran + 1, skipped)
+            system = turn["system"]
+            if system not in turns:
+                readers.update({(of["type"], system): Reader(frame["frame"], of.get("start", 0))
+                                for of in accounts if of["system"] == system})
+            ran, skipped = turns.get(system, (0, 0))
+            turns[system] = (ran, skipped + 1) if turn.get("skipped") else (ran + 1, skipped)
             for reply in turn.get("replies", []):
                 if passed(reply) is not None:
-                    readers.setdefault((reply["type"], turn["system"]), Reader()).take(frame["frame"], reply)
+                    readers.setdefault((reply["type"], system), Reader(frame["frame"], 0)).take(frame["frame"], reply)
     return readers, turns
 
 
@@ -102,15 +106,19 @@ def line(path, colour, width, title):
     return f'<path d="{path}" fill="none" stroke="{colour}" stroke-width="{width}"><title>{escape(title)}</title></path>'
 
 
-def staircase(scale, system, reader, colour):
-    got = line(scale.steps(reader.places, scale.last + 1), colour, 2, f"{system}: place {reader.places[-1][1]} at the end")
-    for frame, start, end in reader.missed:
-        title = f"{system} missed {start} to {end - 1} in frame {frame}"
-        got += line(f"M{scale.x(frame)},{scale.y(start)}V{scale.y(end)}", "#d00", 4, title)
+def staircase(scale, system, reader, lost, colour):
+    place, end = reader.places[-1][1], scale.last + 1
+    got = line(scale.steps(reader.places, end), colour, 2, f"{system}: place {place} at the end")
+    stretches = [(frame, start, stop, f"missed {start} to {stop - 1} in frame {frame}")
+                 for frame, start, stop in reader.missed]
+    if lost:
+        stretches.append((end, place, place + lost, f"lost {place} to {place + lost - 1}, and no read told of it"))
+    for frame, start, stop, what in stretches:
+        got += line(f"M{scale.x(frame)},{scale.y(start)}V{scale.y(stop)}", "#d00", 4, f"{system} {what}")
     return got
 
 
-def plot(name, frames, readers):
+def plot(name, frames, readers, accounts):
     if not frames[-1]["types"][name]["written"]:
         return f"<h2>{escape(name)}</h2><p>Nothing was written.</p>"
     scale = Scale(frames[0]["frame"], frames[-1]["frame"], frames[-1]["types"][name]["written"])
@@ -118,7 +126,8 @@ def plot(name, frames, readers):
     mine = [(system, reader) for (of, system), reader in readers.items() if of == name]
     for k, (system, reader) in enumerate(mine):
         colour = COLOURS[k % len(COLOURS)]
-        drawn += staircase(scale, system, reader, colour)
+        lost = sum(of["lost"] for of in accounts if (of["type"], of["system"]) == (name, system))
+        drawn += staircase(scale, system, reader, lost, colour)
         key += f'<span class="key" style="color:{colour}">&#9644; {escape(system)}</span>'
     return (f'<h2>{escape(name)}</h2><svg xmlns="http://www.w3.org/2000/svg" width="{WIDTH}" height="{HEIGHT}">{drawn}'
             f"</svg><div>{key or 'no reader'}</div>")
@@ -133,13 +142,14 @@ def row(reader, turns):
 
 
 def page(frames, accounts):
-    readers, turns = follow(frames)
+    readers, turns = follow(frames, accounts)
     heads = "reader type ran skipped start got missed cleared place lost unread".split()
     table = "<table><tr>" + "".join(f"<th>{head}</th>" for head in heads) + "</tr>"
     table += "".join(row(reader, turns) for reader in accounts) + "</table>"
-    plots = "".join(plot(name, frames, readers) for name in frames[-1]["types"]) if frames else "<p>No frame was run.</p>"
+    names = frames[-1]["types"] if frames else []
+    plots = "".join(plot(name, frames, readers, accounts) for name in names) or "<p>No frame was run.</p>"
     legend = ("Grey: the messages that are kept. A line: the place of a reader, the number of the next message that it can "
-              "get. Red: messages that it missed. In the table, lost are those that were dropped past its place.")
+              "get. Red: messages that it missed; at the end those that it lost: they were dropped past its place.")
     return (f'<!DOCTYPE html><meta charset="utf-8"><title>timeline</title><style>{STYLE}</style>'
             f"<h1>{len(frames)} frames</h1><p>{legend}</p>{table}{plots}")
 

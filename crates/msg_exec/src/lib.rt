@@ -2,6 +2,7 @@
 #![tactic(auto)]
 
 mod accounts;
+mod arrangement;
 mod backlogs;
 mod batch;
 mod build_error;
@@ -31,7 +32,7 @@ pub use host::Host;
 pub use loop_fault::LoopFault;
 pub use msg_buffer::NoMemory;
 pub use msg_frames::{
-    Account, Backlog, Frame, Items, LAST_JOIN, Log, Outcome, Place, Totals, Turn, laws,
+    Account, Arrangement, Backlog, Frame, Items, LAST_JOIN, Log, Outcome, Place, Totals, Turn, laws,
 };
 pub use msg_workers::{Gate, MAX_WORKERS, NoGate, Runs, Workers, work};
 pub use msg_world::RunFault;

@@ -2,6 +2,7 @@
 #![tactic(auto)]
 
 mod account;
+mod arrangement;
 mod backlog;
 mod frame;
 pub mod laws;
@@ -11,6 +12,7 @@ mod place;
 mod totals;
 
 pub use account::Account;
+pub use arrangement::Arrangement;
 pub use backlog::Backlog;
 pub use frame::Frame;
 pub use limits::LAST_JOIN;

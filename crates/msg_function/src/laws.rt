@@ -1,11 +1,10 @@
-// Laws: the turn of a function's system isn't cut. They need no code.
+// A law: the turn of a function's system is whole. It needs no code.
 ghost use Rattle.std.specs.Prelude.{◌+◌, ◌≤◌, ℕ, List, length};
 ghost use Rattle.msg_world.specs.Prelude.{WorldState};
 ghost use Rattle.msg_system.specs.{declared.limits.TheConstants.MAX_OPS, declared.op.Op.Op, declared.start.Start.Start};
-ghost use Rattle.msg_function.specs.{declared.port.Port.Port, Functions.TellsOfNoCut, Functions.TurnIsWhole, Functions.of_function};
+ghost use Rattle.msg_function.specs.{declared.port.Port.Port, Functions.TurnIsWhole, Functions.of_function};
 
-use crate::{Function, FunctionSystem};
-use msg_system::SystemOf;
+use crate::Function;
 
 /// The turn of a function's system is never cut, neither by its access nor by the limit of ops: it
 /// is all that the system reads, and then all that the function answers to that. Then the system is
@@ -20,12 +19,4 @@ pub fn a_functions_turn_is_whole<
         → length reads + length writes ≤ MAX_OPS
         → TurnIsWhole T.answers reads writes memory
         (of_function T.answers reads writes memory start writer places last) s }
-{}
-
-/// The same of a system, as it is: no reply of its turn tells of a cut, whatever the world.
-pub fn no_turn_is_cut<T: Function<READS, WRITES> + Send, const READS: usize, const WRITES: usize>(
-    system: &FunctionSystem<T, READS, WRITES>,
-)
-    ensures law { (s : WorldState T.Value.values)
-        → TellsOfNoCut (⟦<FunctionSystem<T, READS, WRITES> as SystemOf>⟧.meaning system.now) s }
 {}

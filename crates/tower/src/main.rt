@@ -20,9 +20,10 @@ use creep::Creep;
 use event::Event;
 use gate::Gate;
 use msg_exec::engine_laws::{engines_stand, frames_run_one_by_one};
-use msg_exec::{EngineBuilder, EngineOf, Frame, Items, Log, NoGate, Workers};
+use msg_exec::{EngineBuilder, EngineOf, Frame, Log, NoGate, Workers};
 use msg_function::Port::{Messages, Resource};
-use msg_function::{Either, FunctionSystem, no_turn_is_cut};
+use msg_function::{Either, FunctionSystem, NeverCut};
+use msg_names::Names;
 use msg_system::{Condition, SystemOf};
 use msg_world::{ResNo, TypeNo, World};
 use std::alloc::Global;
@@ -30,10 +31,11 @@ use std::io::Print;
 use std::thread::Threads;
 use tower::Tower;
 
-/// A system of the game: a creep, or what stands in a lane, a tower or a gate.
-type Part = Either<FunctionSystem<Creep, 1, 2>, Standing>;
-
-type Standing = Either<FunctionSystem<Tower, 1, 1>, FunctionSystem<Gate, 2, 1>>;
+/// A system of the game: a creep, a tower or a gate.
+type Part = Either<
+    FunctionSystem<Creep, 1, 2>,
+    Either<FunctionSystem<Tower, 1, 1>, FunctionSystem<Gate, 2, 1>>,
+>;
 
 /// How many lanes lead to the keep. In each walk two creeps, and stand a tower and a gate.
 const LANES: u32 = 3;
@@ -53,9 +55,32 @@ const LIVES: u32 = 5;
 /// How many frames are run.
 const FRAMES: u32 = 10;
 
+/// What is printed of the parts of the lanes, and of what they tell.
+const NAMES: Names<'static> = Names {
+    systems: &[
+        "creep 0.0",
+        "creep 0.1",
+        "tower 0",
+        "gate 0",
+        "creep 1.0",
+        "creep 1.1",
+        "tower 1",
+        "gate 1",
+        "creep 2.0",
+        "creep 2.1",
+        "tower 2",
+        "gate 2",
+    ],
+    types: &[
+        "walks 0", "shots 0", "breaks 0", "walks 1", "shots 1", "breaks 1", "walks 2", "shots 2",
+        "breaks 2",
+    ],
+    resources: &["lives"],
+};
+
 /// The resource that has the lives of the keep.
 fn lives() -> ResNo {
-    ResNo::new(0).unwrap()
+    ResNo::of(0)
 }
 
 /// The types of messages of a lane: who walks, who is shot, and who breaks in.
@@ -63,9 +88,9 @@ fn lane(number: u32) -> [TypeNo; 3]
     requires there { number < 3 }
 {
     [
-        TypeNo::new(3 * number).unwrap(),
-        TypeNo::new(3 * number + 1).unwrap(),
-        TypeNo::new(3 * number + 2).unwrap(),
+        TypeNo::of(3 * number),
+        TypeNo::of(3 * number + 1),
+        TypeNo::of(3 * number + 2),
     ]
 }
 
@@ -114,26 +139,12 @@ fn add_lane(
     Ok(())
 }
 
-/// No turn of what stands in a lane is cut, whatever the world.
-fn no_standing_is_cut(standing: &Standing)
-    ensures law { (s : WorldState event_values)
-        → TellsOfNoCut (⟦<Standing as SystemOf>⟧.meaning standing.now) s }
-{
-    match standing {
-        Either::Left(tower) => no_turn_is_cut(tower),
-        Either::Right(gate) => no_turn_is_cut(gate),
-    }
-}
-
 /// No turn of a part is cut, whatever the world.
 fn no_part_is_cut(part: &Part)
     ensures law { (s : WorldState event_values)
         → TellsOfNoCut (⟦<Part as SystemOf>⟧.meaning part.now) s }
 {
-    match part {
-        Either::Left(creep) => no_turn_is_cut(creep),
-        Either::Right(standing) => no_standing_is_cut(standing),
-    }
+    part.no_turn_is_cut();
 }
 
 /// The parts of all lanes.
@@ -212,38 +223,20 @@ fn go_on<R: Threads + Sync, S: SystemOf<Value = Event> + Send>(
 fn quiet_frames(alloc: Global) -> anyhow::Result<Vec<Frame<Event>>> {
     let mut frames = Vec::new(alloc);
     for _ in 0..FRAMES {
-        frames.push(Frame {
-            posts: Items::from_vec(Vec::new(alloc)),
-        })?;
+        frames.push(Frame::quiet(alloc))?;
     }
     Ok(frames)
 }
 
-/// Prints how many broke in.
-fn tell_lanes<R: Print>(rt: &R, engine: &EngineOf<Part, Event>) -> anyhow::Result<()> {
-    let accounts = engine.accounts()?;
-    for number in 0..LANES {
-        let [_walks, _shots, breaks] = lane(number);
-        for account in &accounts {
-            if account.of_type == breaks {
-                println!(rt; "lane {number}: {} broke in", account.got)?;
-            }
-        }
+/// Prints what became of each reader's messages, and how many lives are left.
+fn tell<R: Print>(rt: &R, engine: &EngineOf<Part, Event>) -> anyhow::Result<()> {
+    for account in &engine.accounts()? {
+        println!(rt; "{}", NAMES.account(*account, engine.backlog(account)))?;
     }
-    Ok(())
-}
-
-/// Prints how many lives are left.
-fn tell_lives<R: Print>(rt: &R, engine: &EngineOf<Part, Event>) -> anyhow::Result<()> {
     if let Some(Event::Lives(left)) = engine.world().and_then(|world| world.resource(lives())) {
         println!(rt; "{left} of {LIVES} lives are left")?;
     }
     Ok(())
-}
-
-fn tell<R: Print>(rt: &R, engine: &EngineOf<Part, Event>) -> anyhow::Result<()> {
-    tell_lanes(rt, engine)?;
-    tell_lives(rt, engine)
 }
 
 /// Plays these frames on four workers, the first half as a list and the others one by one, and

@@ -1,0 +1,89 @@
+use crate::{NamedAccount, NamedLog};
+use msg_frames::{Account, Backlog, Log};
+use msg_world::{HOST, ResNo, TypeNo};
+use std::fmt;
+
+/// The names of systems, types and resources, each by its number. What has no name is shown by its
+/// number, as `system 3`.
+///
+/// ```
+/// let names = Names {
+///     systems: &["creep", "tower", "gate"],
+///     types: &["walks", "shots", "breaks"],
+///     resources: &["lives"],
+/// };
+/// println!(rt; "{}", names.log(&log))?;
+/// ```
+#[derive(Clone, Copy, Debug)]
+pub struct Names<'a> {
+    pub systems: &'a [&'a str],
+    pub types: &'a [&'a str],
+    pub resources: &'a [&'a str],
+}
+
+/// A name, or what it would be of and its number.
+#[derive(Clone, Copy)]
+pub(crate) struct Name<'a> {
+    kind: &'static str,
+    name: Option<&'a str>,
+    number: u32,
+}
+
+impl<'a> Name<'a> {
+    fn of(kind: &'static str, names: &'a [&'a str], number: u32) -> Name<'a> {
+        Name {
+            kind,
+            name: names.get(number as usize).copied(),
+            number,
+        }
+    }
+}
+
+impl<'a> fmt::Display for Name<'a> {
+    fn fmt<W: fmt::Write>(&self, f: &mut fmt::Formatter<W>) -> fmt::Result {
+        match self.name {
+            Some(name) => f.write_str(name),
+            None => write!(f, "{} {}", self.kind, self.number),
+        }
+    }
+}
+
+impl<'a> Names<'a> {
+    /// A log, a line for each reply and for each turn that was skipped.
+    pub fn log<V>(self, log: &'a Log<V>) -> NamedLog<'a, V> {
+        NamedLog { names: self, log }
+    }
+
+    /// An account of a reader, with what is left for it (`EngineOf::backlog`) if that is known.
+    pub fn account(self, account: Account, left: Option<Backlog>) -> NamedAccount<'a> {
+        NamedAccount {
+            names: self,
+            account,
+            left,
+        }
+    }
+
+    pub(crate) fn system(self, number: u32) -> Name<'a> {
+        Name::of("system", self.systems, number)
+    }
+
+    /// Who wrote a message: a system, or the host.
+    pub(crate) fn writer(self, number: u32) -> Name<'a> {
+        if number == HOST {
+            return Name {
+                kind: "host",
+                name: Some("host"),
+                number,
+            };
+        }
+        self.system(number)
+    }
+
+    pub(crate) fn of_type(self, t: TypeNo) -> Name<'a> {
+        Name::of("type", self.types, t.number())
+    }
+
+    pub(crate) fn resource(self, r: ResNo) -> Name<'a> {
+        Name::of("resource", self.resources, r.number())
+    }
+}
