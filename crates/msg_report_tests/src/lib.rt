@@ -18,6 +18,8 @@ mod from_bytes;
 #[cfg(test)]
 mod made;
 #[cfg(test)]
+mod names;
+#[cfg(test)]
 mod narrow;
 #[cfg(test)]
 mod numerals;

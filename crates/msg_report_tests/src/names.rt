@@ -1,0 +1,130 @@
+// What an engine tells, with names, and its plan beside that of the scenario that it was made of.
+ghost use Rattle.std.specs.Prelude.{◌<◌};
+ghost use Rattle.msg_scenario_data.specs.Prelude.{IsRunnable};
+ghost use Rattle.msg_exec.specs.Prelude.{IsEngine};
+ghost use Rattle.msg_world.specs.Prelude.{i64_values};
+
+use crate::equal::{Have, expect_eq, expect_text};
+use crate::scenario_files::accepted;
+use crate::sparing::{Sparing, sparing_engine, workers};
+use msg_exec::{EngineOf, Frame, NoGate};
+use msg_names::Names;
+use msg_scenario::{Form, MemorySink, Scenario, put_plan, scenario_of_engine};
+use msg_system::SystemOf;
+use msg_world::TypeNo;
+use std::process::Abort;
+use std::thread::Threads;
+
+/// A writer that signals, a reader with a condition that writes too, a tally that joins late, and a
+/// reader that a rule puts before its writer.
+const SCENARIO: &str =
+    r#"{"types":[["hit",9],["pay",9]],"resources":[["till",0]],"systems":[{"name":"a","ops":[["write","hit",1],["signal"]]},{"name":"b","if":[["resource_equals","till",0]],"ops":[["read","hit"],["write","pay",2]]},{"name":"c","join":2,"ops":[["sum","pay","till"]]},{"name":"d","ops":[["read","pay"],["clear","hit"]]}],"rules":[["d","b"]],"frames":[]}"#;
+
+const NAMES: Names<'static> = Names {
+    systems: &["a", "b", "c", "d"],
+    types: &["hit", "pay"],
+    resources: &["till"],
+};
+
+const NO_NAMES: Names<'static> = Names {
+    systems: &[],
+    types: &[],
+    resources: &[],
+};
+
+/// The plans of a frame of both scenarios have the same text.
+fn expect_same_plans(
+    rt: &(impl Abort + AllocGlobal),
+    scenario: &Scenario,
+    other: &Scenario,
+    frame: u32,
+)
+    requires runnable { IsRunnable scenario.now }
+    requires other_runnable { IsRunnable other.now }
+    requires some { 0 < frame }
+{
+    let (mut text, mut want) = (MemorySink::new(), MemorySink::new());
+    put_plan(rt.alloc(), scenario, frame, Form::Lines, &mut want).have(rt);
+    put_plan(rt.alloc(), other, frame, Form::Lines, &mut text).have(rt);
+    expect_eq(rt, text.bytes(), want.bytes());
+    assert!(rt; !text.bytes().is_empty());
+}
+
+#[test]
+fn an_engine_has_the_plan_of_its_scenario(rt: HostRuntime) {
+    let rt = &rt;
+    let scenario = accepted(rt, SCENARIO);
+    let engine = sparing_engine(rt.alloc(), &scenario, 0).have(rt);
+    let arrangement = engine.arrangement().have(rt);
+    let like = scenario_of_engine(rt.alloc(), &arrangement, &NAMES).have(rt);
+    expect_same_plans(rt, &scenario, &like, 1);
+    expect_same_plans(rt, &scenario, &like, 2);
+    drop(engine);
+}
+
+/// What has no name is told by its number.
+#[test]
+fn an_engine_without_names_has_a_plan(rt: HostRuntime) {
+    let rt = &rt;
+    let scenario = accepted(rt, SCENARIO);
+    let engine = sparing_engine(rt.alloc(), &scenario, 0).have(rt);
+    let arrangement = engine.arrangement().have(rt);
+    let like = scenario_of_engine(rt.alloc(), &arrangement, &NO_NAMES).have(rt);
+    let mut text = MemorySink::new();
+    put_plan(rt.alloc(), &like, 1, Form::Lines, &mut text).have(rt);
+    let want = "frame 1\nbatch 1: system_0\nbatch 2: system_3\nbatch 3: system_1\n";
+    assert!(rt; text.bytes().starts_with(want.as_bytes()));
+    drop(engine);
+}
+
+/// What the next frame with a post and the account of the last reader tell, with these names.
+fn expect_told(
+    rt: &(impl Threads + Sync + Abort + AllocGlobal),
+    engine: &mut EngineOf<Sparing>,
+    names: Names,
+    log: &str,
+    account: &str,
+)
+    requires engine { IsEngine i64_values ⟦<Sparing as SystemOf>⟧.meaning engine.old }
+    ensures engine { IsEngine i64_values ⟦<Sparing as SystemOf>⟧.meaning engine.new }
+{
+    let frame = Frame::of(vec![in rt.alloc(); (TypeNo::of(1), 7)].have(rt));
+    assert!(rt; engine.fits(&frame));
+    let told = engine
+        .run_frame(rt, &frame, workers(rt, 2), &NoGate)
+        .have(rt);
+    expect_text(rt, &names.log(&told), log);
+    let accounts = engine.accounts().have(rt);
+    let last = accounts.last().have(rt);
+    expect_text(rt, &names.account(*last, engine.backlog(last)), account);
+}
+
+#[test]
+fn logs_and_accounts_are_told_by_name(rt: HostRuntime) {
+    const LOG: &str = "\
+        host wrote 0+1\n\
+        a wrote 0+1\n\
+        a signalled\n\
+        d missed 0: 0=7@host\n\
+        d missed 0 cleared 1\n\
+        b missed 0: 0=1@a\n\
+        b wrote 1+1\n";
+    const ACCOUNT: &str = "d reads pay: start 0 got 1 missed 0 cleared 0 place 1 lost 0 unread 1";
+    const NUMBERED: &str =
+        "system 3 reads type 1: start 0 got 3 missed 0 cleared 0 place 3 lost 0 unread 1";
+    const NUMBERED_LOG: &str = "\
+        host wrote 2+1\n\
+        system 0 wrote 1+1\n\
+        system 0 signalled\n\
+        system 3 missed 0: 1=2@system 1 2=7@host\n\
+        system 3 missed 0 cleared 1\n\
+        system 1 missed 0: 1=1@system 0\n\
+        system 1 wrote 3+1\n\
+        system 2 missed 0: 0=7@host 1=2@system 1 2=7@host 3=2@system 1; 18\n";
+    let rt = &rt;
+    let scenario = accepted(rt, SCENARIO);
+    let mut engine = sparing_engine(rt.alloc(), &scenario, 9).have(rt);
+    expect_told(rt, &mut engine, NAMES, LOG, ACCOUNT);
+    expect_told(rt, &mut engine, NO_NAMES, NUMBERED_LOG, NUMBERED);
+    drop(engine);
+}
