@@ -19,7 +19,7 @@ fn name_of(alloc: Global, names: &[&str], kind: &str, number: usize) -> Result<N
 }
 
 /// Names of so many types or resources, each with a number that no plan asks for.
-fn named<N: Default>(
+fn named<N: Default + Drop>(
     alloc: Global,
     names: &[&str],
     kind: &str,
