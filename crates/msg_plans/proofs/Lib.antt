@@ -1,8 +1,8 @@
 -- one step of a loop
 pub mod Steps
--- the table of a frame
+-- the accesses of systems, and the plan that they make
 pub mod Tables
--- the rules round a cycle
+-- rules that lead on
 pub mod Cycles
 -- the longest chain
 mod Chains

@@ -1,23 +1,13 @@
--- Steps of loops: one number of a range more, one element of a list more or less.
-use Rattle.std.proofs.Common.{◌≡◌, ℕ, zero, suc, ◌+◌, ◌<◌, ◌≤◌, Bool, true, false, List, [], ◌∷◌, ◌++◌, append-nil, append_assoc, length, map, get_or, take, drop, find, flat_map, Some, None, refl, sym, arith}
-use Rattle.std.specs.List.{concat, range_with_len}
-use Rattle.std.proofs.lemmas.{List.flat_map_more, List.take_more, List.FromFn.get_or-range_with_len, List.FromFn.length-range_with_len, Option.slice_get-get_or}
-use Rattle.msg_order.proofs.Elements.{range_more}
+-- Steps of loops: one element of a list more or less.
+use Rattle.std.proofs.Common.{◌≡◌, ℕ, zero, suc, ◌+◌, ◌<◌, ◌≤◌, Bool, true, false, List, [], ◌∷◌, ◌++◌, append-nil, append_assoc, length, map, get_or, take, drop, find, Some, None, refl, arith}
+use Rattle.std.specs.List.{concat}
+use Rattle.std.proofs.lemmas.{List.take_more}
 
--- ---- ranges
+-- ---- batches one after the other
 
 map_append : {X Y : Type 0} (f : X → Y) (xs ys : List X) → map f (xs ++ ys) ≡ map f xs ++ map f ys
 map_append f [] ys = refl
 map_append f (x ∷ xs) ys = grind (arith, map_append f xs ys)
-
-pub map_more : {Y : Type 0} (f : ℕ → Y) (i : ℕ) → map f (range_with_len 0 (i + 1)) ≡ map f (range_with_len 0 i) ++ f i ∷ []
-map_more f i = rw (range_more i) (map_append f (range_with_len 0 i) (i ∷ []))
-
-pub text_more : (f : ℕ → List ℕ) (before : List ℕ) (i : ℕ)
-    → before ++ flat_map f (range_with_len 0 (i + 1)) ≡ (before ++ flat_map f (range_with_len 0 i)) ++ f i
-text_more f before i = rw (range_more i) (sym (flat_map_more f before (range_with_len 0 i) i))
-
--- ---- batches one after the other
 
 concat_append : (xss : List (List ℕ)) (xs : List ℕ) → concat (xss ++ xs ∷ []) ≡ concat xss ++ xs
 concat_append [] xs = append-nil xs
@@ -51,23 +41,6 @@ module _ (p : ℕ → Bool) where
   find_none (x ∷ xs) (suc i) le = find_none xs i (omega (arith, le))
 
 pub ruleset find_steps = (find_on, find_here, find_none)
-
--- the same in a range
-module _ (p : ℕ → Bool) (n i : ℕ) (lt : i < n) where
-  pub range_on : p i ≡ false → find p (drop (i + 1) (range_with_len 0 n)) ≡ find p (drop i (range_with_len 0 n))
-  range_on fails =
-      let at : get_or (range_with_len 0 n) i 0 ≡ i = omega (arith, get_or-range_with_len 0 n i 0 lt) in
-      find_on p (range_with_len 0 n) i 0 (omega (arith, lt, length-range_with_len 0 n)) (rw at fails)
-
-  pub range_here : p i ≡ true → find p (drop i (range_with_len 0 n)) ≡ Some i
-  range_here passes =
-      let at : get_or (range_with_len 0 n) i 0 ≡ i = omega (arith, get_or-range_with_len 0 n i 0 lt) in
-      rw at at (find_here p (range_with_len 0 n) i 0 (omega (arith, lt, length-range_with_len 0 n)) (rw at passes))
-
-pub range_none : (p : ℕ → Bool) (n : ℕ) → find p (drop n (range_with_len 0 n)) ≡ None
-range_none p n = find_none p (range_with_len 0 n) n (omega (arith, length-range_with_len 0 n))
-
-pub ruleset range_steps = (range_on, range_here, range_none, slice_get-get_or)
 
 -- ---- from the last one back
 

@@ -1,4 +1,4 @@
--- The table of a frame.
+-- The accesses of the systems of a scenario, and the plan that they make.
 use Rattle.std.proofs.Common.{◌≡◌, ℕ, zero, suc, ◌+◌, ◌<◌, Bool, true, false, List, [], ◌∷◌, ◌++◌, length, map, nat_le, get_or, take, refl, subst, sym, ap, ◌∙◌, IsTrue, All, slice_index_or, arith, replicate, le_refl, ℤ, max}
 use Rattle.std.specs.List.{concat, enumerate_from}
 use Rattle.std.proofs.lemmas.{Bool.cases_lt, Bool.false≢true, List.take_more, List.get_or_past, List.length-map, List.get_or-take, List.get_or-replicate, List.Elements.All-tail, List.FromFn.fill_by_all, List.FromFn.length-enumerate_from, Nat.Bits.bit_at-zero, Simd.map-map}
@@ -18,9 +18,10 @@ use Rattle.msg_frames.proofs.{Functions.order_among, Functions.plan_is, SystemsS
 use Rattle.msg_scenario_data.specs.Prelude.{IsRunnable, first_world, meanings_of, places_of, state_of}
 use Rattle.msg_scenario_data.specs.{declared.scenario.Scenario.Scenario, declared.scenario.SystemSpec.SystemSpec}
 use Rattle.msg_world.specs.declared.limits.TheConstants.{MAX_RESOURCES, MAX_TYPES}
-use Rattle.msg_plans.specs.Order.{batches_in, needs_in, precedes, state_in}
-use Rattle.msg_plans.specs.inner.Tables.{AreAccesses, IsTableOf, joined_by, spec_needs}
-use Rattle.msg_plans.specs.declared.planned.Planned.{Planned}
+use Rattle.msg_plans.specs.Order.{batches_in, precedes, state_in}
+use Rattle.msg_plans.specs.inner.Planned.{IsPlanned}
+use Rattle.msg_plans.specs.inner.Tables.{AreAccesses, joined_by, spec_needs}
+use Rattle.msg_plans.specs.declared.planned.Planned.TheInside.{Inside}
 
 -- ---- accesses
 
@@ -98,7 +99,11 @@ none_joined n rules below none joined size =
     get_or-take n (replicate n true) i false lt ∙ get_or-replicate n i true false lt)
     (rw (all_rules n n rules (le_refl n) below) none)
 
--- ---- the table
+-- ---- the plan
+
+-- what system i reads and writes, its conditions too
+unfoldable needs_in : Scenario → ℕ → Needs
+needs_in s i = member_needs ((state_of s).members i)
 
 needs_stay : (m n : Member ℤ) → SameMember m n → member_needs n ≡ member_needs m
 needs_stay m n same = grind arith
@@ -154,18 +159,17 @@ module _ (s : Scenario) where
       of_needs = λ i lt. access_is bs are i;
     }
 
-    pub is_table : (p : Planned) → p.frame ≡ k → AreAccesses s.systems p.accesses.items
+    pub is_planned : (p : Inside) → p.scenario.now ≡ s → p.frame ≡ k → AreAccesses s.systems p.accesses.items
         → IsPlanOf p.accesses.items s.rules (joined_by s.systems k) p.plan → p.turns.items ≡ concat p.plan.batches
-        → IsTableOf s p
+        → IsPlanned p
     unfolding precedes batches_in
-    is_table p frame are plan turns =
+    is_planned p scenario frame are plan turns =
         let t : State i64_values = state_in s k in
         let bs : List Access = p.accesses.items in
         let is : p.plan ≡ plan_of (settled_order t) (join_flags t) =
         plan_is t bs p.plan few_parts (accesses_are bs are) (rw flags at plan) in
-        rw frame (record {
-          accesses = access_is bs are;
-          paths = rw is (plan_paths (settled_order t) (join_flags t) (order_among t));
-          batches = rw is refl;
-          turns = rw (turns, is) refl;
-        })
+        record {
+          paths = rw (scenario, frame, is) (plan_paths (settled_order t) (join_flags t) (order_among t));
+          batches = rw (scenario, frame, is) refl;
+          turns = rw (scenario, frame, turns, is) refl;
+        }

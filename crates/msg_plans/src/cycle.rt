@@ -1,6 +1,6 @@
 // The rules round a cycle.
-ghost use Rattle.std.specs.Prelude.{◌≡◌, ◌++◌, IfOk, OnOk, map};
-ghost use Rattle.msg_plans.specs.Unfit as Spec;
+ghost use Rattle.std.specs.Prelude.{◌≡◌, ◌<◌, IfOk, IfSome, length, slice_get};
+ghost use Rattle.msg_plans.specs.Unfit.{Lead};
 
 use msg_order::Rule;
 use msg_scenario_data::Scenario;
@@ -11,50 +11,34 @@ use std::alloc::Global;
 
 /// The rules that lead from a system back to it, as few as there are, by their places; none if it
 /// isn't on a cycle.
-#[tactic(auto, unfolding(crate::specs::Unfit::round))]
 pub fn round(alloc: Global, rules: &[Rule], system: u32) -> Result<Vec<usize>, NoMemory>
-    ensures round { IfOk result (λ v. v.items ≡ Spec.round rules.now system) }
+    ensures round { IfOk result (λ v. Lead rules.now v.items system system) }
 {
     let levels = levels_back(alloc, rules, system)?;
-    way(alloc, rules, system, &levels)
+    way_round(alloc, rules, system, &levels)
 }
 
-fn is_one_of(systems: &[u32], system: u32) -> bool
-    ensures one { result ≡ Spec.is_one_of systems.now system }
-{
+fn is_one_of(systems: &[u32], system: u32) -> bool {
     systems.iter().any(|other| *other == system)
 }
 
 /// The systems from which a rule leads to one of these.
-fn one_before(alloc: Global, rules: &[Rule], systems: &[u32]) -> Result<Vec<u32>, NoMemory>
-    ensures before { IfOk result (λ v. v.items ≡ Spec.one_before rules.now systems.now) }
-{
-    let mut before = Vec::new(alloc);
-    for rule in rules {
-        if is_one_of(systems, rule.later) {
-            before.push(rule.earlier)?;
-        }
-    }
-    Ok(before)
+fn one_before(alloc: Global, rules: &[Rule], systems: &[u32]) -> Result<Vec<u32>, NoMemory> {
+    let leading = rules.iter().filter(|rule| is_one_of(systems, rule.later));
+    leading.map(|rule| rule.earlier).collect(alloc)
 }
 
 /// The systems from which a rule leads to the first of some levels.
-fn next_level(alloc: Global, rules: &[Rule], levels: &[Vec<u32>]) -> Result<Vec<u32>, NoMemory>
-    ensures next { IfOk result (λ v. v.items
-        ≡ Spec.next_level rules.now (map (λ level. level.items) levels.now)) }
-{
+fn next_level(alloc: Global, rules: &[Rule], levels: &[Vec<u32>]) -> Result<Vec<u32>, NoMemory> {
     match levels {
         [] => Ok(Vec::new(alloc)),
         [level, ..] => one_before(alloc, rules, level),
     }
 }
 
-/// The levels from a system back to it.
-#[tactic(auto, using(crate::proofs::Cycles::level_steps), unfolding(crate::specs::Unfit::levels_back))]
-fn levels_back(alloc: Global, rules: &[Rule], system: u32) -> Result<Vec<Vec<u32>>, NoMemory>
-    ensures levels { IfOk result (λ v. map (λ level. level.items) v.items
-        ≡ Spec.levels_back rules.now system) }
-{
+/// Levels of systems from a system back to it, without the first one: a rule leads from each system
+/// of a level to one of the level after it. They are as few as there are.
+fn levels_back(alloc: Global, rules: &[Rule], system: u32) -> Result<Vec<Vec<u32>>, NoMemory> {
     let mut level = Vec::new(alloc);
     level.push(system)?;
     let mut levels = Vec::new(alloc);
@@ -69,43 +53,39 @@ fn levels_back(alloc: Global, rules: &[Rule], system: u32) -> Result<Vec<Vec<u32
     Ok(Vec::new(alloc))
 }
 
-/// The first rule that leads from a system to one of these.
+/// The first rule that leads from a system to one of these, by its place.
 fn first_rule(rules: &[Rule], system: u32, systems: &[u32]) -> Option<usize>
-    ensures first { result ≡ Spec.first_rule rules.now system systems.now }
+    ensures below { IfSome result (λ k. k < length rules.now) }
+    ensures leads { IfSome result (λ k. IfSome (slice_get rules.now k)
+        (λ rule. rule.earlier ≡ system)) }
 {
-    rules.iter().position(|rule| rule.earlier == system && is_one_of(systems, rule.later))
+    let mut rules = rules.iter();
+    rules.position(|rule| rule.earlier == system && is_one_of(systems, rule.later))
 }
 
-/// The system to which a rule leads.
-fn later_of(rules: &[Rule], k: usize) -> u32
-    ensures later { result ≡ Spec.later_of rules.now k }
-{
-    match rules.get(k) {
-        Some(rule) => rule.later,
-        None => 0,
-    }
-}
-
-/// A way from a system through these levels.
-fn way(
+/// A way from a system through these levels, if it leads back to the system; else none.
+fn way_round(
     alloc: Global,
     rules: &[Rule],
     system: u32,
     levels: &[Vec<u32>],
 ) -> Result<Vec<usize>, NoMemory>
-    ensures way { IfOk result (λ v. v.items
-        ≡ Spec.way rules.now system (map (λ level. level.items) levels.now)) }
+    ensures way { IfOk result (λ v. Lead rules.now v.items system system) }
 {
     let mut way = Vec::new(alloc);
     let mut at = system;
     for level in levels {
         let Some(k) = first_rule(rules, at, level) else {
-            return Ok(way);
+            return Ok(Vec::new(alloc));
         };
         way.push(k)?;
-        at = later_of(rules, k);
+        at = rules[k].later;
     }
-    Ok(way)
+    if at == system {
+        Ok(way)
+    } else {
+        Ok(Vec::new(alloc))
+    }
 }
 
 /// Adds a line for each rule round a cycle.
@@ -113,42 +93,23 @@ pub(crate) fn add_round(
     text: &mut Vec<u8>,
     scenario: &Scenario,
     system: u32,
-) -> Result<(), NoMemory>
-    ensures appends { OnOk result (text.new.items ≡ text.old.items
-        ++ Spec.rules_text scenario.now (Spec.round scenario.now.rules system)) }
-{
+) -> Result<(), NoMemory> {
     let round = round(*text.allocator(), scenario.rules.as_slice(), system)?;
-    add_rules(text, scenario, &round)
-}
-
-#[tactic(auto, unfolding(crate::specs::Unfit::rules_text))]
-fn add_rules(text: &mut Vec<u8>, scenario: &Scenario, rules: &[usize]) -> Result<(), NoMemory>
-    ensures appends { OnOk result
-        (text.new.items ≡ text.old.items ++ Spec.rules_text scenario.now rules.now) }
-{
-    for k in rules {
-        add_rule(text, scenario, *k)?;
+    for k in round.as_slice() {
+        if let Some(rule) = scenario.rules.as_slice().get(*k) {
+            add_rule(text, scenario, *k, rule)?;
+        }
     }
     Ok(())
 }
 
-#[tactic(auto, unfolding(crate::specs::Unfit::rule_line))]
-fn add_rule(text: &mut Vec<u8>, scenario: &Scenario, k: usize) -> Result<(), NoMemory>
-    ensures appends { OnOk result
-        (text.new.items ≡ text.old.items ++ Spec.rule_line scenario.now k) }
-{
+fn add_rule(
+    text: &mut Vec<u8>,
+    scenario: &Scenario,
+    k: usize,
+    rule: &Rule,
+) -> Result<(), NoMemory> {
     add_count(text, b"rules[", k as u64)?;
-    match scenario.rules.as_slice().get(k) {
-        Some(rule) => add_names(text, scenario, rule),
-        None => Ok(()),
-    }
-}
-
-#[tactic(auto, unfolding(crate::specs::Unfit::rule_names))]
-fn add_names(text: &mut Vec<u8>, scenario: &Scenario, rule: &Rule) -> Result<(), NoMemory>
-    ensures appends { OnOk result
-        (text.new.items ≡ text.old.items ++ Spec.rule_names scenario.now rule.now) }
-{
     text.extend_from_slice(b"]: ")?;
     add_system_name(text, scenario, rule.earlier)?;
     text.extend_from_slice(b" before ")?;

@@ -1,48 +1,54 @@
 // The plan of one frame of a scenario, with what each system reads and writes.
-ghost use Rattle.std.specs.Prelude.{◌≡◌, ◌+◌, ◌<◌, ◌^◌, ◌&&◌, IfOk, length};
+ghost use Rattle.std.specs.Prelude.{◌≡◌, ◌<◌, ◌&&◌, IfOk, find, length, map};
 ghost use Rattle.std.specs.List.{concat, list_any};
 ghost use Rattle.msg_system.specs.Prelude.{IsAccessOf};
-ghost use Rattle.msg_order.specs.Prelude.{IsPlanOf, batch_at};
+ghost use Rattle.msg_order.specs.Prelude.{IsPlanOf};
 ghost use Rattle.msg_scenario_data.specs.Prelude.{IsRunnable};
-ghost use Rattle.msg_plans.specs.Prelude.{is_next, needs_in, precedes, turns_in, uses};
-ghost use Rattle.msg_plans.specs.inner.Tables.{AreAccesses, IsTableOf, joined_by, spec_needs};
+ghost use Rattle.msg_plans.specs.Prelude.{batches_in, chain, is_next, link, precedes, turns_in};
+ghost use Rattle.msg_plans.specs.inner.Tables.{AreAccesses, joined_by, spec_needs};
 
 use msg_order::{Plan, PlanRefusal};
 use msg_scenario_data::{Scenario, SystemSpec};
 use msg_system::job_access;
 use msg_world::{Access, NoMemory, TypeNo};
 use std::alloc::Global;
-
-/// How a plan is told.
-#[derive(Clone, Copy, Debug, PartialEq, Eq)]
-pub enum Form {
-    /// As lines.
-    Lines,
-    /// As a graph that Graphviz draws.
-    Dot,
-}
+use std::marker::Model;
 
 /// How a system uses a type.
 #[derive(Clone, Copy, Debug, PartialEq, Eq)]
-pub enum Use {
+pub(crate) enum Use {
     Write,
     Read,
 }
 
-/// A system that writes or reads a type; whether it reads the messages of a frame in the next one.
-#[derive(Clone, Copy, Debug, PartialEq, Eq)]
-pub struct User {
-    pub system: u32,
-    pub is_late: bool,
+/// In which order the systems of a scenario take their turns in one frame. Nothing is run for it.
+/// Contracts see it as the scenario and the number of the frame.
+///
+/// ```
+/// let planned = plan_frame(alloc, &scenario, 1)?;
+/// for batch in planned.batches() {
+///     println!(rt; "{} side by side", batch.len())?;
+/// }
+/// ```
+#[derive(Drop)]
+pub struct Planned<'a> {
+    scenario: &'a Scenario,
+    frame: u32,
+    accesses: Vec<Access>,
+    plan: Plan,
+    turns: Vec<u32>,
 }
 
-/// The plan of a frame, what each system reads and writes, and the systems in the order of turns.
-#[derive(Drop)]
-pub(crate) struct Planned {
-    pub frame: u32,
-    pub accesses: Vec<Access>,
-    pub plan: Plan,
-    pub turns: Vec<u32>,
+impl<'a> Model for Planned<'a> {
+    ghost use Rattle.msg_plans.specs.Order.{FrameOf};
+
+    ghost Value = { FrameOf };
+
+    ghost use Rattle.msg_plans.specs.inner.Planned.{IsPlanned, frame_of};
+
+    ghost view = { frame_of };
+
+    ghost invariant = { IsPlanned };
 }
 
 fn access_of(system: &SystemSpec) -> Access
@@ -102,21 +108,23 @@ fn turns_of(alloc: Global, plan: &Plan) -> Result<Vec<u32>, NoMemory>
     Ok(turns)
 }
 
-/// The table of a frame, from 1 on.
-pub(crate) fn plan_frame(
+/// The plan of a frame of a scenario, from frame 1 on. One past the last of the file has the plan
+/// that it would have.
+pub fn plan_frame<'a>(
     alloc: Global,
-    scenario: &Scenario,
+    scenario: &'a Scenario,
     frame: u32,
-) -> Result<Planned, NoMemory>
+) -> Result<Planned<'a>, NoMemory>
     requires runnable { IsRunnable scenario.now }
     requires some { 0 < frame }
-    ensures table { IfOk result (IsTableOf scenario.now) }
-    ensures frame { IfOk result (λ p. p.frame ≡ frame) }
+    ensures scenario { IfOk result (λ planned. planned.scenario ≡ scenario.now) }
+    ensures frame { IfOk result (λ planned. planned.number ≡ frame) }
 {
     let accesses = accesses_of(alloc, scenario.systems.as_slice())?;
     let plan = plan_of(alloc, scenario, &accesses, frame)?;
     let turns = turns_of(alloc, &plan)?;
     Ok(Planned {
+        scenario,
         frame,
         accesses,
         plan,
@@ -124,64 +132,117 @@ pub(crate) fn plan_frame(
     })
 }
 
-impl Planned {
-    /// What a system reads and writes. `scenario` is there for the contract alone.
-    pub(crate) fn access(&self, scenario: &Scenario, system: u32) -> Access
-        requires table { IsTableOf scenario.now self.now }
-        ensures needs { IsAccessOf (needs_in scenario.now system) result }
+impl<'a> Planned<'a> {
+    /// The scenario.
+    pub fn scenario(&self) -> &'a Scenario
+        ensures scenario { result.now ≡ self.now.scenario }
     {
-        let _ = scenario;
-        match self.accesses.get(system as usize) {
-            Some(access) => *access,
-            None => Access::default(),
-        }
+        self.scenario
     }
 
-    /// Whether a system writes, or reads, a type.
-    pub(crate) fn uses(&self, scenario: &Scenario, how: Use, t: TypeNo, system: u32) -> bool
-        requires table { IsTableOf scenario.now self.now }
-        ensures uses { result ≡ uses how scenario.now t system }
+    /// The number of the frame.
+    pub fn frame(&self) -> u32
+        ensures frame { result ≡ self.now.number }
     {
-        let access = self.access(scenario, system);
-        match how {
-            Use::Write => access.writes_type(t),
-            Use::Read => access.reads_type(t),
-        }
+        self.frame
     }
 
-    /// The systems of a batch.
-    pub(crate) fn batch(&self, b: usize) -> &[u32]
-        requires batch { b < length self.now.plan.batches }
-        ensures systems { result.now ≡ batch_at self.now.plan.batches b }
-        ensures small { b + 1 < 2 ^ 64 }
+    /// The systems that have joined batch by batch.
+    pub fn batches(&self) -> &[Vec<u32>]
+        ensures batches { map (λ batch. batch.items) result.now
+            ≡ batches_in self.now.scenario self.now.number }
     {
-        self.plan.batches()[b].as_slice()
+        self.plan.batches()
+    }
+
+    /// The same systems in the order of their turns.
+    pub fn turns(&self) -> &[u32]
+        ensures turns { result.now ≡ turns_in self.now.scenario self.now.number }
+    {
+        &self.turns
     }
 
     /// Whether system `i` has to run before system `j`.
-    pub(crate) fn precedes(&self, scenario: &Scenario, i: u32, j: u32) -> bool
-        requires table { IsTableOf scenario.now self.now }
-        ensures precedes { result ≡ precedes scenario.now self.now.frame i j }
+    pub fn precedes(&self, i: u32, j: u32) -> bool
+        ensures precedes { result ≡ precedes self.now.scenario self.now.number i j }
     {
-        let _ = scenario;
         self.plan.precedes(i, j)
     }
 
     /// Whether system `i` has to run before system `j`, and no other stands between them.
-    pub(crate) fn is_next(&self, scenario: &Scenario, i: u32, j: u32) -> bool
-        requires table { IsTableOf scenario.now self.now }
-        ensures next { result ≡ is_next scenario.now self.now.frame i j }
+    pub fn is_next(&self, i: u32, j: u32) -> bool
+        ensures next { result ≡ is_next self.now.scenario self.now.number i j }
     {
-        self.precedes(scenario, i, j) && !self.has_between(scenario, i, j)
+        self.precedes(i, j) && !self.has_between(i, j)
     }
 
-    fn has_between(&self, scenario: &Scenario, i: u32, j: u32) -> bool
-        requires table { IsTableOf scenario.now self.now }
+    fn has_between(&self, i: u32, j: u32) -> bool
         ensures between { result ≡ list_any
-            (λ b. precedes scenario.now self.now.frame i b
-            && precedes scenario.now self.now.frame b j) (turns_in scenario.now self.now.frame) }
+            (λ b. precedes self.now.scenario self.now.number i b
+            && precedes self.now.scenario self.now.number b j)
+            (turns_in self.now.scenario self.now.number) }
     {
-        let mut turns = self.turns.as_slice().iter();
-        turns.any(|b| self.precedes(scenario, i, *b) && self.precedes(scenario, *b, j))
+        let mut turns = self.turns().iter();
+        turns.any(|b| self.precedes(i, *b) && self.precedes(*b, j))
+    }
+
+    /// A system of each batch, each of which has to run before the next: as many as the longest
+    /// chain has.
+    pub fn chain(&self, alloc: Global) -> Result<Vec<u32>, NoMemory>
+        ensures chain { IfOk result (λ v. v.items
+            ≡ chain self.now.scenario self.now.number
+            (batches_in self.now.scenario self.now.number)) }
+    {
+        let batches = self.batches();
+        let mut chain = Vec::new(alloc);
+        let mut left = batches.len();
+        'batches: while left > 0 {
+            left -= 1;
+            if let Some(system) = self.link(&batches[left], &chain) {
+                chain.insert(0, system)?;
+            }
+        }
+        Ok(chain)
+    }
+
+    /// The first system of a batch that has to run before the first of a chain.
+    fn link(&self, batch: &[u32], chain: &[u32]) -> Option<u32>
+        ensures link { result ≡ link self.now.scenario self.now.number batch.now chain.now }
+    {
+        match chain.first() {
+            Some(next) => self.first_before(batch, *next),
+            None => batch.first().copied(),
+        }
+    }
+
+    /// The first system of a batch that has to run before another.
+    #[tactic(auto, using(crate::proofs::Steps::find_steps))]
+    fn first_before(&self, batch: &[u32], system: u32) -> Option<u32>
+        ensures first { result
+            ≡ find (λ i. precedes self.now.scenario self.now.number i system) batch.now }
+    {
+        for i in batch {
+            if self.precedes(*i, system) {
+                return Some(*i);
+            }
+        }
+        None
+    }
+
+    /// What a system reads and writes, its conditions too.
+    pub(crate) fn access(&self, system: u32) -> Access {
+        match self.accesses.get(system as usize) {
+            Some(access) => *access,
+            None => Access::none(),
+        }
+    }
+
+    /// Whether a system writes, or reads, a type.
+    pub(crate) fn uses(&self, how: Use, t: TypeNo, system: u32) -> bool {
+        let access = self.access(system);
+        match how {
+            Use::Write => access.writes_type(t),
+            Use::Read => access.reads_type(t),
+        }
     }
 }

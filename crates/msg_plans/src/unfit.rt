@@ -1,25 +1,19 @@
 // What is told of a scenario that can't be run.
-ghost use Rattle.std.specs.Prelude.{◌≡◌, ◌++◌, OnOk};
-ghost use Rattle.msg_plans.specs.Unfit.{unfit_text};
-
 use crate::clash::add_clash;
 use crate::cycle::add_round;
 use msg_json::Reason;
 use msg_scenario_data::Scenario;
 use msg_world::NoMemory;
+use std::alloc::Global;
 
-/// Adds what there is to tell of a scenario that is refused as a whole: of a clash the ops and the
-/// type, of a cycle the rules round it, a line each.
-pub fn add_unfit(text: &mut Vec<u8>, scenario: &Scenario, why: Reason) -> Result<(), NoMemory>
-    ensures appends { OnOk result
-        (text.new.items ≡ text.old.items ++ unfit_text scenario.now why) }
-{
+/// What there is to tell of a scenario that is refused as a whole: of a clash the ops and the type,
+/// of a cycle the rules round it, a line each.
+pub fn unfit_lines(alloc: Global, scenario: &Scenario, why: Reason) -> Result<Vec<u8>, NoMemory> {
+    let mut text = Vec::new(alloc);
     match why {
-        Reason::Clash(system) => match scenario.systems.as_slice().get(system as usize) {
-            Some(system) => add_clash(text, scenario, system),
-            None => Ok(()),
-        },
-        Reason::Cycle(system) => add_round(text, scenario, system),
-        _ => Ok(()),
+        Reason::Clash(system) => add_clash(&mut text, scenario, system)?,
+        Reason::Cycle(system) => add_round(&mut text, scenario, system)?,
+        _ => (),
     }
+    Ok(text)
 }

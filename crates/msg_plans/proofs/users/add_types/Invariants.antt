@@ -1,7 +1,0 @@
-use Rattle.std.proofs.Common.{◌≡◌, ◌++◌, flat_map}
-use Rattle.std.specs.List.{range_with_len}
-use Rattle.msg_plans.specs.Prelude.{type_line}
-use Rattle.msg_plans.proofs.users.add_types.Given as goal
-
-abbrev pub invariant-loop-t : goal.invariant-loop-t
-invariant-loop-t l = l.text.items ≡ l.initial.text.items ++ flat_map (type_line l.scenario l.planned.frame) (range_with_len 0 l.t)
