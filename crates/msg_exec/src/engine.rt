@@ -12,7 +12,8 @@ use msg_world::{MAX_SYSTEMS, Value, World};
 use std::alloc::Global;
 use std::thread::Threads;
 
-/// Systems over one world, which run frame by frame.
+/// Systems over one world, which run frame by frame: one (`run_frame`), a list (`run_frames`), or
+/// those that a `Host` gives one by one, by the log of the last (`run_loop`).
 ///
 /// After want of memory in a call that runs a frame the engine is spoiled: from then on each such
 /// call answers so, `accounts` too, and there is no world any more.
