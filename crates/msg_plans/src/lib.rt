@@ -17,6 +17,7 @@ mod put;
 mod remarks;
 mod unfit;
 mod users;
+mod uses;
 
 pub use clash::{Clash, clash_of};
 pub use cycle::round;

@@ -10,16 +10,9 @@ ghost use Rattle.msg_plans.specs.inner.Tables.{AreAccesses, joined_by, spec_need
 use msg_order::{Plan, PlanRefusal};
 use msg_scenario_data::{Scenario, SystemSpec};
 use msg_system::job_access;
-use msg_world::{Access, NoMemory, TypeNo};
+use msg_world::{Access, NoMemory};
 use std::alloc::Global;
 use std::marker::Model;
-
-/// How a system uses a type.
-#[derive(Clone, Copy, Debug, PartialEq, Eq)]
-pub(crate) enum Use {
-    Write,
-    Read,
-}
 
 /// In which order the systems of a scenario take their turns in one frame. Nothing is run for it.
 /// Contracts see it as the scenario and the number of the frame.
@@ -234,15 +227,6 @@ impl<'a> Planned<'a> {
         match self.accesses.get(system as usize) {
             Some(access) => *access,
             None => Access::none(),
-        }
-    }
-
-    /// Whether a system writes, or reads, a type.
-    pub(crate) fn uses(&self, how: Use, t: TypeNo, system: u32) -> bool {
-        let access = self.access(system);
-        match how {
-            Use::Write => access.writes_type(t),
-            Use::Read => access.reads_type(t),
         }
     }
 }

@@ -1,14 +1,9 @@
 // The text that tells who writes and who reads each type.
 use crate::numbers::types_of;
-use crate::planned::{Planned, Use};
+use crate::planned::Planned;
+use crate::uses::{Use, late_for, uses};
 use msg_scenario_data::names::{add_system_name, add_type};
 use msg_world::{NoMemory, TypeNo};
-
-/// Whether a system runs before one that writes the type, and so is given its messages a frame
-/// late.
-fn is_late(planned: &Planned, t: TypeNo, system: u32) -> bool {
-    planned.turns().iter().any(|w| planned.uses(Use::Write, t, *w) && planned.precedes(system, *w))
-}
 
 fn add_user(
     text: &mut Vec<u8>,
@@ -18,7 +13,7 @@ fn add_user(
     system: u32,
 ) -> Result<(), NoMemory> {
     add_system_name(text, planned.scenario(), system)?;
-    if how == Use::Read && is_late(planned, t, system) {
+    if how == Use::Read && late_for(planned, system, t).is_some() {
         text.extend_from_slice(b" (a frame late)")?;
     }
     Ok(())
@@ -28,7 +23,7 @@ fn add_user(
 fn add_users(text: &mut Vec<u8>, planned: &Planned, how: Use, t: TypeNo) -> Result<(), NoMemory> {
     let start = text.len();
     for system in planned.turns() {
-        if planned.uses(how, t, *system) {
+        if uses(planned.scenario(), how, t, *system) {
             if text.len() > start {
                 text.extend_from_slice(b", ")?;
             }

@@ -1,6 +1,7 @@
 // Types that are used in one way alone.
 use crate::numbers::types_of;
-use crate::planned::{Planned, Use};
+use crate::planned::Planned;
+use crate::uses::{Use, uses};
 use msg_scenario_data::Scenario;
 use msg_scenario_data::names::add_type;
 use msg_world::{NoMemory, TypeNo};
@@ -39,13 +40,14 @@ pub(super) fn add_written_alone(text: &mut Vec<u8>, planned: &Planned) -> Result
 
 fn is_read(planned: &Planned, t: TypeNo) -> bool {
     let mut turns = planned.turns().iter();
-    turns.any(|system| planned.uses(Use::Read, t, *system))
+    turns.any(|system| uses(planned.scenario(), Use::Read, t, *system))
 }
 
 /// Whether a system writes the type, or the host posts to it.
 fn is_written(planned: &Planned, t: TypeNo) -> bool {
+    let scenario = planned.scenario();
     let mut turns = planned.turns().iter();
-    turns.any(|system| planned.uses(Use::Write, t, *system)) || is_posted(planned.scenario(), t)
+    turns.any(|system| uses(scenario, Use::Write, t, *system)) || is_posted(scenario, t)
 }
 
 fn is_posted(scenario: &Scenario, t: TypeNo) -> bool {

@@ -1,41 +1,74 @@
 // Systems that read a type a frame late.
+ghost use Rattle.std.specs.Prelude.{◌<◌};
+ghost use Rattle.msg_scenario_data.specs.Prelude.{IsRunnable};
+
 use crate::numbers::types_of;
-use crate::planned::{Planned, Use};
+use crate::planned::{Planned, plan_frame};
+use crate::uses::late_for;
 use msg_scenario_data::Scenario;
 use msg_scenario_data::names::{add_system_name, add_type};
 use msg_text::numerals::add_count;
 use msg_world::{NoMemory, TypeNo};
+use std::alloc::Global;
 
-pub(super) fn add_late(text: &mut Vec<u8>, planned: &Planned) -> Result<(), NoMemory> {
-    let types = types_of(*text.allocator(), planned.scenario())?;
-    for system in planned.turns() {
-        add_late_of(text, planned, *system, &types)?;
-    }
-    Ok(())
-}
-
-/// Remarks on one system.
-fn add_late_of(
-    text: &mut Vec<u8>,
-    planned: &Planned,
-    system: u32,
-    types: &[TypeNo],
-) -> Result<(), NoMemory> {
-    for t in types {
-        if let Some(writer) = late_for(planned, system, *t) {
-            add_line(text, planned.scenario(), system, *t, writer)?;
+/// Remarks in the order of the first frame that each holds in. Between two frames that systems join
+/// with nothing changes.
+pub(super) fn add_late(text: &mut Vec<u8>, scenario: &Scenario) -> Result<(), NoMemory>
+    requires runnable { IsRunnable scenario.now }
+{
+    let alloc = *text.allocator();
+    let types = types_of(alloc, scenario)?;
+    let mut told = Vec::new(alloc);
+    for frame in 0..scenario.frames.as_slice().len() as u32 {
+        if frame == 0 || is_joined(scenario, frame + 1) {
+            add_late_in(text, alloc, scenario, frame + 1, &types, &mut told)?;
         }
     }
     Ok(())
 }
 
-/// The first system that writes a type and that a reader of it has to run before.
-fn late_for(planned: &Planned, system: u32, t: TypeNo) -> Option<u32> {
-    if !planned.uses(Use::Read, t, system) {
-        return None;
+/// Whether a system joins with the frame.
+fn is_joined(scenario: &Scenario, frame: u32) -> bool {
+    let mut systems = scenario.systems.as_slice().iter();
+    systems.any(|system| system.place.join == frame)
+}
+
+/// Remarks on the systems in one frame that weren't told yet.
+fn add_late_in(
+    text: &mut Vec<u8>,
+    alloc: Global,
+    scenario: &Scenario,
+    frame: u32,
+    types: &[TypeNo],
+    told: &mut Vec<(u32, TypeNo)>,
+) -> Result<(), NoMemory>
+    requires runnable { IsRunnable scenario.now }
+    requires some { 0 < frame }
+{
+    let planned = plan_frame(alloc, scenario, frame)?;
+    let added = add_late_by(text, &planned, types, told);
+    drop(planned);
+    added
+}
+
+fn add_late_by(
+    text: &mut Vec<u8>,
+    planned: &Planned,
+    types: &[TypeNo],
+    told: &mut Vec<(u32, TypeNo)>,
+) -> Result<(), NoMemory> {
+    for system in planned.turns() {
+        for t in types {
+            let is_told = told.contains(&(*system, *t));
+            if let Some(writer) = late_for(planned, *system, *t)
+                && !is_told
+            {
+                add_line(text, planned.scenario(), *system, *t, writer)?;
+                told.push((*system, *t))?;
+            }
+        }
     }
-    let mut turns = planned.turns().iter().copied();
-    turns.find(|writer| planned.uses(Use::Write, t, *writer) && planned.precedes(system, *writer))
+    Ok(())
 }
 
 fn add_line(
