@@ -148,7 +148,7 @@ module _ (t r n : ℕ) where
   abbrev FrameRead : Frame ℤ × Declared → Type 0
   FrameRead x = FrameFits t x.0 × HasNames t r n x.1
 
-  posts_fit : (names : Declared) (d : Data) → HasNames t r n names → IfOk (Spec.frame_of names d) FrameRead
+  pub posts_fit : (names : Declared) (d : Data) → HasNames t r n names → IfOk (Spec.frame_of names d) FrameRead
   posts_fit names d has =
       let IsPost = λ (p : ℕ × ℤ). p.0 < t in
       let all = list_fits Spec.post_at IsPost (λ k. HasNames t r n)

@@ -1,5 +1,12 @@
 // From the bytes of a file, and lines after it, to what a sink takes.
+ghost use Rattle.std.specs.Prelude.{◌≡◌, Err, IfSome, OnOk};
+ghost use Rattle.msg_text.specs.declared.report_fault.ReportFault.{ReportFault as FaultView};
+ghost use Rattle.msg_json.specs.declared.refusal.Refusal.{Refusal as RefusalView};
+ghost use Rattle.msg_reading.specs.Prelude.{HasFault};
 ghost use Rattle.msg_scenario_data.specs.Prelude.{IsRunnable};
+ghost use Rattle.msg_serve.specs.Prelude.{EndsServing, EndsTrace, IsServed, IsTraced};
+ghost use Rattle.msg_serve.specs.declared.serve_fault.ServeFault.{ServeFault as ServeView};
+ghost use Rattle.msg_scenario.specs.FromBytes.{IsOfScenario, IsRefusedFile};
 
 use crate::AnswerFault;
 use crate::scenario_system::systems_of;
@@ -8,37 +15,62 @@ use msg_reading::read_scenario;
 use msg_scenario_data::Scenario;
 use msg_serve::{ServeFault, serve_scenario, trace_scenario};
 use msg_text::{ReportFault, Sink};
-use std::io::{BufReader, Read};
+use std::io::BufRead;
 use std::thread::Threads;
 
 /// Makes the systems of a scenario, and serves the scenario by them.
-fn serve_systems<R: Threads + Sync + AllocGlobal, I: Read, S: Sink>(
+fn serve_systems<R: Threads + Sync + AllocGlobal, B: BufRead, S: Sink>(
     rt: &R,
     scenario: &Scenario,
     workers: Workers,
-    input: &mut BufReader<I>,
+    input: &mut B,
     sink: &mut S,
 ) -> Result<(), ServeFault>
     requires runnable { IsRunnable scenario.now }
+    ensures ok { OnOk result (IfSome (B.remaining input.old) (λ lines.
+        IsServed scenario.now lines (S.contents sink.old) (S.contents sink.new))) }
+    ensures quiet { OnOk result (S.failures sink.new ≡ S.failures sink.old) }
+    ensures ends { (fault : ServeView) → result ≡ Err fault
+        → IfSome (B.remaining input.old) (λ lines.
+        EndsServing S.contents S.failures scenario.now lines fault sink.old sink.new) }
 {
     let systems = systems_of(rt.alloc(), scenario)?;
     serve_scenario(rt, scenario, systems, workers, input, sink)
 }
 
 /// Runs the frames of a scenario file, and then a frame for each line of the input; each line is
-/// answered by a line of JSON.
+/// answered by a line of JSON, before the next is read.
 ///
 /// # Errors
 ///
 /// `Refused` if the bytes are no scenario file, and then the sink is as it was; `Input` if the
-/// input failed; `Report` with the fault of a frame or of an answer.
-pub fn serve_bytes<R: Threads + Sync + AllocGlobal, I: Read, S: Sink>(
+/// input failed; `Report` with the fault of the engine, of a frame or of an answer.
+pub fn serve_bytes<R: Threads + Sync + AllocGlobal, B: BufRead, S: Sink>(
     rt: &R,
     bytes: &[u8],
     workers: Workers,
-    input: &mut BufReader<I>,
+    input: &mut B,
     sink: &mut S,
-) -> Result<(), AnswerFault> {
+) -> Result<(), AnswerFault>
+
+    // Whatever the workers: the answers are those of one thread.
+    ensures ok { OnOk result (IsOfScenario bytes.now (λ scenario.
+        IfSome (B.remaining input.old) (λ lines.
+        IsServed scenario lines (S.contents sink.old) (S.contents sink.new)))) }
+    ensures quiet { OnOk result (S.failures sink.new ≡ S.failures sink.old) }
+    ensures report { (fault : FaultView) → result ≡ Err (AnswerFault.Report fault)
+        → IsOfScenario bytes.now (λ scenario. IfSome (B.remaining input.old) (λ lines.
+        EndsServing S.contents S.failures scenario lines (ServeFault.Report fault)
+        sink.old sink.new)) }
+    ensures input { result ≡ Err AnswerFault.Input
+        → IsOfScenario bytes.now (λ scenario. IfSome (B.remaining input.old) (λ lines.
+        EndsServing S.contents S.failures scenario lines ServeFault.Input sink.old sink.new)) }
+    ensures refused { (why : RefusalView) → result ≡ Err (AnswerFault.Refused why)
+        → IsRefusedFile HasFault bytes.now why }
+    ensures unread { (why : RefusalView) → result ≡ Err (AnswerFault.Refused why)
+        → sink.new ≡ sink.old }
+    ensures no_engine { ¬ (result ≡ Err AnswerFault.NoMemory) }
+{
     let scenario = read_scenario(rt.alloc(), bytes)?;
     let came = serve_systems(rt, &scenario, workers, input, sink);
     drop(scenario);
@@ -53,22 +85,45 @@ fn trace_systems<R: Threads + Sync + AllocGlobal, S: Sink>(
     sink: &mut S,
 ) -> Result<(), ReportFault>
     requires runnable { IsRunnable scenario.now }
+    ensures ok { OnOk result
+        (IsTraced scenario.now (S.contents sink.old) (S.contents sink.new)) }
+    ensures quiet { OnOk result (S.failures sink.new ≡ S.failures sink.old) }
+    ensures ends { (fault : FaultView) → result ≡ Err fault
+        → EndsTrace S.contents S.failures scenario.now fault sink.old sink.new }
 {
     let systems = systems_of(rt.alloc(), scenario)?;
     trace_scenario(rt, scenario, systems, workers, sink)
 }
 
-/// Runs the scenario of a scenario file, and tells each frame by a line of JSON.
+/// Runs the scenario of a scenario file, and tells each frame by a line of JSON, and the readers.
 ///
 /// # Errors
 ///
-/// As those of `serve_bytes`.
+/// `Refused` if the bytes are no scenario file, and then the sink is as it was; `Report` with the
+/// fault of the engine, of a frame or of a line.
 pub fn trace_bytes<R: Threads + Sync + AllocGlobal, S: Sink>(
     rt: &R,
     bytes: &[u8],
     workers: Workers,
     sink: &mut S,
-) -> Result<(), AnswerFault> {
+) -> Result<(), AnswerFault>
+
+    // Whatever the workers: the lines are those of one thread.
+    ensures ok { OnOk result (IsOfScenario bytes.now (λ scenario.
+        IsTraced scenario (S.contents sink.old) (S.contents sink.new))) }
+    ensures quiet { OnOk result (S.failures sink.new ≡ S.failures sink.old) }
+    ensures report { (fault : FaultView) → result ≡ Err (AnswerFault.Report fault)
+        → IsOfScenario bytes.now (λ scenario.
+        EndsTrace S.contents S.failures scenario fault sink.old sink.new) }
+    ensures refused { (why : RefusalView) → result ≡ Err (AnswerFault.Refused why)
+        → IsRefusedFile HasFault bytes.now why }
+    ensures unread { (why : RefusalView) → result ≡ Err (AnswerFault.Refused why)
+        → sink.new ≡ sink.old }
+
+    // There is one fault for want of memory, and no input.
+    ensures no_engine { ¬ (result ≡ Err AnswerFault.NoMemory) }
+    ensures no_input { ¬ (result ≡ Err AnswerFault.Input) }
+{
     let scenario = read_scenario(rt.alloc(), bytes)?;
     let came = trace_systems(rt, &scenario, workers, sink);
     drop(scenario);

@@ -2,3 +2,9 @@
 pub mod Requests
 -- where a name stands
 mod Names
+-- the lines of an input
+mod InputLines
+-- requests that are answered one after another
+pub mod AnswersInTurn
+-- frames after those of the file
+mod FramesOfTheFile

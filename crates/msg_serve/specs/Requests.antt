@@ -37,9 +37,9 @@ request_of s d = if is_for_readers d then Ok readers else frame_in s d >>= λ f.
 abbrev pub IsRefusedBy : Scenario → Text → Text → Type 0
 IsRefusedBy s line text =
     ((MAX_LINE < length line) × (text ≡ too_long_line MAX_LINE))
-    ⊎ (IsNotJson line × ((column : ℕ) × (text ≡ not_json_line column)))
-    ⊎ ((d : Data) × (e : Fault) × IsJsonOf line d × (request_of s d ≡ Err e)
-    × (text ≡ refused_line s e d))
+    ⊎ ((length line ≤ MAX_LINE) × IsNotJson line × ((column : ℕ) × (text ≡ not_json_line column)))
+    ⊎ ((length line ≤ MAX_LINE) × ((d : Data) × (e : Fault) × IsJsonOf line d
+    × (request_of s d ≡ Err e) × (text ≡ refused_line s e d)))
 
 -- a line asks for this
 abbrev pub AsksFor : Scenario → Text → Request → Type 0

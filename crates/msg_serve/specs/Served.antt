@@ -1,5 +1,6 @@
--- What the lines of an input are answered.
-use Rattle.std.specs.Prelude.{◌≡◌, ⊤, ℕ, ◌-◌, ◌^◌, min, List, [], ◌∷◌, ◌++◌, Option, ℤ}
+-- What the lines of an input are answered, and what a run tells of the frames of its file.
+use Rattle.std.specs.Prelude.{◌≡◌, ◌≢◌, ℕ, ◌-◌, ◌^◌, min, List, [], ◌∷◌, ◌++◌, Option, map, ℤ}
+use Rattle.std.specs.List.{AllZip}
 use Rattle.std.specs.Io.KnownBytes.{Appends}
 use Rattle.msg_frames.specs.Prelude.{IsCompleteRun, State, accounts_of, frame as frame_of, run as run_of}
 use Rattle.msg_frames.specs.declared.frame.Frame.{Frame}
@@ -7,8 +8,14 @@ use Rattle.msg_log_json.specs.Prelude.{frame_line, readers_line}
 use Rattle.msg_scenario_data.specs.Prelude.{state_of}
 use Rattle.msg_scenario_data.specs.declared.scenario.Scenario.{Scenario}
 use Rattle.msg_serve.specs.{Lines.lines_of, Requests.AsksFor, Requests.Request, Requests.readers, Requests.refused, Requests.run}
-use Rattle.msg_text.specs.Prelude.{Text}
+use Rattle.msg_serve.specs.declared.serve_fault.ServeFault.{ServeFault}
+use Rattle.msg_serve.specs.declared.serve_fault.ServeFault.TheVariants as serve_fault
+use Rattle.msg_text.specs.Prelude.{Text, one_failure_more}
+use Rattle.msg_text.specs.declared.report_fault.ReportFault.{ReportFault}
+use Rattle.msg_text.specs.declared.report_fault.ReportFault.TheVariants as report_fault
 use Rattle.msg_world.specs.Prelude.{i64_values}
+
+-- ---- requests and answers
 
 -- the number of the last frame that was run, as the engine counts it: it stays at the greatest
 -- number
@@ -50,17 +57,81 @@ abbrev pub OnlyFramesChange : Type 0
 OnlyFramesChange = (requests : List Request) (now : State i64_values)
     → after_requests requests now ≡ (run_of (frames_among requests) now).state
 
--- line by line, these are asked for
-abbrev pub AllAsk : Scenario → List Text → List Request → Type 0
-AllAsk s [] [] = ⊤
-AllAsk s (line ∷ lines) (request ∷ requests) = AsksFor s line request × AllAsk s lines requests
-AllAsk s _ _ = ⊥
+-- ---- the frames of the file
+
+-- what a run of the file answers: each of its frames, and then the readers
+abbrev pub own_requests : Scenario → List Request
+own_requests s = map run s.frames ++ readers ∷ []
+
+-- the state after the frames of the file
+abbrev pub after_own : Scenario → State i64_values
+after_own s = (run_of s.frames (state_of s)).state
+
+-- All frames of the file were run, with all that a run comes to, and the sink took the line of
+-- each, and then that of the readers.
+pub record IsTraced (s : Scenario) (before after : Option (List ℕ)) : Type 0 where
+  pub complete : IsCompleteRun s.frames (state_of s)
+  pub answered : Appends before after (answers_of s (own_requests s) (state_of s))
+
+-- ---- the lines of an input
 
 -- The input was answered to its end: each line by one line, in the run of the file's frames and of
 -- those among the lines, with all that a run comes to; and then the readers were told.
 pub record IsServed (s : Scenario) (input : List ℕ) (before after : Option (List ℕ)) : Type 0 where
   pub requests : List Request
-  pub asked : AllAsk s (lines_of input) requests
+  pub asked : AllZip (AsksFor s) (lines_of input) requests
   pub complete : IsCompleteRun (s.frames ++ frames_among requests) (state_of s)
-  pub answered : Appends before after (answers_of s requests (run_of s.frames (state_of s)).state
-      ++ answer_of s readers (run_of (s.frames ++ frames_among requests) (state_of s)).state)
+  pub answered : Appends before after (answers_of s (requests ++ readers ∷ []) (after_own s))
+
+-- ---- faults
+
+-- after the lines that were answered this is asked for next: by the next line, or at the end
+abbrev pub AsksNext : Scenario → List Text → Request → Type 0
+AsksNext s [] next = next ≡ readers
+AsksNext s (line ∷ _) next = AsksFor s line next
+
+module _ {S : Type 0} (contents : S → Option (List ℕ)) (failures : S → ℕ) (s : Scenario) where
+  -- From a state on these requests were answered, and then there was this fault: the sink took
+  -- their answers, and if a put failed, also a front of that of a request that came next.
+  pub record StopsAfter (requests : List Request) (first : State i64_values)
+      (IsNext : Request → Type 0) (fault : ServeFault) (old new : S) : Type 0 where
+    pub exact : fault ≢ serve_fault.Report report_fault.Write
+        → Appends (contents old) (contents new) (answers_of s requests first)
+    pub quiet : fault ≢ serve_fault.Report report_fault.Write → failures new ≡ failures old
+    pub part : fault ≡ serve_fault.Report report_fault.Write
+        → (next : Request) × IsNext next × (front : Text) × (rest : Text)
+        × (answer_of s next (after_requests requests first) ≡ front ++ rest)
+        × Appends (contents old) (contents new) (answers_of s requests first ++ front)
+    pub failed : fault ≡ serve_fault.Report report_fault.Write
+        → failures new ≡ one_failure_more (failures old)
+
+  -- The run of the file ended in a fault: the first of its requests were answered.
+  pub record EndsTrace (fault : ReportFault) (old new : S) : Type 0 where
+    pub told : List Request
+    pub later : List Request
+    pub are : own_requests s ≡ told ++ later
+    pub stops : StopsAfter told (state_of s)
+        (λ next. (rest : List Request) × (later ≡ next ∷ rest)) (serve_fault.Report fault) old new
+
+  -- The serving of an input ended in a fault: its first lines were answered.
+  pub record EndsServing (input : List ℕ) (fault : ServeFault) (old new : S) : Type 0 where
+    pub lines : List Text
+    pub later : List Text
+    pub are : lines_of input ≡ lines ++ later
+    pub requests : List Request
+    pub asked : AllZip (AsksFor s) lines requests
+    pub stops : StopsAfter requests (after_own s) (AsksNext s later) fault old new
+
+-- ---- a law
+
+-- the scenario with more frames after its own
+abbrev pub with_frames : Scenario → List (Frame ℤ) → Scenario
+with_frames s more = record s { frames = s.frames ++ more }
+
+-- What lines that are frames are answered is what a run of the file tells if it has these frames
+-- after its own, but for the lines of its own frames.
+abbrev pub ServesAsRunsTell : Type 0
+ServesAsRunsTell = (s : Scenario) (more : List (Frame ℤ))
+    → answers_of (with_frames s more) (own_requests (with_frames s more)) (state_of s)
+    ≡ answers_of s (map run s.frames) (state_of s)
+    ++ answers_of s (map run more ++ readers ∷ []) (after_own s)

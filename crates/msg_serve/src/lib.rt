@@ -9,9 +9,11 @@ mod request;
 mod serve_fault;
 mod server;
 mod serving;
+mod tracing;
 
 pub use input::{Line, read_line};
 pub use limits::MAX_LINE;
 pub use request::{Request, read_request};
 pub use serve_fault::ServeFault;
-pub use serving::{serve_scenario, trace_scenario};
+pub use serving::serve_scenario;
+pub use tracing::trace_scenario;

@@ -1,17 +1,23 @@
 // A scenario that is being served.
-ghost use Rattle.std.specs.Prelude.{◌≡◌, ◌≤◌, IsTrue, OnOk, length};
+ghost use Rattle.std.specs.Prelude.{◌≡◌, ◌≢◌, ◌≤◌, Err, IfErr, IsTrue, OnOk, length};
+ghost use Rattle.serde_json.specs.View.{view};
 ghost use Rattle.msg_world.specs.Prelude.{i64_values};
 ghost use Rattle.msg_exec.specs.Prelude.{EngineStands, IsEngine, PostsFit};
 ghost use Rattle.msg_frames.specs.Prelude.{State};
-ghost use Rattle.msg_log_json.specs.Prelude.{frame_line};
-ghost use Rattle.msg_serve.specs.{Served.number_of, Requests.readers, Requests.run, inner.Answering.IsAnswer};
+ghost use Rattle.msg_log_json.specs.Prelude.{frame_line, not_json_line, refused_line, too_long_line};
+ghost use Rattle.msg_serve.specs.{Served.after_request, Served.number_of, Requests.readers, Requests.run, inner.Answering.Answers, inner.Answering.IsPut};
 
+use crate::limits::MAX_LINE;
 use msg_exec::{EngineOf, Frame, Log, NoGate, Workers};
-use msg_log_json::{add_frame_line, add_readers_line};
+use msg_json::{Fault, Reason};
+use msg_log_json::{
+    add_frame_line, add_not_json_line, add_readers_line, add_refused_line, add_too_long_line,
+};
 use msg_scenario_data::Scenario;
 use msg_system::SystemOf;
 use msg_text::{ReportFault, Sink, put_text};
 use msg_world::{MAX_RESOURCES, MAX_TYPES, RunFault, World};
+use serde_json::Value;
 use std::thread::Threads;
 
 /// A scenario that is being served: its engine, and room in which each answer is made.
@@ -31,10 +37,9 @@ pub fn run_frame<R: Threads + Sync, X: SystemOf<Value = i64> + Send>(
 ) -> Result<(), ReportFault>
     requires engine { IsEngine i64_values X.meaning server.old.engine }
     requires posts { PostsFit server.old.engine frame.now }
-    ensures engine { IsEngine i64_values X.meaning server.new.engine }
-    ensures answers { OnOk result
-        ((now : State i64_values) → EngineStands X.meaning server.old.engine now
-        → IsAnswer X.meaning server.old.scenario.now (run frame.now) now server.new) }
+    ensures same { server.new.scenario ≡ server.old.scenario }
+    ensures answers { OnOk result (Answers X.meaning (run frame.now) server.old server.new) }
+    ensures unput { ¬ (result ≡ Err ReportFault.Write) }
 {
     let log = match server.engine.run_frame(rt, frame, workers, &NoGate) {
         Ok(log) => log,
@@ -52,7 +57,9 @@ fn tell_frame<X: SystemOf<Value = i64>>(
     log: &Log,
 ) -> Result<(), ReportFault>
     requires engine { IsEngine i64_values X.meaning server.old.engine }
-    ensures same { server.new.engine ≡ server.old.engine }
+    ensures same { server.new.scenario ≡ server.old.scenario }
+    ensures engine { server.new.engine ≡ server.old.engine }
+    ensures unput { ¬ (result ≡ Err ReportFault.Write) }
     ensures line { OnOk result
         ((now : State i64_values) → EngineStands X.meaning server.old.engine now
         → server.new.text.items ≡ frame_line server.old.scenario.now (number_of now) frame.now
@@ -97,7 +104,11 @@ pub fn pass_frame<R: Threads + Sync, X: SystemOf<Value = i64> + Send>(
 ) -> Result<(), ReportFault>
     requires engine { IsEngine i64_values X.meaning server.old.engine }
     requires posts { PostsFit server.old.engine frame.now }
-    ensures engine { IsEngine i64_values X.meaning server.new.engine }
+    ensures same { server.new.scenario ≡ server.old.scenario }
+    ensures stands { OnOk result
+        ((now : State i64_values) → EngineStands X.meaning server.old.engine now
+        → EngineStands X.meaning server.new.engine (after_request (run frame.now) now)) }
+    ensures unput { ¬ (result ≡ Err ReportFault.Write) }
 {
     match server.engine.run_frame(rt, frame, workers, &NoGate) {
         Ok(log) => {
@@ -111,10 +122,9 @@ pub fn pass_frame<R: Threads + Sync, X: SystemOf<Value = i64> + Send>(
 /// Makes the line of the readers.
 pub fn tell_readers<X: SystemOf<Value = i64>>(server: &mut Server<X>) -> Result<(), ReportFault>
     requires engine { IsEngine i64_values X.meaning server.old.engine }
-    ensures same { server.new.engine ≡ server.old.engine }
-    ensures answers { OnOk result
-        ((now : State i64_values) → EngineStands X.meaning server.old.engine now
-        → IsAnswer X.meaning server.old.scenario.now readers now server.new) }
+    ensures same { server.new.scenario ≡ server.old.scenario }
+    ensures answers { OnOk result (Answers X.meaning readers server.old server.new) }
+    ensures unput { ¬ (result ≡ Err ReportFault.Write) }
 {
     server.text.clear();
     let accounts = match server.engine.accounts() {
@@ -135,7 +145,52 @@ pub fn tell_readers<X: SystemOf<Value = i64>>(server: &mut Server<X>) -> Result<
     )?)
 }
 
+/// Makes the line of a text of too many bytes.
+pub fn tell_too_long<X>(server: &mut Server<X>) -> Result<(), ReportFault>
+    ensures same { server.new.scenario ≡ server.old.scenario }
+    ensures engine { server.new.engine ≡ server.old.engine }
+    ensures line { OnOk result (server.new.text.items ≡ too_long_line MAX_LINE) }
+    ensures unput { ¬ (result ≡ Err ReportFault.Write) }
+{
+    server.text.clear();
+    Ok(add_too_long_line(&mut server.text, MAX_LINE)?)
+}
+
+/// Makes the line of a text that is no JSON, and can be read up to this column.
+pub fn tell_not_json<X>(server: &mut Server<X>, column: usize) -> Result<(), ReportFault>
+    ensures same { server.new.scenario ≡ server.old.scenario }
+    ensures engine { server.new.engine ≡ server.old.engine }
+    ensures line { OnOk result (server.new.text.items ≡ not_json_line column) }
+    ensures unput { ¬ (result ≡ Err ReportFault.Write) }
+{
+    server.text.clear();
+    Ok(add_not_json_line(&mut server.text, column)?)
+}
+
+/// Makes the line of a value that is refused for a fault; that there is no memory is no refusal.
+pub fn tell_refused<X>(
+    server: &mut Server<X>,
+    fault: &Fault,
+    value: &Value,
+) -> Result<(), ReportFault>
+    ensures same { server.new.scenario ≡ server.old.scenario }
+    ensures engine { server.new.engine ≡ server.old.engine }
+    ensures line { OnOk result (server.new.text.items
+        ≡ refused_line server.old.scenario.now fault.now (view value.now)) }
+    ensures refused { OnOk result (fault.now.reason ≢ Reason.NoMemory) }
+    ensures unput { ¬ (result ≡ Err ReportFault.Write) }
+{
+    if matches!(fault.reason, Reason::NoMemory) {
+        return Err(ReportFault::NoMemory);
+    }
+    server.text.clear();
+    Ok(add_refused_line(&mut server.text, server.scenario, fault, value)?)
+}
+
 /// Puts the answer that was made.
-pub fn put_answer<X, S: Sink>(server: &Server<X>, sink: &mut S) -> Result<(), ReportFault> {
+pub fn put_answer<X, S: Sink>(server: &Server<X>, sink: &mut S) -> Result<(), ReportFault>
+    ensures put { IsPut S.contents S.failures server.now.text.items result sink.old sink.new }
+    ensures only_write { IfErr result (λ fault. fault ≡ ReportFault.Write) }
+{
     put_text(server.text.as_slice(), sink)
 }

@@ -1,49 +1,66 @@
 // Lines, each answered by a line.
-ghost use Rattle.std.specs.Prelude.{◌≡◌, OnOk, length};
+ghost use Rattle.std.specs.Prelude.{◌≡◌, ◌≢◌, ◌≤◌, All, [], ℕ, Err, IfSome, List, Ok, OnOk, false, length, true};
+ghost use Rattle.std.specs.List.{AllZip};
+ghost use Rattle.std.specs.Io.BufRead.{DropsThrough};
+ghost use Rattle.serde_json.specs.View.{view};
 ghost use Rattle.msg_world.specs.Prelude.{i64_values};
 ghost use Rattle.msg_exec.specs.Prelude.{EachIs, EngineStands, IsEngine};
-ghost use Rattle.msg_frames.specs.Prelude.{State};
-ghost use Rattle.msg_serve.specs.{Requests.run, inner.Answering.IsAnswer};
+ghost use Rattle.msg_serve.specs.declared.serve_fault.ServeFault.{ServeFault as FaultView};
 ghost use Rattle.msg_reports.specs.Prelude.{IsSystemAt};
-ghost use Rattle.msg_scenario_data.specs.Prelude.{IsRunnable};
+ghost use Rattle.msg_scenario_data.specs.Prelude.{IsRunnable, PostsAreToTypes, state_of};
+ghost use Rattle.msg_serve.specs.{Lines.lines_of, Requests.AsksFor, Requests.Request as RequestView, Served.EndsServing, Served.IsServed, Served.after_own};
+ghost use Rattle.msg_serve.specs.{inner.Answering.AnsweredSoFar, inner.Answering.Answers, inner.Answering.Serves, inner.Answering.ValueAsksFor, inner.Input.IsRead, inner.Input.first_line};
 
 use crate::ServeFault;
 use crate::input::{Line, read_line};
 use crate::limits::MAX_LINE;
 use crate::request::{Request, read_request};
-use crate::server::{Server, pass_frame, put_answer, run_frame, tell_readers};
-use msg_exec::{Frame, Workers};
+use crate::server::{
+    Server, pass_frame, put_answer, run_frame, tell_not_json, tell_readers, tell_refused,
+    tell_too_long,
+};
+use msg_exec::Workers;
+use msg_json::FileFault;
 use msg_json::json::parse;
-use msg_json::{FileFault, Reason};
-use msg_log_json::{add_not_json_line, add_refused_line, add_too_long_line};
 use msg_reports::engine_of;
 use msg_scenario_data::Scenario;
 use msg_system::SystemOf;
 use msg_text::{ReportFault, Sink};
-use msg_world::RunFault;
 use serde_json::Value;
-use std::io::{BufReader, Read};
+use std::io::BufRead;
 use std::thread::Threads;
 
 /// Makes the engine of a scenario of its systems, runs its frames, and then each line of the input
 /// that is a frame; each line is answered by one line, which is put before the next is read. At the
 /// end of the input the line of the readers is put.
+///
+/// # Errors
+///
+/// `Input` if the input failed, `Report` with the fault of the engine, of a frame or of an answer.
 pub fn serve_scenario<
     R: Threads + Sync + AllocGlobal,
     X: SystemOf<Value = i64> + Send,
-    I: Read,
+    B: BufRead,
     S: Sink,
 >(
     rt: &R,
     scenario: &Scenario,
     systems: Vec<X>,
     workers: Workers,
-    input: &mut BufReader<I>,
+    input: &mut B,
     sink: &mut S,
 ) -> Result<(), ServeFault>
     requires runnable { IsRunnable scenario.now }
     requires as_many { length systems.items ≡ length scenario.now.systems }
     requires each { EachIs (IsSystemAt X.meaning scenario.now.systems) systems.items }
+
+    // Whatever the workers: the answers are those of one thread.
+    ensures ok { OnOk result (IfSome (B.remaining input.old) (λ bytes.
+        IsServed scenario.now bytes (S.contents sink.old) (S.contents sink.new))) }
+    ensures quiet { OnOk result (S.failures sink.new ≡ S.failures sink.old) }
+    ensures ends { (fault : FaultView) → result ≡ Err fault
+        → IfSome (B.remaining input.old) (λ bytes.
+        EndsServing S.contents S.failures scenario.now bytes fault sink.old sink.new) }
 {
     let mut server = Server {
         scenario,
@@ -56,14 +73,23 @@ pub fn serve_scenario<
 }
 
 /// Runs the frames of the scenario, answers the lines of the input, and tells the readers.
-fn serve<R: Threads + Sync + AllocGlobal, X: SystemOf<Value = i64> + Send, I: Read, S: Sink>(
+fn serve<R: Threads + Sync + AllocGlobal, X: SystemOf<Value = i64> + Send, B: BufRead, S: Sink>(
     rt: &R,
     server: &mut Server<X>,
     workers: Workers,
-    input: &mut BufReader<I>,
+    input: &mut B,
     sink: &mut S,
 ) -> Result<(), ServeFault>
-    requires engine { IsEngine i64_values X.meaning server.old.engine }
+    requires engine { EngineStands X.meaning server.old.engine
+        (state_of server.old.scenario.now) }
+    requires posts { All (PostsAreToTypes server.old.scenario.now)
+        server.old.scenario.now.frames }
+    ensures ok { OnOk result (IfSome (B.remaining input.old) (λ bytes.
+        IsServed server.old.scenario.now bytes (S.contents sink.old) (S.contents sink.new))) }
+    ensures quiet { OnOk result (S.failures sink.new ≡ S.failures sink.old) }
+    ensures ends { (fault : FaultView) → result ≡ Err fault
+        → IfSome (B.remaining input.old) (λ bytes.
+        EndsServing S.contents S.failures server.old.scenario.now bytes fault sink.old sink.new) }
 {
     pass_frames(rt, server, workers)?;
     answer_lines(rt, server, workers, input, sink)?;
@@ -77,81 +103,82 @@ fn pass_frames<R: Threads + Sync, X: SystemOf<Value = i64> + Send>(
     server: &mut Server<X>,
     workers: Workers,
 ) -> Result<(), ReportFault>
-    requires engine { IsEngine i64_values X.meaning server.old.engine }
-    ensures engine { IsEngine i64_values X.meaning server.new.engine }
+    requires engine { EngineStands X.meaning server.old.engine
+        (state_of server.old.scenario.now) }
+    requires posts { All (PostsAreToTypes server.old.scenario.now)
+        server.old.scenario.now.frames }
+    ensures same { server.new.scenario ≡ server.old.scenario }
+    ensures stands { OnOk result (EngineStands X.meaning server.new.engine
+        (after_own server.old.scenario.now)) }
+    ensures unput { ¬ (result ≡ Err ReportFault.Write) }
 {
     let scenario = server.scenario;
     for frame in scenario.frames.as_slice() {
-        if !server.engine.fits(frame) {
-            return Err(ReportFault::Run(RunFault::Spoiled));
-        }
         pass_frame(rt, server, frame, workers)?;
     }
     Ok(())
 }
 
 /// Answers each line of the input before it reads the next.
-fn answer_lines<R: Threads + Sync + AllocGlobal, X: SystemOf<Value = i64> + Send, I: Read, S: Sink>(
+fn answer_lines<
+    R: Threads + Sync + AllocGlobal,
+    X: SystemOf<Value = i64> + Send,
+    B: BufRead,
+    S: Sink,
+>(
     rt: &R,
     server: &mut Server<X>,
     workers: Workers,
-    input: &mut BufReader<I>,
+    input: &mut B,
     sink: &mut S,
 ) -> Result<(), ServeFault>
-    requires engine { IsEngine i64_values X.meaning server.old.engine }
-    ensures engine { OnOk result (IsEngine i64_values X.meaning server.new.engine) }
+    requires engine { EngineStands X.meaning server.old.engine
+        (after_own server.old.scenario.now) }
+    ensures same { server.new.scenario ≡ server.old.scenario }
+    ensures ok { OnOk result ((requests : List RequestView)
+        × AnsweredSoFar S.contents S.failures X.meaning server.old.scenario.now
+        (after_own server.old.scenario.now) requests sink.old sink.new server.new.engine
+        × IfSome (B.remaining input.old) (λ bytes.
+        AllZip (AsksFor server.old.scenario.now) (lines_of bytes) requests)) }
+    ensures ends { (fault : FaultView) → result ≡ Err fault
+        → IfSome (B.remaining input.old) (λ bytes.
+        EndsServing S.contents S.failures server.old.scenario.now bytes fault sink.old sink.new) }
 {
     let mut line = Vec::new(rt.alloc());
     for _ in 0..u64::MAX {
-        let read = read_line(input, &mut line)?;
-        if read == Line::End {
+        if !answer_next(rt, server, workers, input, &mut line)? {
             return Ok(());
         }
-        answer_read(rt, server, read, line.as_slice(), workers)?;
         put_answer(server, sink)?;
     }
-    Ok(())
+    Err(ServeFault::Input)
 }
 
-/// Makes the engine of a scenario of its systems, and runs its frames: the line of each is put
-/// before the next is run. Then the line of the readers is put.
-pub fn trace_scenario<R: Threads + Sync + AllocGlobal, X: SystemOf<Value = i64> + Send, S: Sink>(
-    rt: &R,
-    scenario: &Scenario,
-    systems: Vec<X>,
-    workers: Workers,
-    sink: &mut S,
-) -> Result<(), ReportFault>
-    requires runnable { IsRunnable scenario.now }
-    requires as_many { length systems.items ≡ length scenario.now.systems }
-    requires each { EachIs (IsSystemAt X.meaning scenario.now.systems) systems.items }
-{
-    let mut server = Server {
-        scenario,
-        engine: engine_of(rt.alloc(), scenario, systems)?,
-        text: Vec::new(rt.alloc()),
-    };
-    let traced = trace(rt, &mut server, workers, sink);
-    drop(server);
-    traced
-}
-
-/// Runs the frames of the scenario, and tells each, and the readers.
-fn trace<R: Threads + Sync, X: SystemOf<Value = i64> + Send, S: Sink>(
+/// Makes the answer of the next line, which is read into `line`; false if there is none.
+fn answer_next<R: Threads + Sync + AllocGlobal, X: SystemOf<Value = i64> + Send, B: BufRead>(
     rt: &R,
     server: &mut Server<X>,
     workers: Workers,
-    sink: &mut S,
-) -> Result<(), ReportFault>
-    requires engine { IsEngine i64_values X.meaning server.old.engine }
+    input: &mut B,
+    line: &mut Vec<u8>,
+) -> Result<bool, ServeFault>
+    requires serves { Serves X.meaning server.old }
+    ensures same { server.new.scenario ≡ server.old.scenario }
+    ensures end { result ≡ Ok false → (server.new.engine ≡ server.old.engine)
+        × IfSome (B.remaining input.old) (λ bytes. bytes ≡ []) }
+    ensures next { result ≡ Ok true → (request : RequestView)
+        × IfSome (B.remaining input.old) (λ bytes.
+        (bytes ≢ []) × AsksFor server.old.scenario.now (first_line bytes) request)
+        × Answers X.meaning request server.old server.new }
+    ensures rest { OnOk result (DropsThrough (B.remaining input.old) (B.remaining input.new) 10) }
+    ensures unput { ¬ (result ≡ Err (ServeFault.Report ReportFault.Write)) }
 {
-    let scenario = server.scenario;
-    for frame in scenario.frames.as_slice() {
-        answer_frame(rt, server, frame, workers)?;
-        put_answer(server, sink)?;
+    let read = read_line(input, line)?;
+    if read == Line::End {
+        return Ok(false);
     }
-    tell_readers(server)?;
-    put_answer(server, sink)
+    answer_read(rt, server, read, line.as_slice(), workers)?;
+    Ok(true)
 }
 
 /// Makes the answer of a line that was read, or was too long for that.
@@ -162,20 +189,21 @@ fn answer_read<R: Threads + Sync + AllocGlobal, X: SystemOf<Value = i64> + Send>
     line: &[u8],
     workers: Workers,
 ) -> Result<(), ReportFault>
-    requires engine { IsEngine i64_values X.meaning server.old.engine }
-    ensures engine { OnOk result (IsEngine i64_values X.meaning server.new.engine) }
+    requires serves { Serves X.meaning server.old }
+    requires some { read ≢ Line.End }
+    requires short { length line.now ≤ MAX_LINE }
+    ensures same { server.new.scenario ≡ server.old.scenario }
+    ensures answers { OnOk result ((request : RequestView)
+        × ((bytes : List ℕ) → IsRead read bytes line.now
+        → AsksFor server.old.scenario.now (first_line bytes) request)
+        × Answers X.meaning request server.old server.new) }
+    ensures unput { ¬ (result ≡ Err ReportFault.Write) }
 {
     match read {
+        Line::Whole => answer_line(rt, server, line, workers),
         Line::TooLong => tell_too_long(server),
-        _ => answer_line(rt, server, line, workers),
+        Line::End => unreachable!(),
     }
-}
-
-fn tell_too_long<X>(server: &mut Server<X>) -> Result<(), ReportFault>
-    ensures engine { server.new.engine ≡ server.old.engine }
-{
-    server.text.clear();
-    Ok(add_too_long_line(&mut server.text, MAX_LINE)?)
 }
 
 /// Makes the answer of a line.
@@ -185,15 +213,17 @@ fn answer_line<R: Threads + Sync + AllocGlobal, X: SystemOf<Value = i64> + Send>
     line: &[u8],
     workers: Workers,
 ) -> Result<(), ReportFault>
-    requires engine { IsEngine i64_values X.meaning server.old.engine }
-    ensures engine { IsEngine i64_values X.meaning server.new.engine }
+    requires serves { Serves X.meaning server.old }
+    requires short { length line.now ≤ MAX_LINE }
+    ensures same { server.new.scenario ≡ server.old.scenario }
+    ensures answers { OnOk result ((request : RequestView)
+        × AsksFor server.old.scenario.now line.now request
+        × Answers X.meaning request server.old server.new) }
+    ensures unput { ¬ (result ≡ Err ReportFault.Write) }
 {
     match parse(rt.alloc(), line) {
         Ok(value) => answer_value(rt, server, &value, workers),
-        Err(FileFault::NotJson { column, .. }) => {
-            server.text.clear();
-            Ok(add_not_json_line(&mut server.text, column)?)
-        }
+        Err(FileFault::NotJson { column, .. }) => tell_not_json(server, column),
         Err(FileFault::At(_)) => Err(ReportFault::NoMemory),
     }
 }
@@ -205,35 +235,16 @@ fn answer_value<R: Threads + Sync + AllocGlobal, X: SystemOf<Value = i64> + Send
     value: &Value,
     workers: Workers,
 ) -> Result<(), ReportFault>
-    requires engine { IsEngine i64_values X.meaning server.old.engine }
-    ensures engine { IsEngine i64_values X.meaning server.new.engine }
+    requires serves { Serves X.meaning server.old }
+    ensures same { server.new.scenario ≡ server.old.scenario }
+    ensures answers { OnOk result ((request : RequestView)
+        × ValueAsksFor server.old.scenario.now (view value.now) request
+        × Answers X.meaning request server.old server.new) }
+    ensures unput { ¬ (result ≡ Err ReportFault.Write) }
 {
     match read_request(rt.alloc(), server.scenario, value) {
-        Ok(Request::Frame(frame)) => answer_frame(rt, server, &frame, workers),
+        Ok(Request::Frame(frame)) => run_frame(rt, server, &frame, workers),
         Ok(Request::Readers) => tell_readers(server),
-        Err(fault) if matches!(fault.reason, Reason::NoMemory) => Err(ReportFault::NoMemory),
-        Err(fault) => {
-            server.text.clear();
-            Ok(add_refused_line(&mut server.text, server.scenario, &fault, value)?)
-        }
+        Err(fault) => tell_refused(server, &fault, value),
     }
-}
-
-/// Runs the next frame, whose posts fit as a scenario's and a line's do, and makes its line.
-fn answer_frame<R: Threads + Sync, X: SystemOf<Value = i64> + Send>(
-    rt: &R,
-    server: &mut Server<X>,
-    frame: &Frame,
-    workers: Workers,
-) -> Result<(), ReportFault>
-    requires engine { IsEngine i64_values X.meaning server.old.engine }
-    ensures engine { IsEngine i64_values X.meaning server.new.engine }
-    ensures answers { OnOk result
-        ((now : State i64_values) → EngineStands X.meaning server.old.engine now
-        → IsAnswer X.meaning server.old.scenario.now (run frame.now) now server.new) }
-{
-    if !server.engine.fits(frame) {
-        return Err(ReportFault::Run(RunFault::Spoiled));
-    }
-    run_frame(rt, server, frame, workers)
 }

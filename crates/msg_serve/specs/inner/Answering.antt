@@ -1,15 +1,24 @@
 -- What an answer is while lines are served: the words of private functions.
-use Rattle.std.specs.Prelude.{◌≡◌, ℤ, Result, Ok, Err}
+use Rattle.std.specs.Prelude.{◌≡◌, ◌≢◌, ℕ, ℤ, List, ◌++◌, Option, Some, Result, Ok, Err, OnErr, OnOk, length}
+use Rattle.std.specs.Io.KnownBytes.{Appends}
+use Rattle.std.specs.List.{AllZip}
+use Rattle.serde_json.specs.Data.{Data}
 use Rattle.msg_exec.specs.Prelude.{EngineStands}
+use Rattle.msg_exec.specs.declared.engine.EngineOf.{EngineOf}
 use Rattle.msg_frames.specs.Prelude.{State}
 use Rattle.msg_json.specs.Prelude.{Reading}
 use Rattle.msg_json.specs.declared.fault.Fault.{Fault}
+use Rattle.msg_log_json.specs.Prelude.{refused_line}
 use Rattle.msg_scenario_data.specs.declared.scenario.Scenario.{Scenario}
 use Rattle.msg_serve.specs.declared.server.Server.{Server}
 use Rattle.msg_serve.specs.declared.request.Request.{Request as Asked}
 use Rattle.msg_serve.specs.declared.request.Request.TheVariants as asked
-use Rattle.msg_serve.specs.{Requests.Request, Requests.readers, Requests.run, Served.after_request, Served.answer_of}
+use Rattle.msg_serve.specs.{Lines.lines_of, Requests.AsksFor, Requests.Request, Requests.readers, Requests.refused, Requests.request_of, Requests.run}
+use Rattle.msg_serve.specs.Served.{after_request, after_requests, answer_of, answers_of}
 use Rattle.msg_system.specs.Prelude.{Meaning}
+use Rattle.msg_text.specs.Prelude.{AppendsPrefix, Text, one_failure_more}
+use Rattle.msg_text.specs.declared.report_fault.ReportFault.{ReportFault}
+use Rattle.msg_text.specs.declared.report_fault.ReportFault.TheVariants as report_fault
 use Rattle.msg_world.specs.Prelude.{i64_values}
 
 -- a request that was read
@@ -18,9 +27,50 @@ request_seen (Ok (asked.Frame f)) = Ok (run f)
 request_seen (Ok asked.Readers) = Ok readers
 request_seen (Err e) = Err e
 
+-- the value of a line asks for this
+abbrev pub ValueAsksFor : Scenario → Data → Request → Type 0
+ValueAsksFor s d (refused text) = (e : Fault) × (request_of s d ≡ Err e) × (text ≡ refused_line s e d)
+ValueAsksFor s d request = request_of s d ≡ Ok request
+
+-- the first lines ask for these, and what is left of the input has the others
+pub record AreAsked (s : Scenario) (input : List ℕ) (after : Option (List ℕ))
+    (requests : List Request) : Type 0 where
+  pub lines : List Text
+  pub rest : List ℕ
+  pub left : after ≡ Some rest
+  pub are : lines_of input ≡ lines ++ lines_of rest
+  pub asked : AllZip (AsksFor s) lines requests
+
 module _ {X : Type 0} (meaning : X → Meaning ℤ) where
+  -- the engine stands for a state with as many types as the scenario has
+  abbrev pub Serves : Server X → Type 0
+  Serves server = (now : State i64_values) × EngineStands meaning server.engine now
+      × (now.types ≡ length server.scenario.now.types)
+
   -- the text is the answer of a request to this state, and the engine stands for the state after it
   pub record IsAnswer (s : Scenario) (request : Request) (now : State i64_values)
       (after : Server X) : Type 0 where
     pub text : after.text.items ≡ answer_of s request now
     pub stands : EngineStands meaning after.engine (after_request request now)
+
+  -- it is that, whatever state the engine stood for
+  abbrev pub Answers : Request → Server X → Server X → Type 0
+  Answers request before after = (now : State i64_values) → EngineStands meaning before.engine now
+      → IsAnswer before.scenario.now request now after
+
+module _ {S : Type 0} (contents : S → Option (List ℕ)) (failures : S → ℕ) where
+  -- what the put of a text left that came to this
+  pub record IsPut (text : Text) (came : Result (Unit {0}) ReportFault) (old new : S) : Type 0 where
+    pub ok : OnOk came (Appends (contents old) (contents new) text)
+    pub quiet : OnOk came (failures new ≡ failures old)
+    pub part : came ≡ Err report_fault.Write → AppendsPrefix (contents old) (contents new) text
+    pub failed : came ≡ Err report_fault.Write → failures new ≡ one_failure_more (failures old)
+    pub none : OnErr came (came ≢ Err report_fault.Write → new ≡ old)
+
+  module _ {X : Type 0} (meaning : X → Meaning ℤ) (s : Scenario) (first : State i64_values) where
+    -- from a state on these requests were answered, and no put failed
+    pub record AnsweredSoFar (requests : List Request) (old now : S) (e : EngineOf X ℤ)
+        : Type 0 where
+      pub took : Appends (contents old) (contents now) (answers_of s requests first)
+      pub quiet : failures now ≡ failures old
+      pub stands : EngineStands meaning e (after_requests requests first)

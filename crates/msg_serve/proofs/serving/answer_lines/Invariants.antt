@@ -1,6 +1,13 @@
-use Rattle.msg_world.specs.Prelude.{i64_values}
-use Rattle.msg_exec.specs.Prelude.{IsEngine}
+use Rattle.std.proofs.Common.{◌≡◌, IfSome, List}
+use Rattle.msg_serve.specs.Prelude.{Request, after_own}
+use Rattle.msg_serve.specs.inner.Answering.{AnsweredSoFar, AreAsked}
 use Rattle.msg_serve.proofs.serving.answer_lines.Given as goal
 
 abbrev pub invariant-loop : goal.invariant-loop
-invariant-loop g l = IsEngine i64_values g.X.SystemOf.meaning l.server.engine
+invariant-loop g l =
+    let s = l.initial.server.scenario.now in
+    (l.server.scenario ≡ l.initial.server.scenario)
+    × ((requests : List Request)
+    × AnsweredSoFar g.S.Sink.contents g.S.Sink.failures g.X.SystemOf.meaning s (after_own s) requests
+    l.initial.sink l.sink l.server.engine
+    × IfSome (g.B.Read.remaining l.initial.input) (λ bytes. AreAsked s bytes (g.B.Read.remaining l.input) requests))
