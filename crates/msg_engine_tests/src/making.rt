@@ -49,7 +49,12 @@ fn op_of(rt: &impl Abort, alloc: Global, act: Act) -> Result<Op, NoMemory> {
 }
 
 /// A script of this act.
-fn script(rt: &impl Abort, alloc: Global, act: Act, start: Start) -> Result<Scripted, NoMemory> {
+pub fn script(
+    rt: &impl Abort,
+    alloc: Global,
+    act: Act,
+    start: Start,
+) -> Result<Scripted, NoMemory> {
     let ops = Items::from_vec(vec![in alloc; op_of(rt, alloc, act)?]?);
     Ok(Scripted::new(Program { ops, start }, 0))
 }

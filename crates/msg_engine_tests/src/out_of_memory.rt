@@ -5,17 +5,22 @@ ghost use Rattle.msg_world.specs.Prelude.{i64_values};
 ghost use Rattle.msg_exec.specs.Prelude.{IsEngine};
 
 use crate::cases::LAG;
+use crate::clerks::Large;
 use crate::equal::expect_eq;
 use crate::expecting::{Case, Told, expect_unlawful};
-use crate::making::{Act, Does, engine_of, replay, run_two_quiet, scripts};
+use crate::making::{Act, Does, engine_of, replay, run_two_quiet, script, scripts};
 use crate::spoiled::expect_spoiled;
 use crate::told::{expect_accounts, expect_log};
 use msg_exec::{
     Account, BuildError, BuildRefusal, EngineBuilder, EngineOf, Log, NoMemory, RunFault,
 };
+use msg_function::Port::Messages;
+use msg_function::ready::Filter;
+use msg_function::{Either, FunctionSystem};
 use msg_order::Rule;
+use msg_part_tests::numbers::type_no;
 use msg_part_tests::outcome::tell;
-use msg_system::{Scripted, SystemOf};
+use msg_system::{Scripted, Start, SystemOf};
 use msg_world::World;
 use std::alloc::Global;
 use std::io::Print;
@@ -73,13 +78,13 @@ fn expect_logs(rt: &impl Abort, logs: &[Log], frames: &[Told<'_>]) {
 
 /// Whether a call was refused memory. If it was, the engine is spoiled after `frames_run`
 /// frames.
-fn is_refused<R: Threads + Sync + Abort + AllocGlobal>(
+fn is_refused<R: Threads + Sync + Abort + AllocGlobal, S: SystemOf<Value = i64> + Send>(
     rt: &R,
-    engine: &mut EngineOf<Scripted>,
+    engine: &mut EngineOf<S>,
     frames_run: u32,
     came: Result<(), RunFault>,
 ) -> bool
-    requires engine { IsEngine i64_values ⟦<Scripted as SystemOf>⟧.meaning engine.old }
+    requires engine { IsEngine i64_values S.meaning engine.old }
 {
     let Err(fault) = came else {
         expect_eq(rt, engine.frames_run(), frames_run);
@@ -91,13 +96,13 @@ fn is_refused<R: Threads + Sync + Abort + AllocGlobal>(
 }
 
 /// Runs two frames on `number` workers. Gives whether memory was refused.
-fn run_two<R: Threads + Sync + Abort + AllocGlobal>(
+fn run_two<R: Threads + Sync + Abort + AllocGlobal, S: SystemOf<Value = i64> + Send>(
     rt: &R,
-    mut engine: EngineOf<Scripted>,
+    mut engine: EngineOf<S>,
     number: u32,
     frames: &[Told<'_>],
 ) -> bool
-    requires engine { IsEngine i64_values ⟦<Scripted as SystemOf>⟧.meaning engine }
+    requires engine { IsEngine i64_values S.meaning engine }
 {
     let mut logs = Vec::new(rt.alloc());
     let ran = run_two_quiet(rt, &mut engine, number, &mut logs);
@@ -134,6 +139,68 @@ fn frames_on_two_workers(rt: HostRuntime) -> Result<(), Fail> {
 #[test]
 fn a_board_on_two_workers(rt: HostRuntime) -> Result<(), Fail> {
     tell_two(&rt, BOARD, 2)
+}
+
+/// A script, or a filter of large numbers.
+type Filtering = Either<Scripted, FunctionSystem<Filter<Large>, 1, 1>>;
+
+/// Adds a script that writes a large number, and two filters that may run side by side: each writes
+/// it again, to a type of its own.
+fn add_filtering(
+    rt: &impl Abort,
+    alloc: Global,
+    systems: &mut EngineBuilder<Filtering>,
+) -> Result<(), BuildError> {
+    let writer = script(rt, alloc, (0, Does::Writes(12)), Start::Zero)?;
+    systems.add_system(Either::Left(writer), Vec::new(alloc), 1)?;
+    for to in [1, 2] {
+        let (read, written) = (Messages(type_no(0)), Messages(type_no(to)));
+        let filter = FunctionSystem::new(alloc, Filter { test: Large }, [read], [written])?;
+        systems.add_system(Either::Right(filter), Vec::new(alloc), 1)?;
+    }
+    Ok(())
+}
+
+/// The engine of these.
+fn filtering(rt: &impl Abort, alloc: Global) -> Result<EngineOf<Filtering>, NoMemory>
+    ensures engine { IfOk result (IsEngine i64_values ⟦<Filtering as SystemOf>⟧.meaning) }
+{
+    let world = World::new(alloc, &[10; 3], &[])?;
+    let mut systems = EngineBuilder::new(alloc);
+    let added = add_filtering(rt, alloc, &mut systems);
+    made(rt, added)?;
+    made(rt, systems.build(world))
+}
+
+/// Runs two frames of functions on `number` workers, and tells whether memory was refused.
+fn tell_two_of_functions<R: Threads + Sync + Abort + AllocGlobal + Print>(
+    rt: &R,
+    number: u32,
+) -> Result<(), Fail> {
+    const FRAMES: &[Told<'static>] = &[
+        (
+            &[],
+            "[0 wrote 1 from 0][1 read from 0: 0=12 wrote 1 from 0]\
+             [2 read from 0: 0=12 wrote 1 from 0]",
+        ),
+        (
+            &[],
+            "[0 wrote 1 from 1][1 read from 1: 0=12 wrote 1 from 1]\
+             [2 read from 1: 0=12 wrote 1 from 1]",
+        ),
+    ];
+    let engine = filtering(rt, rt.alloc())?;
+    tell(rt, run_two(rt, engine, number, FRAMES))
+}
+
+#[test]
+fn functions_on_one_worker(rt: HostRuntime) -> Result<(), Fail> {
+    tell_two_of_functions(&rt, 1)
+}
+
+#[test]
+fn functions_on_two_workers(rt: HostRuntime) -> Result<(), Fail> {
+    tell_two_of_functions(&rt, 2)
 }
 
 /// Replays a frame in this order. Its log tells this.
