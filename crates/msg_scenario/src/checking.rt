@@ -1,19 +1,19 @@
 // A file that is checked, and not run.
-ghost use Rattle.std.specs.Prelude.{◌≡◌, ◌++◌, IfErr, IfOk, OnOk};
-ghost use Rattle.std.specs.Io.KnownBytes.{Appends};
+ghost use Rattle.std.specs.Prelude.{◌≡◌, [], IfErr, OnOk};
 ghost use Rattle.serde_json.specs.View.{view};
 ghost use Rattle.msg_scenario_data.specs.Prelude.{IsRunnable};
-ghost use Rattle.msg_scenario.specs.Checked as Spec;
-ghost use Rattle.msg_scenario.specs.inner.Checking.{EndsUntold, TellsOf, TellsOfEither};
+ghost use Rattle.msg_text.specs.Prelude.{AppendsAtLeast};
+ghost use Rattle.msg_scenario.specs.Checked.{EndsCheck, IsEither, Passes};
+ghost use Rattle.msg_scenario.specs.inner.Checking.{EndsFor, EndsForEither, EndsUntold};
 
 use crate::CheckFault;
 use msg_files::{Calls, read_file};
 use msg_json::json::parse;
 use msg_json::{Fault, FileFault, Key, Reason, Refusal, add_told};
-use msg_plans::{add_remarks, add_unfit};
+use msg_plans::{remarks_of, unfit_lines};
 use msg_reading::{read_sections, read_value};
 use msg_scenario_data::Scenario;
-use msg_text::numerals::{add_count, add_number};
+use msg_text::numerals::add_count;
 use msg_text::{ReportFault, Sink, put_text};
 use msg_world::NoMemory;
 use serde_json::Value;
@@ -28,11 +28,11 @@ use std::alloc::Global;
 /// as it was; `Report` if the sink failed, or if there was no memory, and then the sink is as it
 /// was too.
 pub fn check_bytes<S: Sink>(alloc: Global, bytes: &[u8], sink: &mut S) -> Result<(), CheckFault>
-    ensures ok { OnOk result (Spec.PassesWith bytes.now
-        (λ text. Appends (S.contents sink.old) (S.contents sink.new) text)) }
+    ensures ok { OnOk result (Passes bytes.now) }
+    ensures appends { OnOk result (AppendsAtLeast (S.contents sink.old) (S.contents sink.new) []) }
     ensures quiet { OnOk result (S.failures sink.new ≡ S.failures sink.old) }
     ensures fault { IfErr result
-        (λ fault. Spec.EndsCheck S.contents S.failures bytes.now fault sink.old sink.new) }
+        (λ fault. EndsCheck S.contents S.failures bytes.now fault sink.old sink.new) }
 {
     let text = check(alloc, bytes)?;
     Ok(put_text(text.as_slice(), sink)?)
@@ -41,8 +41,8 @@ pub fn check_bytes<S: Sink>(alloc: Global, bytes: &[u8], sink: &mut S) -> Result
 /// What is told of the scenario or the calls file that the bytes are: its counts, and remarks of a
 /// scenario; or the lines that tell where they are refused, and why.
 fn check(alloc: Global, bytes: &[u8]) -> Result<Vec<u8>, CheckFault>
-    ensures passed { IfOk result (λ text. Spec.PassesWith bytes.now (λ told. told ≡ text.items)) }
-    ensures told { IfErr result (EndsUntold bytes.now) }
+    ensures passed { OnOk result (Passes bytes.now) }
+    ensures refused { IfErr result (EndsUntold bytes.now) }
 {
     match parse(alloc, bytes) {
         Ok(value) => {
@@ -60,8 +60,8 @@ fn check(alloc: Global, bytes: &[u8]) -> Result<Vec<u8>, CheckFault>
 
 /// The same, of the value that the bytes are a text of. An object that has calls is a calls file.
 fn check_value(alloc: Global, value: &Value) -> Result<Vec<u8>, CheckFault>
-    ensures passed { IfOk result (λ text. Spec.IsToldOf (view value.now) text.items) }
-    ensures told { IfErr result (TellsOfEither (view value.now)) }
+    ensures passed { OnOk result (IsEither (view value.now)) }
+    ensures refused { IfErr result (EndsForEither (view value.now)) }
 {
     if value.get(Key::Calls.text()).is_some() {
         match read_file(alloc, value) {
@@ -78,7 +78,7 @@ fn check_value(alloc: Global, value: &Value) -> Result<Vec<u8>, CheckFault>
 
 /// What ends the check at a fault of a value: the lines that tell of it, or want of memory.
 fn tell(alloc: Global, fault: &Fault, value: &Value) -> CheckFault
-    ensures tells { TellsOf fault.now (view value.now) result }
+    ensures ends { EndsFor fault.now result }
 {
     if matches!(fault.reason, Reason::NoMemory) {
         return CheckFault::Report(ReportFault::NoMemory);
@@ -90,31 +90,31 @@ fn tell(alloc: Global, fault: &Fault, value: &Value) -> CheckFault
 }
 
 /// The lines that tell of a fault of a value.
-fn fault_lines(alloc: Global, fault: &Fault, value: &Value) -> Result<Vec<u8>, NoMemory>
-    ensures lines { IfOk result (λ text. text.items ≡ Spec.fault_told fault.now (view value.now)) }
-{
+fn fault_lines(alloc: Global, fault: &Fault, value: &Value) -> Result<Vec<u8>, NoMemory> {
     let mut text = Vec::new(alloc);
     add_told(alloc, &mut text, fault, value)?;
-    add_more(alloc, &mut text, fault.reason, value)?;
+    if matches!(fault.reason, Reason::Clash(_) | Reason::Cycle(_)) {
+        add_unfit(alloc, &mut text, fault.reason, value)?;
+    }
     Ok(text)
 }
 
 /// Adds what there is to tell of a scenario that is refused as a whole.
-fn add_more(alloc: Global, text: &mut Vec<u8>, why: Reason, value: &Value) -> Result<(), NoMemory>
-    ensures appends { OnOk result
-        (text.new.items ≡ text.old.items ++ Spec.unfit_told why (view value.now)) }
-{
+fn add_unfit(
+    alloc: Global,
+    text: &mut Vec<u8>,
+    why: Reason,
+    value: &Value,
+) -> Result<(), NoMemory> {
     match read_sections(alloc, value) {
-        Ok(scenario) => add_unfit(text, &scenario, why),
+        Ok(scenario) => text.extend_from_slice(&unfit_lines(alloc, &scenario, why)?),
         Err(fault) if matches!(fault.reason, Reason::NoMemory) => Err(NoMemory),
         Err(_) => Ok(()),
     }
 }
 
 /// The lines that tell where bytes stop to be JSON.
-fn tell_not_json(alloc: Global, line: usize, column: usize) -> Result<Vec<u8>, NoMemory>
-    ensures tells { IfOk result (λ text. text.items ≡ Spec.not_json_text line column) }
-{
+fn tell_not_json(alloc: Global, line: usize, column: usize) -> Result<Vec<u8>, NoMemory> {
     let mut text = Vec::new(alloc);
     add_count(&mut text, b"at line ", line as u64)?;
     add_count(&mut text, b", column ", column as u64)?;
@@ -125,58 +125,33 @@ fn tell_not_json(alloc: Global, line: usize, column: usize) -> Result<Vec<u8>, N
 /// The counts of a scenario that can be run, and what is remarked of it.
 fn tell_scenario(alloc: Global, scenario: &Scenario) -> Result<Vec<u8>, NoMemory>
     requires runnable { IsRunnable scenario.now }
-    ensures told { IfOk result (λ text. text.items ≡ Spec.scenario_told scenario.now) }
 {
     let mut text = Vec::new(alloc);
-    add_scenario(&mut text, scenario)?;
-    add_remarks(&mut text, scenario)?;
+    add_counts(&mut text, scenario)?;
+    text.extend_from_slice(&remarks_of(alloc, scenario)?)?;
     Ok(text)
 }
 
 /// Adds the counts of a scenario.
-#[tactic(auto, unfolding(crate::specs::Checked::scenario_counts))]
-fn add_scenario(text: &mut Vec<u8>, scenario: &Scenario) -> Result<(), NoMemory>
-    ensures appends { OnOk result
-        (text.new.items ≡ text.old.items ++ Spec.scenario_counts scenario.now) }
-{
-    text.extend_from_slice(b"ok: ")?;
-    add_parts(text, scenario)?;
-    text.extend_from_slice(b", ")?;
-    add_course(text, scenario)?;
-    text.extend_from_slice(b"\n")
-}
-
-/// Adds how many systems, types and resources there are.
-#[tactic(auto, unfolding(crate::specs::Checked::parts_counts))]
-fn add_parts(text: &mut Vec<u8>, scenario: &Scenario) -> Result<(), NoMemory>
-    ensures appends { OnOk result
-        (text.new.items ≡ text.old.items ++ Spec.parts_counts scenario.now) }
-{
-    add_number(text, scenario.systems.as_slice().len() as u64)?;
+fn add_counts(text: &mut Vec<u8>, scenario: &Scenario) -> Result<(), NoMemory> {
+    add_count(text, b"ok: ", scenario.systems.as_slice().len() as u64)?;
     add_count(text, b" systems, ", scenario.types.as_slice().len() as u64)?;
     add_count(
         text,
         b" types, ",
         scenario.resources.as_slice().len() as u64,
     )?;
-    text.extend_from_slice(b" resources")
-}
-
-/// Adds how many rules and frames there are.
-#[tactic(auto, unfolding(crate::specs::Checked::course_counts))]
-fn add_course(text: &mut Vec<u8>, scenario: &Scenario) -> Result<(), NoMemory>
-    ensures appends { OnOk result
-        (text.new.items ≡ text.old.items ++ Spec.course_counts scenario.now) }
-{
-    add_number(text, scenario.rules.as_slice().len() as u64)?;
+    add_count(
+        text,
+        b" resources, ",
+        scenario.rules.as_slice().len() as u64,
+    )?;
     add_count(text, b" rules, ", scenario.frames.as_slice().len() as u64)?;
-    text.extend_from_slice(b" frames")
+    text.extend_from_slice(b" frames\n")
 }
 
 /// The counts of a calls file.
-fn count_calls(alloc: Global, calls: &Calls) -> Result<Vec<u8>, NoMemory>
-    ensures counts { IfOk result (λ text. text.items ≡ Spec.calls_counts calls.now) }
-{
+fn count_calls(alloc: Global, calls: &Calls) -> Result<Vec<u8>, NoMemory> {
     let mut text = Vec::new(alloc);
     add_count(&mut text, b"ok: ", calls.calls().len() as u64)?;
     text.extend_from_slice(b" calls\n")?;

@@ -16,7 +16,7 @@ pub use check_fault::CheckFault;
 pub use checking::check_bytes;
 pub use msg_files::{Call, Calls, check_calls, read_calls, run_calls};
 pub use msg_json::{Fault, FileFault, Key, Location, Reason, Refusal, Step, add_told};
-pub use msg_plans::{Cause, Clash, Form, User, add_unfit, clash_of, put_plan, round};
+pub use msg_plans::{Clash, Form, Planned, clash_of, plan_frame, put_plan, round, unfit_lines};
 pub use msg_reading::{check_scenario, read_scenario, read_sections};
 pub use msg_reports::{add_system, engine_of, report, run_scenario};
 pub use msg_scenario_data::{Kind, Name, Scenario, SystemSpec};
