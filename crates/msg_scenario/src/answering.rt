@@ -1,7 +1,7 @@
 // From the bytes of a file to what a sink takes.
-ghost use Rattle.std.specs.Prelude.{◌≡◌, ◌<◌, [], Err, IfOk, OnErr, OnOk};
+ghost use Rattle.std.specs.Prelude.{◌≡◌, ◌<◌, ◌⊎◌, [], Err, IfOk, OnErr, OnOk};
 ghost use Rattle.std.specs.Io.KnownBytes.{Appends};
-ghost use Rattle.msg_text.specs.Prelude.{AppendsAtLeast, Text};
+ghost use Rattle.msg_text.specs.Prelude.{AppendsAtLeast, one_failure_more};
 ghost use Rattle.msg_text.specs.declared.report_fault.ReportFault.{ReportFault as FaultView};
 ghost use Rattle.msg_json.specs.declared.refusal.Refusal.{Refusal as RefusalView};
 ghost use Rattle.msg_files.specs.Prelude.{TakesFirstLines, calls_text, file_of};
@@ -131,7 +131,10 @@ pub fn plan_bytes<S: Sink>(
     ensures quiet { OnOk result (S.failures sink.new ≡ S.failures sink.old) }
     ensures report { (fault : FaultView) → result ≡ Err (AnswerFault.Report fault)
         → IsOfScenario bytes.now (λ scenario.
-        (text : Text) × EndsText S.contents S.failures text fault sink.old sink.new) }
+        AppendsAtLeast (S.contents sink.old) (S.contents sink.new) []
+        × (((fault ≡ ReportFault.Write)
+        × (S.failures sink.new ≡ one_failure_more (S.failures sink.old)))
+        ⊎ ((fault ≡ ReportFault.NoMemory) × (S.failures sink.new ≡ S.failures sink.old)))) }
     ensures memory { result ≡ Err (AnswerFault.Report ReportFault.NoMemory)
         → sink.new ≡ sink.old }
     ensures refused { (why : RefusalView) → result ≡ Err (AnswerFault.Refused why)
