@@ -6,8 +6,8 @@ use Rattle.msg_text.specs.declared.report_fault.ReportFault.TheVariants as repor
 use Rattle.msg_serve.proofs.AnswersInTurn.{asked_none, ends_before, unbegun}
 use Rattle.msg_scenario.proofs.serving.serve_systems.Goals as goal
 
-pub returns-in_err-systems_of-clause-ends : goal.returns-in_err-systems_of-clause-ends
-returns-in_err-systems_of-clause-ends g c fault came =
+pub returns-in_err-systems-clause-ends : goal.returns-in_err-systems-clause-ends
+returns-in_err-systems-clause-ends g c fault came =
     let s = c.args.scenario.now in
     let passed = err_from_is_err_and c.from_residual.result c.from_residual.ensures.1 in
     let why = serve_fault.Report report_fault.NoMemory in
