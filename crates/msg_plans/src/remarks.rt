@@ -41,11 +41,7 @@ pub fn remarks_of(alloc: Global, scenario: &Scenario) -> Result<Vec<u8>, NoMemor
 }
 
 /// Remarks on what all systems use, in a frame that each has joined by.
-fn add_by_plan(
-    text: &mut Vec<u8>,
-    alloc: Global,
-    scenario: &Scenario,
-) -> Result<(), NoMemory>
+fn add_by_plan(text: &mut Vec<u8>, alloc: Global, scenario: &Scenario) -> Result<(), NoMemory>
     requires runnable { IsRunnable scenario.now }
 {
     let planned = plan_frame(alloc, scenario, LAST_JOIN)?;
