@@ -5,6 +5,7 @@ ghost use Rattle.msg_scenario_data.specs.Prelude.{IsRunnable};
 use crate::numbers::types_of;
 use crate::planned::{Planned, plan_frame};
 use crate::uses::late_for;
+use msg_frames::LAST_JOIN;
 use msg_scenario_data::Scenario;
 use msg_scenario_data::names::{add_system_name, add_type};
 use msg_text::numerals::add_count;
@@ -19,18 +20,19 @@ pub(super) fn add_late(text: &mut Vec<u8>, scenario: &Scenario) -> Result<(), No
     let alloc = *text.allocator();
     let types = types_of(alloc, scenario)?;
     let mut told = Vec::new(alloc);
-    for frame in 0..scenario.frames.as_slice().len() as u32 {
-        if frame == 0 || is_joined(scenario, frame + 1) {
+    for frame in 0..LAST_JOIN {
+        if is_new_order(scenario, frame + 1) {
             add_late_in(text, alloc, scenario, frame + 1, &types, &mut told)?;
         }
     }
     Ok(())
 }
 
-/// Whether a system joins with the frame.
-fn is_joined(scenario: &Scenario, frame: u32) -> bool {
+/// Whether the file has this frame, and it is the first or a system joins with it.
+fn is_new_order(scenario: &Scenario, frame: u32) -> bool {
     let mut systems = scenario.systems.as_slice().iter();
-    systems.any(|system| system.place.join == frame)
+    frame as usize <= scenario.frames.as_slice().len()
+        && (frame == 1 || systems.any(|system| system.place.join == frame))
 }
 
 /// Remarks on the systems in one frame that weren't told yet.
