@@ -1,12 +1,13 @@
 // Refuses one request for memory of the program that loads this library: the one whose number the variable REFUSED
 // gives, counted from 1. Only requests of the program's own code count, and none of the C library. Where the request
 // is made, the file that REFUSED_MARK names is made too. At the end the file that REQUESTS names gets one line: how
-// many requests were made, for how many bytes in all, how many blocks of memory were never given back, and how many
-// threads were started.
+// many requests were made, for how many bytes in all, how many blocks of memory were never given back, how many threads
+// were started, and how many blocks, and bytes in them, were in use when the last request was made.
 #define _GNU_SOURCE
 #include <dlfcn.h>
 #include <fcntl.h>
 #include <link.h>
+#include <malloc.h>
 #include <pthread.h>
 #include <stdatomic.h>
 #include <stdio.h>
@@ -14,7 +15,7 @@
 #include <sys/syscall.h>
 #include <unistd.h>
 
-static atomic_long made, bytes, kept, started;
+static atomic_long made, bytes, kept, in_use, started, last_kept, last_in_use;
 static long refused;
 static const char *mark;
 static char *first, *last;
@@ -45,8 +46,8 @@ void _exit(int status) {
     const char *name = getenv("REQUESTS");
     FILE *file = name ? fopen(name, "w") : NULL;
     if (file) {
-        fprintf(file, "%ld %ld %ld %ld\n", atomic_load(&made), atomic_load(&bytes), atomic_load(&kept),
-                atomic_load(&started));
+        fprintf(file, "%ld %ld %ld %ld %ld %ld\n", atomic_load(&made), atomic_load(&bytes), atomic_load(&kept),
+                atomic_load(&started), atomic_load(&last_kept), atomic_load(&last_in_use));
         fclose(file);
     }
     syscall(SYS_exit_group, status);
@@ -69,6 +70,8 @@ static int is_refused(char *caller, size_t size) {
     if (!is_own(caller))
         return 0;
     atomic_fetch_add(&bytes, (long)size);
+    atomic_store(&last_kept, atomic_load(&kept));
+    atomic_store(&last_in_use, atomic_load(&in_use));
     if (atomic_fetch_add(&made, 1) + 1 != refused)
         return 0;
     if (mark)
@@ -80,24 +83,41 @@ extern void *__libc_malloc(size_t);
 extern void *__libc_realloc(void *, size_t);
 extern void __libc_free(void *);
 
+// A block of the program's own is in use from now on, or no longer.
+static void *take(void *block) {
+    atomic_fetch_add(&kept, 1);
+    atomic_fetch_add(&in_use, (long)malloc_usable_size(block));
+    return block;
+}
+
+static void give_back(void *block) {
+    atomic_fetch_sub(&kept, 1);
+    atomic_fetch_sub(&in_use, (long)malloc_usable_size(block));
+}
+
 void *malloc(size_t size) {
     char *caller = __builtin_return_address(0);
     void *block = is_refused(caller, size) ? NULL : __libc_malloc(size);
-    if (block && is_own(caller))
-        atomic_fetch_add(&kept, 1);
-    return block;
+    return block && is_own(caller) ? take(block) : block;
 }
 
 void *realloc(void *old, size_t size) {
     char *caller = __builtin_return_address(0);
-    void *block = is_refused(caller, size) ? NULL : __libc_realloc(old, size);
-    if (block && !old && is_own(caller))
-        atomic_fetch_add(&kept, 1);
-    return block;
+    if (!is_own(caller))
+        return __libc_realloc(old, size);
+    if (is_refused(caller, size))
+        return NULL;
+    long before = old ? (long)malloc_usable_size(old) : 0;
+    void *block = __libc_realloc(old, size);
+    if (block && old) {
+        atomic_fetch_sub(&kept, 1);
+        atomic_fetch_sub(&in_use, before);
+    }
+    return block ? take(block) : NULL;
 }
 
 void free(void *block) {
     if (block && is_own(__builtin_return_address(0)))
-        atomic_fetch_sub(&kept, 1);
+        give_back(block);
     __libc_free(block);
 }

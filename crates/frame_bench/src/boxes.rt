@@ -92,7 +92,7 @@ pub fn run_boxes<R: Threads + AllocGlobal + Print + Sync>(
     let mut systems: Vec<Box<dyn System>> = Vec::new(alloc);
     for number in 0..SYSTEMS {
         if number % 2 == 0 {
-            let script = script(alloc, Some(Op::Read(from, None)), number)?;
+            let script = script(vec![in alloc; Op::Read(from, None)]?, number);
             add(&mut systems, Box::new(alloc, script)?, number)?;
         } else {
             let reading = reading(alloc, from, number);

@@ -6,8 +6,9 @@
 //! nothing, `skipped` has a condition that doesn't hold, `get` gets a resource, `len` asks for a
 //! length, `write` writes a message, `batch` writes 1,024, `read` reads two by a script, `limited`
 //! reads one of two, `decide` reads two by a behavior, and `function` by a function. Of `boxed` each
-//! system is in a box, and half of them read by a script and half by a behavior. On one worker, or
-//! on that many.
+//! system is in a box, and half of them read by a script and half by a behavior. In the first frame
+//! alone, `large` reads 4,096 at once, and `many` reads 64, each by an op of its own. On one worker,
+//! or on that many.
 #![tactic(auto)]
 
 ghost use Rattle.std.specs.Prelude.{IfOk};
@@ -26,8 +27,8 @@ use hearing::Hearing;
 use msg_exec::{EngineBuilder, EngineOf, Workers};
 use msg_function::{FunctionSystem, Port};
 use msg_system::{
-    Access, BehaviorSystem, Condition, Items, NoMemory, Numbered, Op, Probe, Program, Scripted,
-    Start, SystemOf,
+    Access, BehaviorSystem, Condition, Items, MAX_OPS, NoMemory, Numbered, Op, Probe, Program,
+    Scripted, Start, SystemOf,
 };
 use msg_world::{ResNo, TypeNo, World};
 use poster::Poster;
@@ -41,22 +42,13 @@ use std::thread::Threads;
 /// How many systems there are, and as many types.
 const SYSTEMS: u32 = 64;
 
-/// A script of at most one op, which writes as this number.
-fn script(alloc: Global, op: Option<Op>, number: u32) -> Result<Scripted, NoMemory>
-    ensures new { IfOk result (λ s. IsNew number (⟦<Scripted as SystemOf>⟧.meaning s)) }
+/// A script of these ops, which writes as this number.
+fn script(ops: Vec<Op>, number: u32) -> Scripted
+    ensures new { IsNew number (⟦<Scripted as SystemOf>⟧.meaning result) }
 {
-    let mut ops = Vec::new(alloc);
-    if let Some(op) = op {
-        ops.push(op)?;
-    }
     let ops = Items::from_vec(ops);
-    Ok(Scripted::new(
-        Program {
-            ops,
-            start: Start::Zero,
-        },
-        number,
-    ))
+    let start = Start::Zero;
+    Scripted::new(Program { ops, start }, number)
 }
 
 /// A system that decides to read, and writes as this number.
@@ -74,23 +66,40 @@ fn batch(alloc: Global, own: TypeNo) -> Result<Op, NoMemory> {
 }
 
 /// What a script of this kind does in its turn.
-fn op_of(
+fn ops_of(
     alloc: Global,
     kind: &str,
     own: TypeNo,
     shared: TypeNo,
     r: ResNo,
-) -> anyhow::Result<Option<Op>> {
-    Ok(match kind {
-        "idle" | "skipped" => None,
-        "get" => Some(Op::Get(r)),
-        "len" => Some(Op::Len(shared)),
-        "write" => Some(Op::Write(own, 1)),
-        "batch" => Some(batch(alloc, own)?),
-        "read" => Some(Op::Read(shared, None)),
-        "limited" => Some(Op::Read(shared, Some(1))),
+) -> anyhow::Result<Vec<Op>> {
+    let mut ops = Vec::new(alloc);
+    match kind {
+        "idle" | "skipped" => {}
+        "get" => ops.push(Op::Get(r))?,
+        "len" => ops.push(Op::Len(shared))?,
+        "write" => ops.push(Op::Write(own, 1))?,
+        "batch" => ops.push(batch(alloc, own)?)?,
+        "read" | "large" => ops.push(Op::Read(shared, None))?,
+        "limited" => ops.push(Op::Read(shared, Some(1)))?,
+        "many" => {
+            for _ in 0..MAX_OPS {
+                ops.push(Op::Read(shared, Some(1)))?;
+            }
+        }
         _ => bail!("no kind has this name"),
-    })
+    }
+    Ok(ops)
+}
+
+/// How many messages the host posts in the first frame of this kind, and in each later one.
+fn posts_of(kind: &str) -> (u32, u32) {
+    match kind {
+        "read" | "limited" | "decide" | "function" | "boxed" => (2, 2),
+        "large" => (4_096, 0),
+        "many" => (64, 0),
+        _ => (0, 0),
+    }
 }
 
 /// Prints what was done.
@@ -186,7 +195,7 @@ fn add_script(
     shared: TypeNo,
     r: ResNo,
 ) -> anyhow::Result<()> {
-    let system = script(alloc, op_of(alloc, kind, own, shared, r)?, 0)?;
+    let system = script(ops_of(alloc, kind, own, shared, r)?, 0);
     systems.add_system(system, conditions_of(alloc, kind, r)?, 1)?;
     Ok(())
 }
@@ -215,12 +224,11 @@ fn run<R: Threads + AllocGlobal + Print + Sync>(
 ) -> anyhow::Result<()> {
     let alloc = rt.alloc();
     let (shared, r) = (TypeNo::new(0).unwrap(), ResNo::new(0).unwrap());
+    let (posts, later) = posts_of(kind);
     let poster = Poster {
         left: frames,
-        posts: match kind {
-            "read" | "limited" | "decide" | "function" | "boxed" => 2,
-            _ => 0,
-        },
+        posts,
+        later,
         to: shared,
         turns: 0,
     };

@@ -3,13 +3,14 @@ use msg_exec::{Frame, Host, Log, NoMemory};
 use msg_world::TypeNo;
 use std::alloc::Global;
 
-/// Gives frames that all post the same, and counts the turns that it is told of.
+/// Gives frames that all post the same, but for the first, and counts the turns that it is told of.
 #[derive(Clone, Copy, Debug)]
 pub struct Poster {
     /// How many frames it still gives.
     pub left: u64,
-    /// How many messages it posts in each.
+    /// How many messages it posts in the next frame, and in each later one.
     pub posts: u32,
+    pub later: u32,
     pub to: TypeNo,
     pub turns: u64,
 }
@@ -34,6 +35,7 @@ impl Host for Poster {
         for _ in 0..self.posts {
             posts.push((self.to, 1))?;
         }
+        self.posts = self.later;
         Ok(Some(Frame::of(posts)))
     }
 }
