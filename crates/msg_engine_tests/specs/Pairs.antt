@@ -20,7 +20,7 @@ pair_places conditions =
 
 -- the state of an engine of the two that was just made
 abbrev pub pair_state : List (Condition ℤ) → State i64_values
-pair_state conditions = first_state (numbered_from 0 pair_systems) (pair_places conditions) [] 1
+pair_state conditions = first_state (numbered_from 0 pair_systems) (pair_places conditions) [] 1 0
     (new_world i64_values (100 ∷ []) [])
 
 -- the one in which the reader waits for a message

@@ -4,7 +4,7 @@ ghost use Rattle.msg_world.specs.Prelude.{i64_values};
 
 use crate::equal::{expect_eq, expect_text};
 use crate::expecting::expect_frame;
-use crate::making::{Act, Does, add, engine_of, reader, scripted};
+use crate::making::{add, reader, scripted};
 use crate::told::expect_engine;
 use msg_exec::{BuildError, BuildRefusal, EngineBuilder, EngineOf, Workers};
 use msg_order::Rule;
@@ -49,92 +49,6 @@ fn starts_in_a_world_with_a_message(rt: HostRuntime) {
         [1 of 0: start Some(1) got 0 missed 0 cleared 0 place 1]";
     expect_engine(rt, &engine, told);
     drop(engine);
-}
-
-/// No engine is made of these scripts under these rules, and it is said why.
-struct Refused {
-    acts: &'static [Act],
-    rules: &'static [Rule],
-    why: &'static str,
-}
-
-const WAITING: &[Act] = &[
-    (0, Does::Writes(1)),
-    (1, Does::Writes(2)),
-    (1, Does::Reads),
-    (0, Does::Reads),
-];
-
-/// A clash comes before a cycle, and of rules that go round the lowest system is named.
-const REFUSED: &[Refused] = &[
-    Refused {
-        acts: &[(0, Does::Forwards)],
-        rules: &[Rule {
-            earlier: 0,
-            later: 0,
-        }],
-        why: "system 0 reads and writes one type or resource",
-    },
-    Refused {
-        acts: &[(0, Does::Reads)],
-        rules: &[Rule {
-            earlier: 0,
-            later: 0,
-        }],
-        why: "the rules go round in a circle through system 0",
-    },
-    Refused {
-        acts: WAITING,
-        rules: &[
-            Rule {
-                earlier: 0,
-                later: 1,
-            },
-            Rule {
-                earlier: 1,
-                later: 0,
-            },
-        ],
-        why: "the rules go round in a circle through system 0",
-    },
-    Refused {
-        acts: WAITING,
-        rules: &[Rule {
-            earlier: 1,
-            later: 1,
-        }],
-        why: "the rules go round in a circle through system 1",
-    },
-    Refused {
-        acts: WAITING,
-        rules: &[Rule {
-            earlier: 3,
-            later: 3,
-        }],
-        why: "the rules go round in a circle through system 3",
-    },
-    Refused {
-        acts: &[(0, Does::Reads), (0, Does::Forwards)],
-        rules: &[Rule {
-            earlier: 0,
-            later: 0,
-        }],
-        why: "system 1 reads and writes one type or resource",
-    },
-];
-
-fn expect_refused(rt: &(impl Abort + AllocGlobal), row: &Refused) {
-    let refused = engine_of(rt, rt.alloc(), 10, row.acts, row.rules).err();
-    let refused = refused.expect(rt, row.why);
-    expect_text(rt, &refused, row.why);
-    drop(refused);
-}
-
-#[test]
-fn refused_engines(rt: HostRuntime) {
-    for row in REFUSED {
-        expect_refused(&rt, row);
-    }
 }
 
 /// Why no engine is made of a script of these ops that is to run before itself, over one type.

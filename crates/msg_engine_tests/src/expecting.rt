@@ -3,12 +3,11 @@ ghost use Rattle.msg_exec.specs.Prelude.{IsEngine};
 ghost use Rattle.msg_world.specs.Prelude.{i64_values};
 
 use crate::equal::expect_eq;
-use crate::making::{Act, NUMBERS, replay, run_frame, scripted_engine};
+use crate::making::{replay, run_frame};
 use crate::told::expect_log;
-use msg_exec::{EngineOf, Log, NoGate, Outcome, RunFault};
-use msg_order::Rule;
-use msg_system::{Reply, SystemOf};
-use msg_world::{Record, Value};
+use msg_exec::{EngineOf, NoGate, RunFault};
+use msg_system::SystemOf;
+use msg_world::Value;
 use std::fmt::Debug;
 use std::panic::Expect;
 use std::process::Abort;
@@ -16,20 +15,6 @@ use std::thread::Threads;
 
 /// A frame: the values that the host posts to the first type, and what its log tells.
 pub type Told<'a, V = i64> = (&'a [V], &'a str);
-
-/// A message that this system wrote.
-pub fn by(writer: u32, value: i64) -> Record {
-    Record { writer, value }
-}
-
-/// The replies of the turn at this place in the log.
-pub fn replies_of<'a>(rt: &impl Abort, log: &'a Log, place: usize) -> &'a [Reply] {
-    let turn = log.turns.as_slice().get(place).expect(rt, "a turn");
-    match &turn.outcome {
-        Outcome::Ran(replies) => replies.as_slice(),
-        Outcome::Skipped => panic!(rt; "the turn was skipped"),
-    }
-}
 
 /// Runs a frame on `number` workers.
 pub fn expect_frame<
@@ -57,22 +42,6 @@ pub fn expect_frames<
         expect_frame(rt, &mut engine, number, frame);
     }
     drop(engine);
-}
-
-/// Scripts of these acts under these rules, over types of this limit, and their first frames.
-pub struct Case<'a> {
-    pub limit: u64,
-    pub acts: &'a [Act],
-    pub rules: &'a [Rule],
-    pub frames: &'a [Told<'a>],
-}
-
-/// Runs the case on each of `NUMBERS` workers.
-pub fn expect_case<R: Threads + Sync + Abort + AllocGlobal>(rt: &R, case: &Case<'_>) {
-    for number in NUMBERS {
-        let engine = scripted_engine(rt, rt.alloc(), case.limit, case.acts, case.rules);
-        expect_frames(rt, engine, number, case.frames);
-    }
 }
 
 /// Replays a frame in this order.

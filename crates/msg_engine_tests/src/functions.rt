@@ -1,14 +1,12 @@
-// Systems that are one function, on 1 and 2 workers: one of a test's own, and those that are there
-// already.
+// Systems that are one function, of those that are there already, on 1 and 2 workers.
 ghost use Rattle.msg_exec.specs.Prelude.{IsEngine};
 ghost use Rattle.msg_world.specs.Prelude.{i64_values};
 
-use crate::clerks::{Clerk, Large};
 use crate::expecting::{Told, expect_frames};
 use crate::making::{add, engine_over};
 use msg_exec::{EngineBuilder, EngineOf};
 use msg_function::Port::{Messages, Resource};
-use msg_function::ready::{Count, Filter, HoldBack, Sum};
+use msg_function::ready::{Count, Filter, HoldBack, Sum, Test};
 use msg_function::{Either, FunctionSystem};
 use msg_part_tests::numbers::{res_no, type_no};
 use msg_system::SystemOf;
@@ -16,49 +14,27 @@ use std::alloc::Global;
 use std::panic::Expect;
 use std::process::Abort;
 
+/// Numbers above 9.
+#[derive(Drop)]
+pub struct Large;
+
+impl Test for Large {
+    type Value = i64;
+
+    ghost use Rattle.std.specs.Prelude.{int_lt, pos};
+
+    ghost passes = { λ l value. int_lt (pos 9) value };
+
+    fn passes(&self, value: i64) -> bool {
+        value > 9
+    }
+}
+
 /// A system of one of the functions that are there already.
 type Ready = Either<
     Either<FunctionSystem<Filter<Large>, 1, 1>, FunctionSystem<HoldBack, 1, 1>>,
     Either<FunctionSystem<Count, 1, 1>, FunctionSystem<Sum, 1, 1>>,
 >;
-
-/// An engine of one clerk, who joins with the fourth frame.
-fn clerks(rt: &impl Abort, alloc: Global) -> EngineOf<FunctionSystem<Clerk, 2, 2>>
-    ensures engine { IsEngine i64_values
-        ⟦<FunctionSystem<Clerk, 2, 2> as SystemOf>⟧.meaning result }
-{
-    let read = [Messages(type_no(0)), Resource(res_no(0))];
-    let written = [Messages(type_no(1)), Resource(res_no(0))];
-    let clerk = FunctionSystem::new(alloc, Clerk, read, written).expect(rt, "a clerk");
-    let mut systems = EngineBuilder::new(alloc);
-    add(rt, &mut systems, clerk, Vec::new(alloc), 4);
-    engine_over(rt, alloc, systems, &[10, 10], &[100])
-}
-
-/// The messages of the first two frames are gone when it joins. In the fifth frame nothing comes,
-/// so it writes nothing, and in the sixth what it wrote in the fourth isn't written again.
-#[test]
-fn a_clerk(rt: HostRuntime) {
-    const FRAMES: &[Told<'static>] = &[
-        (&[5], " wrote 1 from 0"),
-        (&[6], " wrote 1 from 1"),
-        (&[7], " wrote 1 from 2"),
-        (
-            &[8],
-            " wrote 1 from 3[0 missed 2 read from 2: host=7 host=8 Value(100) \
-             wrote 1 from 0 Value(115)]",
-        ),
-        (&[], "[0 read from 4: Value(115)]"),
-        (
-            &[1, 2],
-            " wrote 1 from 4 wrote 1 from 5[0 read from 4: host=1 host=2 Value(115) \
-             wrote 1 from 1 Value(118)]",
-        ),
-    ];
-    for number in [1, 2] {
-        expect_frames(&rt, clerks(&rt, rt.alloc()), number, FRAMES);
-    }
-}
 
 /// A filter writes the second type, and one that holds back the third; a count and a sum write
 /// resources.

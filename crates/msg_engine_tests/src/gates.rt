@@ -1,6 +1,5 @@
 // Gates that see which threads run the jobs of a batch.
 use crate::equal::expect_eq;
-use crate::prefaced::note;
 use msg_exec::Gate;
 use msg_part_tests::meeting::Meeting;
 use std::process::Abort;
@@ -185,17 +184,5 @@ impl Gate for FirstGate<'_> {
         if runs > self.calls.fetch_add(1, Ordering::SeqCst) {
             count(&self.late);
         }
-    }
-}
-
-/// Notes a 9 as it is called.
-#[derive(Clone, Copy)]
-pub struct NotingGate<'a> {
-    pub noted: &'a AtomicU64,
-}
-
-impl Gate for NotingGate<'_> {
-    fn pass(&self, _worker: u32, _system: u32) {
-        note(self.noted, 9);
     }
 }

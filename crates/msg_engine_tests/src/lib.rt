@@ -3,20 +3,12 @@
 //! a frame is meant as it is defined.
 #![tactic(auto)]
 
-pub mod adders;
-#[cfg(test)]
-mod alternating;
-#[cfg(test)]
-mod backlogs;
-#[cfg(test)]
-mod beacons;
 #[cfg(test)]
 mod boxes;
 #[cfg(test)]
 mod building;
 #[cfg(test)]
 mod cases;
-pub mod clerks;
 pub mod clients;
 #[cfg(test)]
 mod deciding;
@@ -28,11 +20,8 @@ mod expecting;
 mod frames;
 #[cfg(test)]
 mod functions;
-pub mod game_values;
 #[cfg(test)]
 mod gates;
-#[cfg(test)]
-mod late;
 #[cfg(test)]
 mod limits;
 #[cfg(test)]

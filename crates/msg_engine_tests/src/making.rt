@@ -26,8 +26,6 @@ pub enum Does {
     Writes(i64),
     /// Writes the values from the first one to below the second, as one batch.
     WritesFrom(i64, i64),
-    /// Forwards to the type that it reads.
-    Forwards,
     Drains,
 }
 
@@ -43,7 +41,6 @@ fn op_of(rt: &impl Abort, alloc: Global, act: Act) -> Result<Op, NoMemory> {
         Does::WritesFrom(first, end) => {
             Op::Batch(t, Items::from_vec((first..end).collect(alloc)?))
         }
-        Does::Forwards => Op::Forward(t, t),
         Does::Drains => Op::Drain(t),
     })
 }
@@ -177,12 +174,8 @@ pub fn scripted_engine(
 pub fn readers(rt: &impl Abort, alloc: Global, number: u32) -> EngineOf<Scripted>
     ensures engine { IsEngine i64_values ⟦<Scripted as SystemOf>⟧.meaning result }
 {
-    let mut systems = EngineBuilder::new(alloc);
-    for _ in 0..number {
-        let reader = reader(rt, alloc, Start::Zero);
-        add(rt, &mut systems, reader, Vec::new(alloc), 1);
-    }
-    engine_over(rt, alloc, systems, &[10], &[])
+    let acts = Vec::from_elem(alloc, (0, Does::Reads), number as usize).expect(rt, "acts");
+    scripted_engine(rt, alloc, 10, &acts, &[])
 }
 
 /// A frame with posts of these values to the first type.

@@ -1,46 +1,90 @@
-// Engines of values that aren't numbers, on each number of workers: a struct of 24 bytes, and an
-// enum of a game.
-ghost use Rattle.std.specs.Prelude.{◌≡◌, length};
+// An engine of values that aren't numbers, on each number of workers: structs of 24 bytes.
 ghost use Rattle.msg_exec.specs.Prelude.{IsEngine};
 
-use crate::expecting::{Told, expect_frames, expect_replay};
-use crate::game_values::{Blow, Force};
-use crate::making::{NUMBERS, add, engine_over, scripted};
-use msg_exec::{EngineBuilder, EngineOf};
+use crate::expecting::{Told, expect_replay};
+use crate::making::{NUMBERS, add, engine_over, run_frame, scripted};
+use msg_exec::{EngineBuilder, EngineOf, NoGate};
 use msg_part_tests::numbers::{res_no, type_no};
 use msg_system::{Condition, Op, Probe, Scripted, Start, SystemOf};
-use msg_world::{ResNo, Value};
+use msg_world::Value;
 use std::alloc::Global;
-use std::fmt::Debug;
 use std::panic::Expect;
 use std::process::Abort;
 use std::thread::Threads;
 
-/// What a run is made of, and what three frames of it tell; and what they tell if they are replayed
-/// in these orders. In the third the late system runs before the others that read.
-struct Run<V: 'static> {
-    resource: V,
-    written: V,
-    frames: &'static [Told<'static, V>],
-    replays: &'static [(&'static [u32], Told<'static, V>)],
+/// A force in space.
+#[derive(Clone, Copy, Debug, PartialEq, Eq)]
+struct Force {
+    x: i64,
+    y: i64,
+    z: i64,
 }
 
-/// A list of one.
-fn only<T: Drop>(rt: &impl Abort, alloc: Global, item: T) -> Vec<T>
-    ensures one { length result.items ≡ 1 }
-{
-    let mut items = Vec::new(alloc);
-    items.push(item).expect(rt, "an item");
-    items
+impl Value for Force {
+    ghost use Rattle.std.specs.Prelude.{◌&&◌, pos, ◌+ℤ◌};
+    ghost use Rattle.std.specs.Int.{saturate_signed, w64};
+    ghost use Rattle.std.specs.Ordering.{int_eq};
+
+    ghost values = { record {
+      some = record { x = pos 0; y = pos 0; z = pos 0 };
+      plus = λ f g. record {
+        x = saturate_signed w64 (f.x +ℤ g.x);
+        y = saturate_signed w64 (f.y +ℤ g.y);
+        z = saturate_signed w64 (f.z +ℤ g.z);
+      };
+      same = λ f g. int_eq f.x g.x && int_eq f.y g.y && int_eq f.z g.z;
+    } };
+
+    fn plus(self, other: Force) -> Force {
+        Force {
+            x: self.x.saturating_add(other.x),
+            y: self.y.saturating_add(other.y),
+            z: self.z.saturating_add(other.z),
+        }
+    }
+
+    fn same(self, other: Force) -> bool {
+        self == other
+    }
 }
+
+/// What the resource is at first.
+const FIRST: Force = Force { x: 1, y: -2, z: 3 };
+
+/// What is written in each frame.
+const WRITTEN: Force = Force {
+    x: 100,
+    y: 0,
+    z: i64::MAX,
+};
+
+/// What is posted in each frame.
+const POSTED: &[Force] = &[Force {
+    x: 10,
+    y: 20,
+    z: 30,
+}];
+
+/// What the third frame tells, in which the late system runs before the others that read.
+const THIRD: &Told<'static, Force> = &(
+    POSTED,
+    " wrote 1 from 4[0 wrote 1 from 5]\
+     [3 read from 4: host=Force { x: 10, y: 20, z: 30 } \
+     0=Force { x: 100, y: 0, z: 9223372036854775807 }, \
+     Some(Written { first: 0, n: 2 })]\
+     [1 was skipped]\
+     [2 read from 4: host=Force { x: 10, y: 20, z: 30 } \
+     0=Force { x: 100, y: 0, z: 9223372036854775807 }, \
+     sum Force { x: 331, y: 58, z: 9223372036854775807 }]",
+);
 
 /// Adds a script of this op. One that joins late starts at what is written then.
-fn add_script<V: Value>(
+fn add_script(
     rt: &impl Abort,
     alloc: Global,
-    systems: &mut EngineBuilder<Scripted<V>, V>,
-    op: Op<V>,
-    conditions: Vec<Condition<V>>,
+    systems: &mut EngineBuilder<Scripted<Force>, Force>,
+    op: Op<Force>,
+    conditions: Vec<Condition<Force>>,
     join: u32,
 ) {
     let start = if join == 1 {
@@ -48,175 +92,41 @@ fn add_script<V: Value>(
     } else {
         Start::Current
     };
-    let script = scripted(rt, only(rt, alloc, op), start);
-    add(rt, systems, script, conditions, join);
+    let ops = vec![in alloc; op].expect(rt, "an op");
+    add(rt, systems, scripted(rt, ops, start), conditions, join);
 }
 
 /// System 0 writes a message, 1 reads while the resource is as it was, 2 adds all messages to the
 /// resource, and 3 joins with the third frame and writes again what it reads then.
-fn engine_of<V: Value>(rt: &impl Abort, alloc: Global, run: &Run<V>) -> EngineOf<Scripted<V>, V>
-    ensures engine { IsEngine V.values ⟦<Scripted<V> as SystemOf>⟧.meaning result }
+fn engine(rt: &impl Abort, alloc: Global) -> EngineOf<Scripted<Force>, Force>
+    ensures engine { IsEngine ⟦<Force as Value>⟧.values
+        ⟦<Scripted<Force> as SystemOf>⟧.meaning result }
 {
     let (t, r) = (type_no(0), res_no(0));
-    let as_it_was = while_it_is(rt, alloc, r, run.resource);
+    let probe = Probe::ResourceEquals(r, FIRST);
+    let as_it_was = vec![in alloc; Condition { nots: 0, probe }].expect(rt, "a condition");
     let mut systems = EngineBuilder::new(alloc);
-    let written = Op::Write(t, run.written);
+    let written = Op::Write(t, WRITTEN);
     add_script(rt, alloc, &mut systems, written, Vec::new(alloc), 1);
     add_script(rt, alloc, &mut systems, Op::Read(t, None), as_it_was, 1);
     add_script(rt, alloc, &mut systems, Op::Sum(t, r), Vec::new(alloc), 1);
     let again = Op::Forward(t, type_no(1));
     add_script(rt, alloc, &mut systems, again, Vec::new(alloc), 3);
-    let resources = only(rt, alloc, run.resource);
-    engine_over(rt, alloc, systems, &[10, 10], &resources)
+    engine_over(rt, alloc, systems, &[10, 10], &[FIRST])
 }
 
-/// The condition that this resource has this value.
-fn while_it_is<V: Value>(rt: &impl Abort, alloc: Global, r: ResNo, value: V) -> Vec<Condition<V>> {
-    let probe = Probe::ResourceEquals(r, value);
-    only(rt, alloc, Condition { nots: 0, probe })
-}
-
-/// Replays three frames, and drops the engine.
-fn expect_replays<V: Value + Debug, S: SystemOf<Value = V>>(
-    rt: &(impl Abort + AllocGlobal),
-    mut engine: EngineOf<S, V>,
-    run: &Run<V>,
-)
-    requires engine { IsEngine V.values S.meaning engine }
-{
-    for row in run.replays {
-        expect_replay(rt, &mut engine, row.0, &row.1);
-    }
+/// Runs two frames on so many workers, and replays a third.
+fn expect_forces<R: Threads + Sync + Abort + AllocGlobal>(rt: &R, number: u32) {
+    let mut engine = engine(rt, rt.alloc());
+    drop(run_frame(rt, &mut engine, POSTED, number, &NoGate));
+    drop(run_frame(rt, &mut engine, POSTED, number, &NoGate));
+    expect_replay(rt, &mut engine, &[0, 3, 1, 2], THIRD);
     drop(engine);
 }
 
-/// Runs three frames on each number of workers, and replays them.
-fn expect_runs<R: Threads + Sync + Abort + AllocGlobal, V: Value + Send + Sync + Debug>(
-    rt: &R,
-    run: &Run<V>,
-) {
-    for number in NUMBERS {
-        expect_frames(rt, engine_of(rt, rt.alloc(), run), number, run.frames);
-    }
-    expect_replays(rt, engine_of(rt, rt.alloc(), run), run);
-}
-
-const POSTED_FORCE: &[Force] = &[Force {
-    x: 10,
-    y: 20,
-    z: 30,
-}];
-
-const FIRST_FORCES: Told<'static, Force> = (
-    POSTED_FORCE,
-    " wrote 1 from 0[0 wrote 1 from 1]\
-     [1 read from 0: host=Force { x: 10, y: 20, z: 30 } \
-     0=Force { x: 100, y: 0, z: 9223372036854775807 }]\
-     [2 read from 0: host=Force { x: 10, y: 20, z: 30 } \
-     0=Force { x: 100, y: 0, z: 9223372036854775807 }, \
-     sum Force { x: 111, y: 18, z: 9223372036854775807 }]",
-);
-
-const SECOND_FORCES: Told<'static, Force> = (
-    POSTED_FORCE,
-    " wrote 1 from 2[0 wrote 1 from 3][1 was skipped]\
-     [2 read from 2: host=Force { x: 10, y: 20, z: 30 } \
-     0=Force { x: 100, y: 0, z: 9223372036854775807 }, \
-     sum Force { x: 221, y: 38, z: 9223372036854775807 }]",
-);
-
-const THIRD_FORCES: Told<'static, Force> = (
-    POSTED_FORCE,
-    " wrote 1 from 4[0 wrote 1 from 5][1 was skipped]\
-     [3 read from 4: host=Force { x: 10, y: 20, z: 30 } \
-     0=Force { x: 100, y: 0, z: 9223372036854775807 }, \
-     Some(Written { first: 0, n: 2 })]\
-     [2 read from 4: host=Force { x: 10, y: 20, z: 30 } \
-     0=Force { x: 100, y: 0, z: 9223372036854775807 }, \
-     sum Force { x: 331, y: 58, z: 9223372036854775807 }]",
-);
-
-const REPLAYED_FORCES: Told<'static, Force> = (
-    POSTED_FORCE,
-    " wrote 1 from 4[0 wrote 1 from 5]\
-     [3 read from 4: host=Force { x: 10, y: 20, z: 30 } \
-     0=Force { x: 100, y: 0, z: 9223372036854775807 }, \
-     Some(Written { first: 0, n: 2 })]\
-     [1 was skipped]\
-     [2 read from 4: host=Force { x: 10, y: 20, z: 30 } \
-     0=Force { x: 100, y: 0, z: 9223372036854775807 }, \
-     sum Force { x: 331, y: 58, z: 9223372036854775807 }]",
-);
-
 #[test]
 fn forces(rt: HostRuntime) {
-    const RUN: &Run<Force> = &Run {
-        resource: Force { x: 1, y: -2, z: 3 },
-        written: Force {
-            x: 100,
-            y: 0,
-            z: i64::MAX,
-        },
-        frames: &[FIRST_FORCES, SECOND_FORCES, THIRD_FORCES],
-        replays: &[
-            (&[0, 1, 2], FIRST_FORCES),
-            (&[0, 1, 2], SECOND_FORCES),
-            (&[0, 3, 1, 2], REPLAYED_FORCES),
-        ],
-    };
-    expect_runs(&rt, RUN);
-}
-
-const POSTED_BLOW: &[Blow] = &[Blow::Moved(2, -5)];
-
-const FIRST_BLOWS: Told<'static, Blow> = (
-    POSTED_BLOW,
-    " wrote 1 from 0[0 wrote 1 from 1]\
-     [1 read from 0: host=Moved(2, -5) 0=Hit { entity: 7, amount: -3 }]\
-     [2 read from 0: host=Moved(2, -5) 0=Hit { entity: 7, amount: -3 }, \
-     sum Hit { entity: 7, amount: -3 }]",
-);
-
-const SECOND_BLOWS: Told<'static, Blow> = (
-    POSTED_BLOW,
-    " wrote 1 from 2[0 wrote 1 from 3][1 was skipped]\
-     [2 read from 2: host=Moved(2, -5) 0=Hit { entity: 7, amount: -3 }, \
-     sum Hit { entity: 7, amount: -3 }]",
-);
-
-const THIRD_BLOWS: Told<'static, Blow> = (
-    POSTED_BLOW,
-    " wrote 1 from 4[0 wrote 1 from 5][1 was skipped]\
-     [3 read from 4: host=Moved(2, -5) 0=Hit { entity: 7, amount: -3 }, \
-     Some(Written { first: 0, n: 2 })]\
-     [2 read from 4: host=Moved(2, -5) 0=Hit { entity: 7, amount: -3 }, \
-     sum Hit { entity: 7, amount: -3 }]",
-);
-
-const REPLAYED_BLOWS: Told<'static, Blow> = (
-    POSTED_BLOW,
-    " wrote 1 from 4[0 wrote 1 from 5]\
-     [3 read from 4: host=Moved(2, -5) 0=Hit { entity: 7, amount: -3 }, \
-     Some(Written { first: 0, n: 2 })]\
-     [1 was skipped]\
-     [2 read from 4: host=Moved(2, -5) 0=Hit { entity: 7, amount: -3 }, \
-     sum Hit { entity: 7, amount: -3 }]",
-);
-
-#[test]
-fn blows(rt: HostRuntime) {
-    const RUN: &Run<Blow> = &Run {
-        resource: Blow::Nothing,
-        written: Blow::Hit {
-            entity: 7,
-            amount: -3,
-        },
-        frames: &[FIRST_BLOWS, SECOND_BLOWS, THIRD_BLOWS],
-        replays: &[
-            (&[0, 1, 2], FIRST_BLOWS),
-            (&[0, 1, 2], SECOND_BLOWS),
-            (&[0, 3, 1, 2], REPLAYED_BLOWS),
-        ],
-    };
-    expect_runs(&rt, RUN);
+    for number in NUMBERS {
+        expect_forces(&rt, number);
+    }
 }

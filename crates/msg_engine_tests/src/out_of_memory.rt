@@ -4,10 +4,10 @@ ghost use Rattle.std.specs.Prelude.{◌≡◌, IfOk, Ok};
 ghost use Rattle.msg_world.specs.Prelude.{i64_values};
 ghost use Rattle.msg_exec.specs.Prelude.{IsEngine};
 
-use crate::cases::LAG;
-use crate::clerks::Large;
+use crate::cases::{Case, LAG};
 use crate::equal::expect_eq;
-use crate::expecting::{Case, Told, expect_unlawful};
+use crate::expecting::{Told, expect_unlawful};
+use crate::functions::Large;
 use crate::making::{Act, Does, engine_of, replay, run_two_quiet, script, scripts};
 use crate::spoiled::expect_spoiled;
 use crate::told::{expect_accounts, expect_log};
@@ -42,8 +42,7 @@ fn made<T: Drop>(rt: &impl Abort, made: Result<T, BuildError>) -> Result<T, NoMe
 
 /// A writer, and two readers that may run side by side: on two workers they draw from a board. In
 /// each frame both readers are given what was written in it.
-const BOARD: &Case<'static> = &Case {
-    limit: 10,
+const BOARD: &Case = &Case {
     acts: &[(0, Does::Writes(5)), (0, Does::Reads), (0, Does::Reads)],
     rules: &[],
     frames: &[
@@ -59,14 +58,10 @@ const BOARD: &Case<'static> = &Case {
 };
 
 /// The engine of a case.
-fn engine_for(
-    rt: &impl Abort,
-    alloc: Global,
-    case: &Case<'_>,
-) -> Result<EngineOf<Scripted>, NoMemory>
+fn engine_for(rt: &impl Abort, alloc: Global, case: &Case) -> Result<EngineOf<Scripted>, NoMemory>
     ensures engine { IfOk result (IsEngine i64_values ⟦<Scripted as SystemOf>⟧.meaning) }
 {
-    made(rt, engine_of(rt, alloc, case.limit, case.acts, case.rules))
+    made(rt, engine_of(rt, alloc, 10, case.acts, case.rules))
 }
 
 /// These are the logs of the first frames.
@@ -119,7 +114,7 @@ fn run_two<R: Threads + Sync + Abort + AllocGlobal, S: SystemOf<Value = i64> + S
 /// Runs two frames of the case on `number` workers, and tells whether memory was refused.
 fn tell_two<R: Threads + Sync + Abort + AllocGlobal + Print>(
     rt: &R,
-    case: &Case<'_>,
+    case: &Case,
     number: u32,
 ) -> Result<(), Fail> {
     let engine = engine_for(rt, rt.alloc(), case)?;

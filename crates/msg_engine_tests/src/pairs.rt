@@ -1,17 +1,13 @@
 //! Engines that are made alike: what they are told depends on their frames alone.
-ghost use Rattle.std.specs.Prelude.{◌≡◌, ◌++◌, ◌∷◌, [], All, IfOk, IfSome, List, map, ℤ};
-ghost use Rattle.msg_frames.specs.Prelude.{IsSoundState, accounts_of, run};
+ghost use Rattle.std.specs.Prelude.{◌≡◌, [], All, IfOk, IfSome, map};
+ghost use Rattle.msg_frames.specs.Prelude.{IsSoundState, run};
 ghost use Rattle.msg_laws.specs.Prelude.{NothingDrained, log_entries};
-ghost use Rattle.msg_frames.specs.{declared.log.Log.Log as LogView};
-ghost use Rattle.msg_system.specs.Prelude.{new_system};
-ghost use Rattle.msg_exec.specs.Prelude.{HasRunSince, IsEngine, IsSpoiled};
+ghost use Rattle.msg_exec.specs.Prelude.{HasRunSince, IsEngine};
 ghost use Rattle.msg_engine_tests.specs.Pairs.{one_op, pair_places, pair_state, pair_systems, waking_state};
 ghost use Rattle.msg_world.specs.Prelude.{i64_values};
 
 use msg_exec::engine_laws::engines_stand;
-use msg_exec::{
-    Account, BuildError, EngineBuilder, EngineOf, Frame, Items, Log, NoGate, NoMemory, Workers,
-};
+use msg_exec::{BuildError, EngineBuilder, EngineOf, Frame, Items, Log, NoGate, NoMemory, Workers};
 use msg_laws::reader_laws::{each_message_meets_one_fate, no_wake_up_is_lost, programs_read_all};
 use msg_system::{Condition, Op, Probe, Program, Scripted, Start, SystemOf};
 use msg_world::{TypeNo, World};
@@ -124,77 +120,23 @@ pub fn run_waking<R: Threads + Sync>(
     Some(logs)
 }
 
-/// Runs frames on a new engine of the two, replays one more with the reader last, and asks for the
-/// accounts.
-fn live<R: Threads + Sync>(
-    rt: &R,
-    alloc: Global,
-    engine: &mut EngineOf<Scripted>,
-    frames: &[Frame],
-    last: &Frame,
-    workers: Workers,
-) -> Option<Vec<Account>>
-    requires new { HasRunSince ⟦<Scripted as SystemOf>⟧.meaning (pair_state []) [] [] engine.old }
-    requires engine { IsEngine i64_values ⟦<Scripted as SystemOf>⟧.meaning engine.old }
-    ensures since { IfSome result (λ accounts. (logs : List (LogView ℤ))
-        × HasRunSince ⟦<Scripted as SystemOf>⟧.meaning (pair_state [])
-        (frames.now ++ last.now ∷ []) logs engine.new) }
-    ensures accounts { IfSome result (λ accounts.
-        accounts.items ≡ accounts_of (run (frames.now ++ last.now ∷ []) (pair_state [])).state) }
-{
-    if !(engine.all_fit(frames) && engine.fits(last)) {
-        return None;
-    }
-    let mut logs = Vec::new(alloc);
-    let Ok(()) = engine.run_frames(rt, frames, workers, &NoGate, &mut logs) else {
-        return None;
-    };
-    let Ok(log) = engine.replay_frame(last, &[0, 1]) else {
-        return None;
-    };
-    engine.recycle(log);
-    match engine.accounts() {
-        Ok(accounts) => Some(accounts),
-        Err(_) => None,
-    }
-}
-
-/// A life of several calls: makes such an engine, runs frames, replays one more with the reader
-/// last, and asks for the accounts.
-pub fn run_life<R: Threads + Sync>(
-    rt: &R,
-    alloc: Global,
-    frames: &[Frame],
-    last: &Frame,
-    workers: Workers,
-) -> Option<(Vec<Account>, EngineOf<Scripted>)>
-
-    // All its frames are one run from the first state, and the accounts are of that run.
-    ensures since { IfSome result (λ r. (logs : List (LogView ℤ))
-        × HasRunSince ⟦<Scripted as SystemOf>⟧.meaning (pair_state [])
-        (frames.now ++ last.now ∷ []) logs r.1) }
-    ensures accounts { IfSome result (λ r.
-        r.0.items ≡ accounts_of (run (frames.now ++ last.now ∷ []) (pair_state [])).state) }
-{
-    let Ok(mut engine) = engine(alloc, Vec::new(alloc)) else {
-        return None;
-    };
-    let Some(accounts) = live(rt, alloc, &mut engine, frames, last, workers) else {
-        drop(engine);
-        return None;
-    };
-    Some((accounts, engine))
-}
-
 #[cfg(test)]
 mod tests {
-    use super::{run_both, run_life, run_waking};
+    use super::{run_both, run_waking};
     use crate::equal::expect_eq;
     use crate::making::{quiet_frames, workers};
-    use crate::told::{expect_accounts, expect_log};
-    use msg_exec::{Frame, Log};
+    use crate::told::expect_log;
+    use msg_exec::Log;
     use std::panic::Expect;
     use std::process::Abort;
+
+    /// These are the logs of three quiet frames: in each the writer writes a 7, which the reader
+    /// reads.
+    fn expect_three(rt: &impl Abort, logs: &[Log]) {
+        expect_eq(rt, logs.len(), 3);
+        let last = logs.last().expect(rt, "a log");
+        expect_log(rt, last, "[0 wrote 1 from 2][1 read from 2: 0=7]");
+    }
 
     #[test]
     fn two_engines(rt: HostRuntime) {
@@ -207,21 +149,6 @@ mod tests {
         drop((frames, logs));
     }
 
-    /// What three quiet frames tell: in each the writer writes a 7, which the reader reads.
-    const TOLD: [&str; 3] = [
-        "[0 wrote 1 from 0][1 read from 0: 0=7]",
-        "[0 wrote 1 from 1][1 read from 1: 0=7]",
-        "[0 wrote 1 from 2][1 read from 2: 0=7]",
-    ];
-
-    /// These are the logs of three quiet frames.
-    fn expect_three(rt: &impl Abort, logs: &[Log]) {
-        expect_eq(rt, logs.len(), 3);
-        for (log, told) in logs.iter().zip(&TOLD) {
-            expect_log(rt, log, told);
-        }
-    }
-
     #[test]
     fn a_reader_that_waits(rt: HostRuntime) {
         let rt = &rt;
@@ -229,20 +156,5 @@ mod tests {
         let logs = run_waking(rt, rt.alloc(), &frames, workers(rt, 2)).expect(rt, "logs");
         expect_three(rt, &logs);
         drop((frames, logs));
-    }
-
-    #[test]
-    fn a_life(rt: HostRuntime) {
-        let rt = &rt;
-        let frames = quiet_frames(rt, rt.alloc(), 2);
-        let last = Frame::quiet(rt.alloc());
-        let life = run_life(rt, rt.alloc(), &frames, &last, workers(rt, 2));
-        drop((frames, last));
-        let (accounts, engine) = life.expect(rt, "a life");
-        expect_eq(rt, engine.frames_run(), 3);
-        drop(engine);
-        let told = "[1 of 0: start Some(0) got 3 missed 0 cleared 0 place 3]";
-        expect_accounts(rt, &accounts, told);
-        drop(accounts);
     }
 }

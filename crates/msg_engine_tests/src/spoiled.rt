@@ -6,9 +6,10 @@ use crate::equal::expect_eq;
 use crate::expecting::{Told, expect_fault, expect_frame};
 use crate::gates::HoldGate;
 use crate::making::{replay, run_two_quiet, try_frame};
-use crate::prefaced::{Before, Prefaced, add_counts, prefaced_readers, shared_number};
+use crate::prefaced::{add_counts, prefaced_readers, shared_number};
 use msg_exec::{EngineOf, NoGate, RunFault};
-use msg_system::{Scripted, SystemOf};
+use msg_part_tests::prefaced::{Before, Prefaced};
+use msg_system::SystemOf;
 use std::alloc::Global;
 use std::panic::Expect;
 use std::process::Abort;
@@ -59,8 +60,8 @@ fn failing_engine(
     readers: u32,
     first_runs: u32,
     runs: &Arc<AtomicU64>,
-) -> EngineOf<Prefaced<Scripted>>
-    ensures engine { IsEngine i64_values ⟦<Prefaced<Scripted> as SystemOf>⟧.meaning result }
+) -> EngineOf<Prefaced>
+    ensures engine { IsEngine i64_values ⟦<Prefaced as SystemOf>⟧.meaning result }
 {
     let mut all = vec![in alloc; Before::FailAfter(first_runs)].expect(rt, "a list");
     add_counts(rt, &mut all, readers.saturating_sub(1), runs);

@@ -129,13 +129,6 @@ fn tell_messages(out: &mut Text<'_>, messages: &Messages<Record>) {
     }
 }
 
-/// The replies tell this.
-pub fn expect_replies(rt: &impl Abort, replies: &[Reply], want: &str) {
-    let mut text = Text::new(want);
-    tell_replies(&mut text, replies);
-    text.expect_end(rt, &replies);
-}
-
 /// The log tells this.
 pub fn expect_log<V: Debug>(rt: &impl Abort, log: &Log<V>, want: &str) {
     let mut text = Text::new(want);

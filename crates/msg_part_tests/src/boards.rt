@@ -1,7 +1,6 @@
 // Boards of no jobs, boards that threads share, and jobs that hold boxes.
-ghost use Rattle.std.specs.Prelude.{◌≡◌, ◌+◌, ◌<◌, ◌≤◌, All, Some, length, slice_get};
+ghost use Rattle.std.specs.Prelude.{◌≡◌, ◌+◌, ◌<◌, ◌≤◌, Some, length, slice_get};
 ghost use Rattle.msg_board.specs.Prelude.{HasEnded, IsIdle, IsOf, jobs_of};
-ghost use Rattle.msg_board.specs.Board.{IsNewPass};
 
 mod boxes;
 mod out_of_memory;
@@ -97,12 +96,7 @@ fn threads_draw_jobs(rt: HostRuntime) {
     }
 }
 
-/// The pass isn't finished, and holds this job, if any.
-fn expect_holding(rt: &impl Abort, pass: &Pass<u32, u64>, number: Option<usize>) {
-    expect_eq(rt, (pass.holding(), pass.is_finished()), (number, false));
-}
-
-/// Draws the next job, which has this number.
+/// Draws the next job, which has this number, and holds it.
 fn draw_next<W: Work>(
     rt: &impl Abort,
     board: &Board<W>,
@@ -116,25 +110,9 @@ fn draw_next<W: Work>(
 {
     let (k, job) = board.draw(pass).have(rt);
     assert!(rt; k == number);
+    let found = (pass.holding(), pass.is_finished());
+    expect_eq(rt, found, (Some(number), false));
     job
-}
-
-/// Draws a job, which has this number and this value.
-fn draw_value(
-    rt: &impl Abort,
-    board: &Board<AddOne>,
-    pass: &mut Pass<u32, u64>,
-    number: usize,
-    value: u32,
-)
-    requires idle { IsIdle board.now pass.old }
-    ensures own { IsOf board.now pass.new }
-    ensures holds { pass.new.holding ≡ Some number }
-    ensures job { slice_get (jobs_of board.now) number ≡ Some value }
-{
-    let job = draw_next(rt, board, pass, number);
-    assert!(rt; job == value);
-    expect_holding(rt, pass, Some(number));
 }
 
 /// Draws None, and is finished.
@@ -150,53 +128,6 @@ fn draw_none<W: Work, A: Allocator + Copy>(
     assert!(rt; drawn.is_none());
     drop(drawn);
     expect_eq(rt, (pass.is_finished(), pass.holding()), (true, None));
-}
-
-/// The second pass holds a job while the first draws all others. Both draw None twice.
-fn work_off(rt: &impl Abort, board: &Board<AddOne>, a: &mut Pass<u32, u64>, b: &mut Pass<u32, u64>)
-    requires a { IsIdle board.now a.old }
-    requires b { IsIdle board.now b.old }
-    ensures a { HasEnded board.now a.new }
-    ensures b { HasEnded board.now b.new }
-{
-    draw_value(rt, board, a, 0, 10);
-    draw_value(rt, board, b, 1, 20);
-    board.hand_in(a, 0, 11);
-    expect_holding(rt, a, None);
-    draw_value(rt, board, a, 2, 30);
-    board.hand_in(a, 2, 31);
-    expect_holding(rt, a, None);
-    draw_none(rt, board, a);
-    draw_none(rt, board, a);
-    expect_holding(rt, b, Some(1));
-    board.hand_in(b, 1, 21);
-    draw_none(rt, board, b);
-    draw_none(rt, board, b);
-}
-
-/// Draws three jobs by the two passes in turn, and ends both.
-fn work_off_both(rt: &impl Abort, board: &Board<AddOne>, passes: &mut Vec<Pass<u32, u64>>)
-    requires two { length passes.old.items ≡ 2 }
-    requires fresh { All (IsNewPass board.now) passes.old.items }
-    ensures two { length passes.new.items ≡ 2 }
-    ensures ended { All (HasEnded board.now) passes.new.items }
-{
-    let mut b = passes.pop().have(rt);
-    let mut a = passes.pop().have(rt);
-    work_off(rt, board, &mut a, &mut b);
-    passes.push(a).have(rt);
-    passes.push(b).have(rt);
-}
-
-#[test]
-fn two_passes_and_three_jobs(rt: HostRuntime) {
-    let rt = &rt;
-    let jobs = vec![in rt.alloc(); 10, 20, 30].have(rt);
-    let (board, mut passes) = Board::<AddOne>::new(rt.alloc(), jobs, 2).have(rt);
-    work_off_both(rt, &board, &mut passes);
-    let results = board.close(rt.alloc(), passes).have(rt);
-    expect_eq(rt, results.as_slice(), [11, 21, 31].as_slice());
-    drop(results);
 }
 
 /// A board without jobs, over another allocator than `Global`.

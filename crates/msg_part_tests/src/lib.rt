@@ -16,6 +16,7 @@ pub mod numbers;
 pub mod outcome;
 #[cfg(test)]
 mod plans;
+pub mod prefaced;
 #[cfg(test)]
 mod systems;
 #[cfg(test)]

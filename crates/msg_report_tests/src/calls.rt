@@ -1,48 +1,18 @@
-// The text that a calls file is answered with, and the pieces that it is put in.
-use crate::counting::Counting;
+// The sinks that a calls file is answered into, and the pieces that it is put in.
+ghost use Rattle.std.specs.Prelude.{None};
+
 use crate::equal::{Have, expect_eq};
 use crate::narrow::Narrow;
 use crate::texts::long_file;
-use msg_scenario::{Calls, MemorySink, ReportFault, read_calls, run_calls};
+use msg_scenario::{Calls, PutFault, ReportFault, Sink, read_calls, run_calls};
 use std::process::Abort;
 
 /// The calls of a file that is accepted.
-pub fn calls_of(rt: &(impl Abort + AllocGlobal), file: &str) -> Calls {
+fn calls_of(rt: &(impl Abort + AllocGlobal), file: &str) -> Calls {
     read_calls(rt.alloc(), file.as_bytes()).have(rt)
 }
 
-/// A file and its text: what the examples don't show of limits and of limited reads.
-const WORKED: [(&str, &str); 3] = [
-    (r#"{"limit":0,"calls":[["batch",[]]]}"#, "batch 0+0\n"),
-    (
-        r#"{"limit":0,"calls":[["current"],["drain"]]}"#,
-        "current: none\ndrain: none\n",
-    ),
-    (
-        r#"{"limit":9,"calls":[["batch",[-1,0,5]],["read",0,0],["read",0,2],["len",0],["read",0,9]]}"#,
-        "batch 0+3\nread 0 missed 0: none\nread 0 missed 0: 0=-1 1=0\nlen 0 1\nread 0 missed 0: 2=5\n",
-    ),
-];
-
-/// The calls of this file have this text.
-fn expect_text(rt: &(impl Abort + AllocGlobal), file: &str, text: &str) {
-    let calls = calls_of(rt, file);
-    let mut sink = MemorySink::new();
-    expect_eq(rt, run_calls(rt.alloc(), &calls, &mut sink), Ok(()));
-    expect_eq(rt, (file, sink.bytes()), (file, text.as_bytes()));
-    drop(calls);
-    drop(sink);
-}
-
-#[test]
-fn worked_files(rt: HostRuntime) {
-    for (file, text) in &WORKED {
-        expect_text(&rt, file, text);
-    }
-}
-
-/// A sink that takes so many bytes at once, and so many in all, comes to this, and has just these
-/// bytes.
+/// A sink comes to this, and has just these bytes.
 fn expect_put(
     rt: &(impl Abort + AllocGlobal),
     calls: &Calls,
@@ -74,21 +44,32 @@ fn sinks_that_fail(rt: HostRuntime) {
     drop(calls);
 }
 
-/// Ten thousand lines of seven bytes each are put in a few pieces, the longest of which has 65,536
-/// bytes or up to six more.
+/// Takes every piece whole, and counts the pieces.
+#[derive(Drop)]
+struct Counting {
+    pieces: u64,
+}
+
+impl Sink for Counting {
+    ghost contents = { λ _. None };
+
+    ghost failures = { λ _. 0 };
+
+    fn put(&mut self, piece: &[u8]) -> Result<usize, PutFault> {
+        self.pieces = self.pieces.saturating_add(1);
+        Ok(piece.len())
+    }
+}
+
+/// Ten thousand lines of seven bytes each are put in a few pieces.
 #[test]
 fn lines_are_put_in_large_pieces(rt: HostRuntime) {
     let rt = &rt;
     let (_, file) = long_file(rt, r#"Ok 10000 ["update"] {"limit":1,"calls":[*]}"#);
     let calls = calls_of(rt, file.as_str());
     drop(file);
-    let mut sink = Counting::new();
+    let mut sink = Counting { pieces: 0 };
     expect_eq(rt, run_calls(rt.alloc(), &calls, &mut sink), Ok(()));
-    let (pieces, longest) = (sink.pieces(), sink.longest());
-    expect_eq(rt, sink.bytes(), 70_000);
-    expect_eq(rt, (pieces, pieces <= 4), (pieces, true));
-    let lies_within = 65_536 <= longest && longest <= 65_542;
-    expect_eq(rt, (longest, lies_within), (longest, true));
-    drop(calls);
-    drop(sink);
+    expect_eq(rt, (sink.pieces, sink.pieces <= 4), (sink.pieces, true));
+    drop((calls, sink));
 }

@@ -4,25 +4,15 @@
 #[cfg(test)]
 mod calls;
 #[cfg(test)]
-mod calls_files;
-#[cfg(test)]
 mod command;
-#[cfg(test)]
-mod counting;
 #[cfg(test)]
 mod equal;
 #[cfg(test)]
-mod file_faults;
-#[cfg(test)]
 mod from_bytes;
-#[cfg(test)]
-mod made;
 #[cfg(test)]
 mod names;
 #[cfg(test)]
 mod narrow;
-#[cfg(test)]
-mod numerals;
 #[cfg(test)]
 mod reports;
 #[cfg(test)]

@@ -6,9 +6,10 @@ ghost use Rattle.msg_world.specs.Prelude.{i64_values};
 
 use crate::equal::{Have, expect_eq, expect_text};
 use crate::scenario_files::accepted;
-use crate::sparing::{Sparing, sparing_engine, workers};
+use crate::sparing::{sparing_engine, workers};
 use msg_exec::{EngineOf, Frame, NoGate};
 use msg_names::Names;
+use msg_part_tests::prefaced::Prefaced;
 use msg_scenario::{Form, MemorySink, Scenario, put_plan, scenario_of_engine};
 use msg_system::SystemOf;
 use msg_world::TypeNo;
@@ -80,13 +81,13 @@ fn an_engine_without_names_has_a_plan(rt: HostRuntime) {
 /// What the next frame with a post and the account of the last reader tell, with these names.
 fn expect_told(
     rt: &(impl Threads + Sync + Abort + AllocGlobal),
-    engine: &mut EngineOf<Sparing>,
+    engine: &mut EngineOf<Prefaced>,
     names: Names,
     log: &str,
     account: &str,
 )
-    requires engine { IsEngine i64_values ⟦<Sparing as SystemOf>⟧.meaning engine.old }
-    ensures engine { IsEngine i64_values ⟦<Sparing as SystemOf>⟧.meaning engine.new }
+    requires engine { IsEngine i64_values ⟦<Prefaced as SystemOf>⟧.meaning engine.old }
+    ensures engine { IsEngine i64_values ⟦<Prefaced as SystemOf>⟧.meaning engine.new }
 {
     let frame = Frame::of(vec![in rt.alloc(); (TypeNo::of(1), 7)].have(rt));
     assert!(rt; engine.fits(&frame));

@@ -7,9 +7,9 @@ ghost use Rattle.msg_scenario_data.specs.Prelude.{IsRunnable, state_of};
 
 use crate::equal::Have;
 use msg_exec::{EngineOf, Workers};
+use msg_part_tests::prefaced::{Before, Prefaced};
 use msg_scenario::{Scenario, SystemSpec, add_system, engine_of};
-use msg_system::{Access, NoMemory, Reply, Scripted, Start, SystemOf};
-use msg_world::{Counts, Lent, Taken, TypeNo};
+use msg_system::{NoMemory, Scripted, SystemOf};
 use std::alloc::Global;
 use std::process::Abort;
 
@@ -17,63 +17,15 @@ pub fn workers(rt: &impl Abort, number: u32) -> Workers {
     Workers::new(number).have(rt)
 }
 
-/// A script that has memory for `runs` more runs.
-#[derive(Drop)]
-pub struct Sparing {
-    script: Scripted,
-    runs: u32,
-}
-
-impl Sparing {
-    fn new(spec: &SystemSpec, alloc: Global, writer: u32, runs: u32) -> Result<Sparing, NoMemory>
-        requires few { length spec.now.program.ops ≤ 64 }
-        ensures new { IfOk result (λ s. ⟦<Sparing as SystemOf>⟧.meaning s
-            ≡ new_system spec.now.program writer) }
-    {
-        let script = Scripted::new(spec.program.copy(alloc)?, writer);
-        Ok(Sparing { script, runs })
-    }
-}
-
-impl SystemOf for Sparing {
-    type Value = i64;
-
-    ghost use Rattle.std.specs.Prelude.{IfOk};
-    ghost use Rattle.msg_world.specs.Prelude.{SameShape, i64_values, taken_of};
-    ghost use Rattle.msg_system.specs.Prelude.{Covers, Ran};
-
-    ghost meaning = { λ s. ⟦<Scripted as SystemOf>⟧.meaning s.script };
-
-    fn access(&self) -> Access {
-        self.script.access()
-    }
-
-    fn read_type(&self, op: u32) -> Option<TypeNo> {
-        self.script.read_type(op)
-    }
-
-    fn begins(&self) -> Start {
-        self.script.begins()
-    }
-
-    fn start(&mut self, counts: &Counts) {
-        self.script.start(counts);
-    }
-
-    fn run(&mut self, alloc: Global, lent: Lent, out: &mut Vec<Reply>) -> Result<Taken, NoMemory>
-        requires covers { Covers (⟦<Scripted as SystemOf>⟧.meaning self.old.script).needs lent }
-        ensures ran { IfOk result
-            (λ taken. Ran i64_values (⟦<Scripted as SystemOf>⟧.meaning self.old.script)
-            (⟦<Scripted as SystemOf>⟧.meaning self.new.script)
-            lent.entry taken out.old.items out.new.items) }
-        ensures shape { IfOk result (λ taken. SameShape (taken_of lent.entry) taken) }
-    {
-        if self.runs == 0 {
-            return Err(NoMemory);
-        }
-        self.runs -= 1;
-        self.script.run(alloc, lent, out)
-    }
+/// A script that has memory for `runs` runs.
+fn sparing(spec: &SystemSpec, alloc: Global, writer: u32, runs: u32) -> Result<Prefaced, NoMemory>
+    requires few { length spec.now.program.ops ≤ 64 }
+    ensures new { IfOk result (λ s. ⟦<Prefaced as SystemOf>⟧.meaning s
+        ≡ new_system spec.now.program writer) }
+{
+    let script = Scripted::new(spec.program.copy(alloc)?, writer);
+    let before = Before::FailAfter(runs);
+    Ok(Prefaced { script, before })
 }
 
 /// The systems of the scenario; each of them has memory for `runs` runs.
@@ -81,17 +33,17 @@ pub fn sparing_systems(
     alloc: Global,
     scenario: &Scenario,
     runs: u32,
-) -> Result<Vec<Sparing>, NoMemory>
+) -> Result<Vec<Prefaced>, NoMemory>
     requires runnable { IsRunnable scenario.now }
     ensures as_many { IfOk result (λ v. length v.items ≡ length scenario.now.systems) }
     ensures each { IfOk result (λ v.
-        EachIs (IsSystemAt ⟦<Sparing as SystemOf>⟧.meaning scenario.now.systems) v.items) }
+        EachIs (IsSystemAt ⟦<Prefaced as SystemOf>⟧.meaning scenario.now.systems) v.items) }
 {
     let mut systems = Vec::new(alloc);
     let specs = scenario.systems.as_slice();
     for spec in specs {
         let writer = systems.len() as u32;
-        let system = Sparing::new(spec, alloc, writer, runs)?;
+        let system = sparing(spec, alloc, writer, runs)?;
         add_system(specs, spec, &mut systems, system)?;
     }
     Ok(systems)
@@ -102,10 +54,10 @@ pub fn sparing_engine(
     alloc: Global,
     scenario: &Scenario,
     runs: u32,
-) -> Result<EngineOf<Sparing>, NoMemory>
+) -> Result<EngineOf<Prefaced>, NoMemory>
     requires runnable { IsRunnable scenario.now }
     ensures stands { IfOk result (λ e.
-        EngineStands ⟦<Sparing as SystemOf>⟧.meaning e (state_of scenario.now)) }
+        EngineStands ⟦<Prefaced as SystemOf>⟧.meaning e (state_of scenario.now)) }
 {
     engine_of(alloc, scenario, sparing_systems(alloc, scenario, runs)?)
 }

@@ -68,7 +68,8 @@ fn expect_successors(rt: &impl Abort, results: &[Counted]) {
     expect_eq(rt, values, (11, 21, 31));
 }
 
-/// Draws the three jobs by two passes, hands in their successors, and ends both passes.
+/// Draws the three jobs by two passes, hands in their successors, and ends both passes: the second
+/// holds a job while the first draws all others. Both draw None twice.
 fn work_off<'a>(
     rt: &impl Abort,
     board: &Board<AddOne<'a>>,
@@ -84,10 +85,13 @@ fn work_off<'a>(
     let first = draw_next(rt, board, a, 0);
     let second = draw_next(rt, board, b, 1);
     board.hand_in(a, 0, finish(rt, first, 10, dropped));
+    expect_eq(rt, (a.holding(), b.holding()), (None, Some(1)));
     let third = draw_next(rt, board, a, 2);
     board.hand_in(a, 2, finish(rt, third, 30, dropped));
     draw_none(rt, board, a);
+    draw_none(rt, board, a);
     board.hand_in(b, 1, finish(rt, second, 20, dropped));
+    draw_none(rt, board, b);
     draw_none(rt, board, b);
 }
 
@@ -142,7 +146,7 @@ fn is_refused<'a>(
 }
 
 #[test]
-fn worked_board(rt: HostRuntime) -> Result<(), Fail> {
+fn board_of_three(rt: HostRuntime) -> Result<(), Fail> {
     let rt = &rt;
     let (jobs_dropped, results_dropped) = (AtomicU64::new(0), AtomicU64::new(0));
     let jobs = three_jobs(rt.alloc(), &jobs_dropped)?;

@@ -1,6 +1,6 @@
 // If there is no memory for a plan there is none, and the same call gives it once memory is
 // there.
-use super::{CONTRADICTORY, contradictory_plan, cycle_in, has_batches};
+use super::{contradictory_plan, cycle_in, expect_contradictory};
 use crate::equal::expect_eq;
 use crate::outcome::tell;
 use std::alloc::Global;
@@ -11,7 +11,7 @@ use std::test::Fail;
 fn is_refused(rt: &impl Abort, alloc: Global) -> bool {
     match contradictory_plan(alloc) {
         Ok(plan) => {
-            expect_eq(rt, has_batches(&plan, &CONTRADICTORY), true);
+            expect_contradictory(rt, &plan);
             drop(plan);
             false
         }

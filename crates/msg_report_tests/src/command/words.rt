@@ -1,6 +1,6 @@
 // What command lines ask for.
 use crate::equal::{Have, expect_eq};
-use msg_command::{WordFault, parse_words};
+use msg_command::parse_words;
 use std::process::Abort;
 
 /// The words of a line, which blanks part. Two quotes are the empty word.
@@ -13,159 +13,74 @@ fn words_of(rt: &(impl Abort + AllocGlobal), line: &str) -> Vec<String> {
     words
 }
 
-/// Command lines, and what they are parsed as.
-const ACTIONS: [(&str, &str); 53] = [
-    ("", "Ok(Buffer(None))"),
-    ("buffer f", "Ok(Buffer(Some(\"f\")))"),
-    ("buffer -", "Ok(Buffer(Some(\"-\")))"),
-    ("buffer ''", "Ok(Buffer(Some(\"\")))"),
-    ("buffer -- --help", "Ok(Buffer(Some(\"--help\")))"),
-    ("run f", "Ok(Run { file: \"f\", workers: 1, json: false })"),
-    (
-        "run f --workers 7",
-        "Ok(Run { file: \"f\", workers: 7, json: false })",
-    ),
-    (
-        "run --workers 7 f",
-        "Ok(Run { file: \"f\", workers: 7, json: false })",
-    ),
-    (
-        "run f --workers=64",
-        "Ok(Run { file: \"f\", workers: 64, json: false })",
-    ),
-    (
-        "run f --workers 1",
-        "Ok(Run { file: \"f\", workers: 1, json: false })",
-    ),
-    (
-        "run -- --workers",
-        "Ok(Run { file: \"--workers\", workers: 1, json: false })",
-    ),
-    (
-        "run - --workers 2",
-        "Ok(Run { file: \"-\", workers: 2, json: false })",
-    ),
-    ("run ''", "Ok(Run { file: \"\", workers: 1, json: false })"),
-    (
-        "run f --json --workers 2",
-        "Ok(Run { file: \"f\", workers: 2, json: true })",
-    ),
-    (
-        "run --json f",
-        "Ok(Run { file: \"f\", workers: 1, json: true })",
-    ),
-    ("run f --json=false", "Err(Bad)"),
-    ("serve f", "Ok(Serve { file: \"f\", workers: 1 })"),
-    (
-        "serve f --workers 64",
-        "Ok(Serve { file: \"f\", workers: 64 })",
-    ),
-    ("serve f --workers 65", "Err(Bad)"),
-    ("serve f --json", "Err(Bad)"),
-    ("serve", "Err(Bad)"),
-    ("run f --workers 0", "Err(Bad)"),
-    ("run f --workers 65", "Err(Bad)"),
-    ("run f --workers x", "Err(Bad)"),
-    ("run f --workers -1", "Err(Bad)"),
-    ("run f --workers 4294967297", "Err(Bad)"),
-    ("run f --workers=", "Err(Bad)"),
-    ("run f --workers", "Err(Bad)"),
-    ("run f --workers 2 --workers 3", "Err(Bad)"),
-    ("run", "Err(Bad)"),
-    ("run --workers 7", "Err(Bad)"),
-    ("run f g", "Err(Bad)"),
-    (
-        "run 2 3 4 5 6 7 8 9 10 11 12 13 14 15 16 17 18 19 20",
-        "Err(Bad)",
-    ),
-    ("walk f", "Err(Bad)"),
-    ("walk run f", "Err(Bad)"),
-    ("--workers 7", "Err(Bad)"),
-    ("--workers 7 run f", "Err(Bad)"),
-    ("buffer", "Err(Bad)"),
-    ("buffer f g", "Err(Bad)"),
-    ("walk buffer f", "Err(Bad)"),
-    ("f", "Err(Bad)"),
-    ("buffer --workers 2 f", "Err(Bad)"),
-    ("plan f", "Ok(Plan { file: \"f\", frame: 1, dot: false })"),
-    (
-        "plan f --frame 7",
-        "Ok(Plan { file: \"f\", frame: 7, dot: false })",
-    ),
-    (
-        "plan --dot f",
-        "Ok(Plan { file: \"f\", frame: 1, dot: true })",
-    ),
-    (
-        "plan --frame=10000 --dot f",
-        "Ok(Plan { file: \"f\", frame: 10000, dot: true })",
-    ),
-    ("plan f --frame 0", "Err(Bad)"),
-    ("plan f --frame 10001", "Err(Bad)"),
-    ("plan f --frame x", "Err(Bad)"),
-    ("plan f --dot --dot", "Err(Bad)"),
-    ("plan f --dot=false", "Err(Bad)"),
-    ("plan --dot", "Err(Bad)"),
-    ("run f --dot", "Err(Bad)"),
+/// Command lines, each before what it is parsed as.
+const ACTIONS: [&str; 53] = [
+    " => Ok(Buffer(None))",
+    r#"buffer f => Ok(Buffer(Some("f")))"#,
+    r#"buffer - => Ok(Buffer(Some("-")))"#,
+    r#"buffer '' => Ok(Buffer(Some("")))"#,
+    r#"buffer -- --help => Ok(Buffer(Some("--help")))"#,
+    r#"run f => Ok(Run { file: "f", workers: 1, json: false })"#,
+    r#"run f --workers 7 => Ok(Run { file: "f", workers: 7, json: false })"#,
+    r#"run --workers 7 f => Ok(Run { file: "f", workers: 7, json: false })"#,
+    r#"run f --workers=64 => Ok(Run { file: "f", workers: 64, json: false })"#,
+    r#"run f --workers 1 => Ok(Run { file: "f", workers: 1, json: false })"#,
+    r#"run -- --workers => Ok(Run { file: "--workers", workers: 1, json: false })"#,
+    r#"run - --workers 2 => Ok(Run { file: "-", workers: 2, json: false })"#,
+    r#"run '' => Ok(Run { file: "", workers: 1, json: false })"#,
+    r#"run f --json --workers 2 => Ok(Run { file: "f", workers: 2, json: true })"#,
+    r#"run --json f => Ok(Run { file: "f", workers: 1, json: true })"#,
+    "run f --json=false => Err(Bad)",
+    r#"serve f => Ok(Serve { file: "f", workers: 1 })"#,
+    r#"serve f --workers 64 => Ok(Serve { file: "f", workers: 64 })"#,
+    "serve f --workers 65 => Err(Bad)",
+    "serve f --json => Err(Bad)",
+    "serve => Err(Bad)",
+    "run f --workers 0 => Err(Bad)",
+    "run f --workers 65 => Err(Bad)",
+    "run f --workers x => Err(Bad)",
+    "run f --workers -1 => Err(Bad)",
+    "run f --workers 4294967297 => Err(Bad)",
+    "run f --workers= => Err(Bad)",
+    "run f --workers => Err(Bad)",
+    "run f --workers 2 --workers 3 => Err(Bad)",
+    "run => Err(Bad)",
+    "run --workers 7 => Err(Bad)",
+    "run f g => Err(Bad)",
+    "run 2 3 4 5 6 7 8 9 10 11 12 13 14 15 16 17 18 19 20 => Err(Bad)",
+    "walk f => Err(Bad)",
+    "walk run f => Err(Bad)",
+    "--workers 7 => Err(Bad)",
+    "--workers 7 run f => Err(Bad)",
+    "buffer => Err(Bad)",
+    "buffer f g => Err(Bad)",
+    "walk buffer f => Err(Bad)",
+    "f => Err(Bad)",
+    "buffer --workers 2 f => Err(Bad)",
+    r#"plan f => Ok(Plan { file: "f", frame: 1, dot: false })"#,
+    r#"plan f --frame 7 => Ok(Plan { file: "f", frame: 7, dot: false })"#,
+    r#"plan --dot f => Ok(Plan { file: "f", frame: 1, dot: true })"#,
+    r#"plan --frame=10000 --dot f => Ok(Plan { file: "f", frame: 10000, dot: true })"#,
+    "plan f --frame 0 => Err(Bad)",
+    "plan f --frame 10001 => Err(Bad)",
+    "plan f --frame x => Err(Bad)",
+    "plan f --dot --dot => Err(Bad)",
+    "plan f --dot=false => Err(Bad)",
+    "plan --dot => Err(Bad)",
+    "run f --dot => Err(Bad)",
 ];
 
 #[test]
 fn actions(rt: HostRuntime) {
     let rt = &rt;
-    for (line, want) in &ACTIONS {
+    for row in &ACTIONS {
+        let (line, want) = row.split_once(" => ").have(rt);
         let words = words_of(rt, line);
         let parsed = parse_words(rt.alloc(), words.as_slice());
         drop(words);
         let text = format!(in rt.alloc(); "{parsed:?}").have(rt);
         drop(parsed);
-        expect_eq(rt, (*line, text.as_str()), (*line, *want));
+        expect_eq(rt, (line, text.as_str()), (line, want));
         drop(text);
-    }
-}
-
-/// Command lines that ask for help, each with a piece of the help that it gets. The examples have
-/// the whole text if it is asked for by `--help`.
-const HELPS: [(&str, &str); 18] = [
-    ("-h", "msgrun [COMMAND]"),
-    ("-h", "buffer"),
-    ("-h", "docs/FORMATS.md"),
-    ("help", "msgrun [COMMAND]"),
-    ("help", "buffer"),
-    ("help", "docs/FORMATS.md"),
-    ("help buffer", "msgrun buffer <FILE>"),
-    ("help buffer", "read 0 missed 0: 0=7 1=8\n"),
-    ("help buffer", "docs/FORMATS.md"),
-    ("help run", "[default: 1]"),
-    ("help run", "r read hit missed 0: 0=5@w 1=6@host\n"),
-    ("help run", "[\"resource_equals\",r,v]"),
-    ("help plan", "--dot"),
-    ("help plan", "--frame <K>"),
-    ("help plan", "longest chain: r w (2)\n"),
-    ("--version", "msgrun"),
-    ("--version", "1.0.0"),
-    ("--version", "\n"),
-];
-
-#[test]
-fn help(rt: HostRuntime) {
-    for (line, piece) in &HELPS {
-        expect_help(&rt, line, piece);
-    }
-}
-
-/// A command line gets help that has this piece.
-fn expect_help(rt: &(impl Abort + AllocGlobal), line: &str, piece: &str) {
-    let words = words_of(rt, line);
-    let fault = parse_words(rt.alloc(), words.as_slice()).err().have(rt);
-    drop(words);
-    let text = help_in(fault).have(rt);
-    expect_eq(rt, (line, piece, text.contains(piece)), (line, piece, true));
-    drop(text);
-}
-
-fn help_in(fault: WordFault) -> Option<String> {
-    match fault {
-        WordFault::Help(text) => Some(text),
-        _ => None,
     }
 }

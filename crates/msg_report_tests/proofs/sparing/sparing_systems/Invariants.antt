@@ -1,7 +1,7 @@
 use Rattle.std.proofs.Common.{◌≡◌, length}
 use Rattle.msg_exec.specs.Prelude.{EachIs}
 use Rattle.msg_reports.specs.Prelude.{IsSystemAt}
-use Rattle.msg_report_tests.specs.contracts.sparing.SparingSystemOf.TheImpl.{meaning-value}
+use Rattle.msg_part_tests.specs.contracts.prefaced.PrefacedSystemOf.TheImpl.{meaning-value}
 use Rattle.msg_report_tests.proofs.sparing.sparing_systems.Given as goal
 
 abbrev pub invariant-loop-spec : goal.invariant-loop-spec
