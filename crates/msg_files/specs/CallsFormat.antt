@@ -1,5 +1,5 @@
 -- A calls file, read from a JSON value.
-use Rattle.std.specs.Prelude.{ℕ, ◌+◌, ◌||◌, ℤ, nat_lt, Bool, List, [], ◌∷◌, Some, None, Ok, codes, if◌then◌else◌}
+use Rattle.std.specs.Prelude.{ℕ, ◌+◌, ℤ, nat_lt, List, [], ◌∷◌, Some, None, Ok, codes, if◌then◌else◌}
 use Rattle.std.specs.Str.{bytes_eq}
 use Rattle.serde_json.specs.Data.{Data}
 use Rattle.msg_text.specs.Text.{Text}
@@ -10,6 +10,7 @@ use Rattle.msg_files.specs.declared.limits.TheConstants.{MAX_CALLS, MAX_CURSORS}
 use Rattle.msg_files.specs.declared.call.Call.{Call}
 use Rattle.msg_files.specs.declared.call.Call.TheVariants as call
 use Rattle.msg_json.specs.declared.location.Key.TheVariants as key
+use Rattle.msg_json.specs.declared.location.TheConstants.{CALLS_KEYS}
 use Rattle.msg_json.specs.declared.reason.Reason.TheVariants as reason
 
 -- a call that makes a cursor, if fewer than `MAX_CURSORS` were made before
@@ -105,14 +106,10 @@ calls_from made n (d ∷ ds) =
 abbrev pub calls_of : Data → Reading (List Call)
 calls_of d = list_up_to MAX_CALLS d >>= calls_from 1 0
 
--- the keys that a calls file has
-abbrev pub is_known : Text → Bool
-is_known key = bytes_eq key (codes "limit") || bytes_eq key (codes "calls")
-
 -- a file: an object with the keys `limit` and `calls`, and no others
 abbrev pub file_of : Data → Reading CallsFile
 file_of d =
-    known_keys is_known d >>= λ _.
+    known_keys CALLS_KEYS.now d >>= λ _.
     at_key key.Limit d >>= λ limit.
     at_key key.Calls d >>= λ calls.
     in_section key.Limit (limit_of limit) >>= λ limit.

@@ -1,5 +1,3 @@
 -- reading a file: lists of JSON values, element by element
 pub mod WalksOverLists
 pub mod FaultsOfFiles
-pub mod KeysInOrder
-pub mod NearNames

@@ -1,8 +1,6 @@
 pub mod Json
+pub mod Keys
 pub mod Faults
 pub mod Values
 pub mod Seen
 pub mod Prelude
-pub mod Nearest
-pub mod Told
-pub mod inner

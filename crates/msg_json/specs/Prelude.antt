@@ -3,6 +3,6 @@ pub use Rattle.msg_json.specs.Faults.{IsFaultOf, IsRefusedFor, IsUnread, Reading
 pub use Rattle.msg_json.specs.Json.{IsJsonOf, IsNotJson, elements, is_list, is_list_of_numbers, is_number, is_object, keys, keys_of, list_of, not_negative, only_below}
 pub use Rattle.msg_json.specs.Seen.{head_seen, items_seen, number_seen, text_seen, value_seen}
 pub use Rattle.msg_json.specs.Values.{at_key, batch_of, below, headed, known_keys, limit, limit_of, list_up_to, natural, number_of, numbers_of, text_of as text_in, value_of, values_from, values_of, whole}
-pub use Rattle.msg_json.specs.Told.{told}
+pub use Rattle.msg_json.specs.Keys.{is_calls_file}
 pub use Rattle.msg_json.specs.declared.refusal.Refusal.{Refusal}
 pub use Rattle.msg_json.specs.declared.refusal.Refusal.TheVariants.{NoMemory, NotJson, Shape, TooMany, UnknownKey}

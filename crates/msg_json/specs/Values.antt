@@ -1,5 +1,6 @@
 -- The parts of files: objects, lists, texts and numbers, read from JSON values.
 use Rattle.std.specs.Prelude.{ℕ, ◌+◌, ℤ, ⊤, nat_le, not, Bool, List, [], ◌∷◌, length, position, Some, None, Ok, Err, option_and_then}
+use Rattle.std.specs.{List.list_any, Str.bytes_eq}
 use Rattle.serde_json.specs.{Data.Data, Find.get, Find.as_i64, Find.as_number, Find.as_str, Data.Num}
 use Rattle.msg_text.specs.Text.{Text}
 use Rattle.msg_json.specs.Json.{elements, is_list, is_list_of_numbers, is_object, keys, not_negative, only_below}
@@ -17,9 +18,14 @@ known_among known names = elim (position (λ name. not (known name)) names) [
   | Some n ↦ Err (record { reason = reason.UnknownKey; location = record here { member = Some n } })
 ]
 
+-- a text is one of these keys
+abbrev pub is_among : List Key → Text → Bool
+is_among known text = list_any (λ key. bytes_eq text (key_text key)) known
+
 -- an object that has none but these keys
-abbrev pub known_keys : (Text → Bool) → Data → Reading ⊤
-known_keys known d = wanted (is_object d) reason.Object >>= λ _. known_among known (keys d)
+abbrev pub known_keys : List Key → Data → Reading ⊤
+known_keys known d =
+    wanted (is_object d) reason.Object >>= λ _. known_among (is_among known) (keys d)
 
 -- what an object has at a key
 abbrev pub at_key : Key → Data → Reading Data

@@ -4,7 +4,7 @@ ghost use Rattle.serde_json.specs.View.{view};
 ghost use Rattle.msg_json.specs.Faults.{IsUnread};
 ghost use Rattle.msg_json.specs.Json.{IsJsonOf};
 ghost use Rattle.msg_json.specs.Seen.{head_seen, items_seen, text_seen, value_seen};
-ghost use Rattle.msg_json.specs.Values.{at_key, headed, known_keys, list_up_to, text_of};
+ghost use Rattle.msg_json.specs.Values.{at_key, headed, is_among, known_keys, list_up_to, text_of};
 
 use crate::fault::Fault;
 use crate::file_fault::FileFault;
@@ -30,27 +30,15 @@ pub fn parse(alloc: Global, bytes: &[u8]) -> Result<Value, FileFault>
     }
 }
 
-/// The keys that an object may have.
-pub trait Keys {
-    ghost use Rattle.std.specs.Prelude.{Bool};
-    ghost use Rattle.msg_text.specs.Text.{Text};
-
-    /// Whether it may have this key.
-    ghost known: { Text → Bool };
-
-    fn is_known(key: &str) -> bool
-        ensures known { result ≡ known key.now };
-}
-
-/// Checks that a value is an object that has no unknown key.
+/// Checks that a value is an object that has none but these keys.
 #[tactic(auto, using(crate::proofs::WalksOverLists::list_steps))]
-pub fn check_keys<K: Keys>(value: &Value) -> Result<(), Fault>
-    ensures checked { result ≡ known_keys K.known (view value.now) }
+pub fn check_keys(value: &Value, known: &[Key]) -> Result<(), Fault>
+    ensures checked { result ≡ known_keys known.now (view value.now) }
 {
     let Some(members) = value.as_object() else {
         return Err(Fault::here(Reason::Object));
     };
-    match first_unknown::<K>(members) {
+    match first_unknown(members, known) {
         None => Ok(()),
         member => Err(Fault {
             reason: Reason::UnknownKey,
@@ -63,13 +51,19 @@ pub fn check_keys<K: Keys>(value: &Value) -> Result<(), Fault>
 }
 
 /// The number of the first key that isn't known.
-fn first_unknown<K: Keys>(members: &Map<String, Value>) -> Option<usize>
+fn first_unknown(members: &Map<String, Value>, known: &[Key]) -> Option<usize>
     ensures { result
-        ≡ position (λ m. not (K.known (string_bytes m.0))) members.now.entries }
+        ≡ position (λ m. not (is_among known.now (string_bytes m.0))) members.now.entries }
 {
     members
         .iter()
-        .position(|(key, _)| !K::is_known(key.as_str()))
+        .position(|(key, _)| !is_among(known, key.as_str()))
+}
+
+fn is_among(known: &[Key], text: &str) -> bool
+    ensures { result ≡ is_among known.now text.now }
+{
+    known.iter().any(|key| text == key.text())
 }
 
 /// What stands at a key that has to be there.

@@ -1,5 +1,9 @@
 ghost use Rattle.std.specs.Prelude.{◌≡◌};
+ghost use Rattle.serde_json.specs.View.{view};
 ghost use Rattle.msg_json.specs.Faults.{after, here, key_text};
+ghost use Rattle.msg_json.specs.Keys.{count_keys, is_calls_file};
+
+use serde_json::Value;
 
 /// The keys of files and of systems.
 #[derive(Clone, Copy, Debug, PartialEq, Eq)]
@@ -42,6 +46,46 @@ impl Key {
             Key::Start => "start",
         }
     }
+}
+
+/// The keys of calls files.
+pub const CALLS_KEYS: &[Key] = &[Key::Limit, Key::Calls];
+
+/// The keys of scenario files.
+pub const SCENARIO_KEYS: &[Key] = &[
+    Key::Types,
+    Key::Resources,
+    Key::Held,
+    Key::Systems,
+    Key::Rules,
+    Key::Frames,
+];
+
+/// The keys of systems.
+pub const SYSTEM_KEYS: &[Key] = &[
+    Key::Name,
+    Key::Kind,
+    Key::Ops,
+    Key::If,
+    Key::Join,
+    Key::Start,
+];
+
+/// Whether a value is to be a calls file: it has a key of these, and not more keys of scenarios.
+pub fn is_calls_file(file: &Value) -> bool
+    ensures is { result ≡ is_calls_file (view file.now) }
+{
+    let calls = count(CALLS_KEYS, file);
+    calls > 0 && calls >= count(SCENARIO_KEYS, file)
+}
+
+/// How many of these keys an object has.
+fn count(keys: &[Key], file: &Value) -> usize
+    ensures count { result ≡ count_keys keys.now (view file.now) }
+{
+    keys.iter()
+        .filter(|key| file.get(key.text()).is_some())
+        .count()
 }
 
 /// A step from a value of a file to what stands within it.

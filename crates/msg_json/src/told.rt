@@ -1,107 +1,152 @@
-// What people are told of the fault of a file.
-ghost use Rattle.std.specs.Prelude.{◌≡◌, ◌++◌, OnOk};
-ghost use Rattle.serde_json.specs.View.{view};
-ghost use Rattle.msg_json.specs.Told as Spec;
-
-use crate::{Fault, Location};
+// What people are told of the fault of a file. No clause says anything of these texts.
+use crate::{Fault, Key, Location};
 use msg_buffer::NoMemory;
-use serde_json::Value;
+use serde_json::{Map, Value};
 use std::alloc::Global;
 
+mod list;
 mod nearest;
-mod path;
-mod reason;
-mod shown;
+mod sentence;
 
-use nearest::add_hint;
-pub use nearest::{add_question, is_within};
-pub use path::value_at;
-use path::{add_path, system_name};
-pub use reason::add_reason;
-use shown::{add_key, add_shown};
+pub use nearest::Names;
+pub use sentence::why;
 
-/// Adds two lines on a fault of the JSON value that a file is: where it lies and what stands there,
-/// and why that is refused.
+/// How many bytes of a text are shown at most.
+const LONGEST: usize = 60;
+
+/// Two lines on a fault of the JSON value that a file is: where it lies and what stands there, and
+/// why that is refused.
 ///
 /// ```text
 /// at systems[7].ops[1][1]: "arive2" (system "tower2")
 /// no type has this name; did you mean arrive2?
 /// ```
-pub fn add_told(
-    alloc: Global,
-    text: &mut Vec<u8>,
-    fault: &Fault,
-    file: &Value,
-) -> Result<(), NoMemory>
-    ensures appends { OnOk result
-        (text.new.items ≡ text.old.items ++ Spec.told fault.now (view file.now)) }
-{
-    add_place(alloc, text, fault.location, file)?;
-    add_why(text, fault, file)
+pub fn fault_lines(alloc: Global, fault: &Fault, file: &Value) -> Result<String, NoMemory> {
+    let place = fault.location;
+    let there = value_at(file, place);
+    let names = Names::of_file(alloc, file)?;
+    let why = why(alloc, fault, file, &names)?;
+    let mut text = String::new(alloc);
+    add_path(&mut text, place)?;
+    add_there(alloc, &mut text, place, there)?;
+    if let Some(name) = system_name(file, place) {
+        text.push_str(" (system ")?;
+        add_shown(alloc, &mut text, name)?;
+        text.push_str(")")?;
+    }
+    write!(text, "\n{}\n", why.as_str())?;
+    Ok(text)
 }
 
-/// Adds the line of a location, and of what stands there.
-fn add_place(
-    alloc: Global,
-    text: &mut Vec<u8>,
-    location: Location,
-    file: &Value,
-) -> Result<(), NoMemory>
-    ensures appends { OnOk result
-        (text.new.items ≡ text.old.items ++ Spec.place_line location (view file.now)) }
-{
-    text.extend_from_slice(b"at ")?;
-    add_path(text, location)?;
-    text.extend_from_slice(b": ")?;
-    add_there(alloc, text, location, file)?;
-    add_system_name(alloc, text, location, file)?;
-    text.extend_from_slice(b"\n")
-}
-
-/// Adds the line of a reason, and of the name that may have been meant.
-fn add_why(text: &mut Vec<u8>, fault: &Fault, file: &Value) -> Result<(), NoMemory>
-    ensures appends { OnOk result (text.new.items ≡ text.old.items
-        ++ Spec.reason_line fault.now.reason (view file.now)
-        (Spec.value_at fault.now.location (view file.now))) }
-{
-    add_reason(text, fault.reason)?;
-    add_hint(text, fault.reason, file, value_at(file, fault.location))?;
-    text.extend_from_slice(b"\n")
-}
-
-/// Adds what stands at a location: a value, or a key of it.
-fn add_there(
-    alloc: Global,
-    text: &mut Vec<u8>,
-    location: Location,
-    file: &Value,
-) -> Result<(), NoMemory>
-    ensures appends { OnOk result
-        (text.new.items ≡ text.old.items ++ Spec.there location (view file.now)) }
-{
-    let Some(value) = value_at(file, location) else {
-        return Ok(());
+/// Adds the path of a place.
+fn add_path(text: &mut String, place: Location) -> Result<(), NoMemory> {
+    let root = match place.section {
+        None => "the root",
+        Some(key) => key.text(),
     };
-    match location.member {
-        None => add_shown(alloc, text, value),
-        Some(n) => add_key(alloc, text, value, n),
+    write!(text, "at {root}")?;
+    add_number(text, place.element)?;
+    if let Some(key) = place.key {
+        write!(text, ".{}", key.text())?;
+    }
+    add_number(text, place.item)?;
+    for _ in 0..place.nots {
+        text.push_str("[1]")?;
+    }
+    add_number(text, place.part)?;
+    add_number(text, place.value)
+}
+
+fn add_number(text: &mut String, number: Option<usize>) -> Result<(), NoMemory> {
+    match number {
+        Some(number) => write!(text, "[{number}]"),
+        None => Ok(()),
     }
 }
 
-/// Adds the name of the system in which a location lies.
-fn add_system_name(
+/// Adds what stands at a place: a value, or a key of it.
+fn add_there(
     alloc: Global,
-    text: &mut Vec<u8>,
-    location: Location,
-    file: &Value,
-) -> Result<(), NoMemory>
-    ensures appends { OnOk result
-        (text.new.items ≡ text.old.items ++ Spec.system_text location (view file.now)) }
-{
-    let Some(name) = system_name(file, location) else {
+    text: &mut String,
+    place: Location,
+    there: Option<&Value>,
+) -> Result<(), NoMemory> {
+    text.push_str(": ")?;
+    let Some(value) = there else {
         return Ok(());
     };
-    text.extend_from_slice(b" (system ")?;
-    add_shown(alloc, text, name)?;
-    text.extend_from_slice(b")")
+    match place.member {
+        None => add_shown(alloc, text, value),
+        Some(number) => {
+            text.push_str("the key ")?;
+            add_text(alloc, text, key_at(value, number).unwrap_or(""))
+        }
+    }
+}
+
+/// Adds a value in short: as JSON, if that is short.
+fn add_shown(alloc: Global, text: &mut String, value: &Value) -> Result<(), NoMemory> {
+    if let Some(items) = value.as_array() {
+        return write!(text, "a list of {}", items.len());
+    }
+    if value.is_object() {
+        return text.push_str("an object");
+    }
+    if value.is_f64() {
+        return text.push_str("a number that is no whole number of 64 bits");
+    }
+    match value.as_str() {
+        Some(shown) if shown.len() > LONGEST => write!(text, "a text of {} bytes", shown.len()),
+        _ => text.push_str(value.to_string(alloc)?.as_str()),
+    }
+}
+
+/// Adds a text in short, as if it were a value.
+fn add_text(alloc: Global, text: &mut String, shown: &str) -> Result<(), NoMemory> {
+    let value = Value::try_from_str(alloc, shown)?;
+    add_shown(alloc, text, &value)
+}
+
+/// What stands at a place in a file.
+fn value_at(file: &Value, place: Location) -> Option<&Value> {
+    let section = keyed(file, place.section)?;
+    let element = numbered(section, place.element)?;
+    let at_key = keyed(element, place.key)?;
+    let mut inside = numbered(at_key, place.item)?;
+    for _ in 0..place.nots {
+        inside = inside.get(1usize)?;
+    }
+    numbered(numbered(inside, place.part)?, place.value)
+}
+
+fn keyed(value: &Value, key: Option<Key>) -> Option<&Value> {
+    match key {
+        None => Some(value),
+        Some(key) => value.get(key.text()),
+    }
+}
+
+fn numbered(value: &Value, number: Option<usize>) -> Option<&Value> {
+    match number {
+        None => Some(value),
+        Some(number) => value.get(number),
+    }
+}
+
+/// The name of the system in which a place lies.
+fn system_name(file: &Value, place: Location) -> Option<&Value> {
+    match place.section {
+        Some(Key::Systems) => {
+            let system = file.get(Key::Systems.text())?.get(place.element?)?;
+            system.get(Key::Name.text())
+        }
+        _ => None,
+    }
+}
+
+/// The key of this number, in the order of the keys' bytes.
+fn key_at(value: &Value, number: usize) -> Option<&str> {
+    let members: &Map<String, Value> = value.as_object()?;
+    let (key, _) = members.iter().nth(number)?;
+    Some(key.as_str())
 }

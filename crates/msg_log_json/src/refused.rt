@@ -1,15 +1,15 @@
 // The line of a refusal.
-ghost use Rattle.std.specs.Prelude.{◌≡◌, ◌++◌, OnOk, map, option_and_then, option_map};
-ghost use Rattle.std.specs.Option.{option_map_or};
-ghost use Rattle.serde_json.specs.{Find.as_str, View.view};
-ghost use Rattle.msg_json.specs.{Nearest.question, Told.number_step, Told.value_at};
+ghost use Rattle.std.specs.Prelude.{◌≡◌, ◌++◌, OnOk};
 ghost use Rattle.msg_log_json.specs.Prelude as Spec;
+ghost use Rattle.msg_log_json.specs.RefusedJson.{number_step};
+ghost use Rattle.msg_text.specs.Prelude.{Text};
 
 use msg_buffer::NoMemory;
-use msg_json::{Fault, Location, Reason, Refusal, add_question, add_reason, is_within, value_at};
-use msg_scenario_data::{Name, Scenario};
+use msg_json::{Fault, Location, Names, Refusal, why};
+use msg_scenario_data::Scenario;
 use msg_text::numerals::add_count;
 use serde_json::Value;
+use std::alloc::Global;
 
 /// The line of a fault of a line's value: its refusal, where in the line it lies, and why.
 pub fn add_refused_line(
@@ -18,15 +18,47 @@ pub fn add_refused_line(
     fault: &Fault,
     line: &Value,
 ) -> Result<(), NoMemory>
-    ensures appends { OnOk result (text.new.items
-        ≡ text.old.items ++ Spec.refused_line scenario.now fault.now (view line.now)) }
+    ensures appends { OnOk result ((why : Text)
+        × (text.new.items ≡ text.old.items ++ Spec.refused_line fault.now why)) }
+{
+    let why = why_refused(*text.allocator(), scenario, fault, line)?;
+    add_because(text, fault, why.as_str())
+}
+
+/// The same, with this sentence.
+fn add_because(text: &mut Vec<u8>, fault: &Fault, why: &str) -> Result<(), NoMemory>
+    ensures appends { OnOk result
+        (text.new.items ≡ text.old.items ++ Spec.refused_line fault.now why.now) }
 {
     text.extend_from_slice(head_of(fault.reason.refusal()))?;
     add_place(text, fault.location)?;
     text.extend_from_slice(b"\",\"why\":\"")?;
-    add_reason(text, fault.reason)?;
-    add_hint(text, scenario, fault, line)?;
+    text.extend_from_slice(why.as_bytes())?;
     text.extend_from_slice(b"\"}\n")
+}
+
+/// Why a line is refused: in it, names are those of the scenario.
+fn why_refused(
+    alloc: Global,
+    scenario: &Scenario,
+    fault: &Fault,
+    line: &Value,
+) -> Result<String, NoMemory> {
+    let mut names = Names {
+        types: Vec::new(alloc),
+        resources: Vec::new(alloc),
+        systems: Vec::new(alloc),
+    };
+    for (name, _) in scenario.types.as_slice() {
+        names.types.push(name.as_str())?;
+    }
+    for (name, _) in scenario.resources.as_slice() {
+        names.resources.push(name.as_str())?;
+    }
+    for system in scenario.systems.as_slice() {
+        names.systems.push(system.name.as_str())?;
+    }
+    why(alloc, fault, line, &names)
 }
 
 /// The line of a text that is no JSON, and can be read up to this column.
@@ -90,55 +122,4 @@ fn add_step(text: &mut Vec<u8>, n: Option<usize>) -> Result<(), NoMemory>
     };
     add_count(text, b"[", n as u64)?;
     text.extend_from_slice(b"]")
-}
-
-/// The name of the type that may have been meant by what stands there, if there is no type of that
-/// name.
-fn add_hint(
-    text: &mut Vec<u8>,
-    scenario: &Scenario,
-    fault: &Fault,
-    line: &Value,
-) -> Result<(), NoMemory>
-    ensures appends { OnOk result (text.new.items
-        ≡ text.old.items ++ Spec.type_hint scenario.now fault.now (view line.now)) }
-{
-    let Reason::NoType = fault.reason else {
-        return Ok(());
-    };
-    match meant(scenario, value_at(line, fault.location)) {
-        Some(name) => add_question(text, name.as_str()),
-        None => Ok(()),
-    }
-}
-
-/// The name of the type that may have been meant by a value.
-fn meant<'a>(scenario: &'a Scenario, there: Option<&Value>) -> Option<&'a Name>
-    ensures meant { option_map (λ name. name.now) result
-        ≡ option_and_then (Spec.meant_type scenario.entry.now)
-        (option_map (λ v. view v.now) there.entry) }
-{
-    let text = there?.as_str()?;
-    let k = nearest(scenario, text)?;
-    let (name, _) = scenario.types.as_slice().get(k)?;
-    Some(name)
-}
-
-/// The number of the type with the nearest name.
-fn nearest(scenario: &Scenario, text: &str) -> Option<usize>
-    ensures nearest { result ≡ Spec.nearest_type scenario.now text.now }
-{
-    match first_near(1, scenario, text) {
-        Some(k) => Some(k),
-        None => first_near(2, scenario, text),
-    }
-}
-
-/// The number of the first type whose name is at most so many edits away from a text.
-fn first_near(edits: u8, scenario: &Scenario, text: &str) -> Option<usize>
-    ensures first { result
-        ≡ Spec.first_type_near edits text.now scenario.now }
-{
-    let types = scenario.types.as_slice();
-    types.iter().position(|(name, _)| is_within(edits, text.as_bytes(), name.as_str().as_bytes()))
 }

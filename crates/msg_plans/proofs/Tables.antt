@@ -117,7 +117,7 @@ waiting_needs m place =
 module _ (s : Scenario) where
   -- before any system joined
   abbrev early : State i64_values
-  early = before_joining (meanings_of s) (places_of s) s.rules (length s.types) (first_world s)
+  early = before_joining (meanings_of s) (places_of s) s.rules (length s.types) (length s.resources) (first_world s)
 
   joined : SameSystems early (state_of s)
   joined = joining_on_keeps 1 early

@@ -6,6 +6,7 @@ use Rattle.msg_system.specs.Prelude.{FitsWorld, job_needs}
 use Rattle.msg_system.specs.{declared.condition.Condition.Condition, declared.op.Op.Op}
 use Rattle.msg_order.specs.Prelude.{IsAcyclic, NameSystemsBelow, NamesBelow, edges_of}
 use Rattle.msg_frames.specs.declared.frame.Frame.{Frame}
+use Rattle.msg_json.specs.declared.location.TheConstants.{SCENARIO_KEYS, SYSTEM_KEYS}
 use Rattle.msg_json.specs.Prelude.{Reading, at_key, elements, in_element, in_item, in_key, in_part, known_keys, limit, not_negative, number_of, only_below, whole}
 use Rattle.msg_text.specs.Prelude.{Text}
 use Rattle.msg_json.specs.declared.location.Key.TheVariants as key
@@ -126,7 +127,7 @@ system_fits : (t r : ℕ) (names : Declared) (n : ℕ) (d : Data) → HasNames t
     → IfOk (Spec.system_at names n d) (SystemRead t r (n + 1))
 system_fits t r names n d has =
     let Fits = SystemRead t r (n + 1) in
-    within Fits (step.Element n) (Spec.system_of names d) (in_then Fits (known_keys Spec.is_system_key d) _ (λ _ _.
+    within Fits (step.Element n) (Spec.system_of names d) (in_then Fits (known_keys SYSTEM_KEYS.now d) _ (λ _ _.
     in_then Fits (at_key key.Name d) _ (λ name _. in_then Fits (at_key key.Ops d) _ (λ ops _.
     in_then Fits (in_key key.Name (Spec.system_name names name)) _ (λ text _.
     program_fits t r (n + 1) (Spec.with_system names text) text ops d
@@ -220,6 +221,6 @@ in_turn_whole types systems frames d =
     }))))))
 
 pub whole_of : (d : Data) (s : Scenario) → scenario_of d ≡ Ok s → IsWhole s
-whole_of d s is = IfOk-at_ok IsWhole is (in_then IsWhole (known_keys Spec.is_root_key d) _ (λ _ _.
+whole_of d s is = IfOk-at_ok IsWhole is (in_then IsWhole (known_keys SCENARIO_KEYS.now d) _ (λ _ _.
     in_then IsWhole (at_key key.Types d) _ (λ types _. in_then IsWhole (at_key key.Systems d) _ (λ systems _.
     in_then IsWhole (at_key key.Frames d) _ (λ frames _. in_turn_whole types systems frames d)))))

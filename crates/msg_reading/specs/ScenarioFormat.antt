@@ -1,5 +1,5 @@
 -- A scenario file, read from a JSON value.
-use Rattle.std.specs.Prelude.{ℕ, ◌+◌, zero, suc, ℤ, ◌||◌, ⊤, nat_le, Bool, false, List, [], ◌∷◌, ◌++◌, Option, Some, None, Ok, Err, codes, option_and_then, unwrap_or, if◌then◌else◌}
+use Rattle.std.specs.Prelude.{ℕ, ◌+◌, zero, suc, ℤ, ⊤, nat_le, Bool, false, List, [], ◌∷◌, ◌++◌, Option, Some, None, Ok, Err, codes, option_and_then, unwrap_or, if◌then◌else◌}
 use Rattle.std.specs.Str.{bytes_eq}
 use Rattle.serde_json.specs.Data.{Data, Num, array, boolean, no_items, number, string, unsigned}
 use Rattle.serde_json.specs.Find.{as_bool, as_i64, as_str, get}
@@ -17,6 +17,7 @@ use Rattle.msg_world.specs.declared.limits.TheConstants.{MAX_RESOURCES, MAX_SYST
 use Rattle.msg_reading.specs.declared.limits.TheConstants.{MAX_CONDITIONS, MAX_FRAMES, MAX_NOTS, MAX_POSTS, MAX_RULES, MOST_NESTED}
 use Rattle.msg_json.specs.declared.location.Key.{Key}
 use Rattle.msg_json.specs.declared.location.Key.TheVariants as key
+use Rattle.msg_json.specs.declared.location.TheConstants.{SCENARIO_KEYS, SYSTEM_KEYS}
 use Rattle.msg_json.specs.declared.reason.Reason.TheVariants as reason
 use Rattle.msg_scenario_data.specs.{Prelude.fits_kind, Prelude.is_name, declared.kind.Kind.Kind, declared.scenario.Scenario.Scenario, declared.scenario.SystemSpec.SystemSpec}
 use Rattle.msg_scenario_data.specs.declared.kind.Kind.TheVariants as kind
@@ -319,12 +320,6 @@ start_named (Some t) =
 
 -- ---- systems
 
--- the keys that a system may have
-abbrev pub is_system_key : Text → Bool
-is_system_key key =
-    bytes_eq key (codes "name") || bytes_eq key (codes "kind") || bytes_eq key (codes "ops")
-    || bytes_eq key (codes "if") || bytes_eq key (codes "join") || bytes_eq key (codes "start")
-
 -- the kind of a system: a script, if none is named
 abbrev pub kind_of : Data → Reading Kind
 kind_of d = found (kind_named (as_str (value_or key.Kind (string (codes "script")) d))) reason.Kind
@@ -396,7 +391,7 @@ program_of names name ops d =
 -- a system, which declares its name: an object with a name and ops
 abbrev pub system_of : Declared → Data → Reading (SystemSpec × Declared)
 system_of names d =
-    known_keys is_system_key d >>= λ _.
+    known_keys SYSTEM_KEYS.now d >>= λ _.
     at_key key.Name d >>= λ name.
     at_key key.Ops d >>= λ ops.
     in_key key.Name (system_name names name) >>= λ name.
@@ -446,13 +441,6 @@ rule_at names n d = keeping names (in_element n (rule_of names d))
 -- frame n
 abbrev pub frame_at : Declared → ℕ → Data → Reading (Frame ℤ × Declared)
 frame_at names n d = in_element n (frame_of names d)
-
--- the keys that a scenario file may have
-abbrev pub is_root_key : Text → Bool
-is_root_key key =
-    bytes_eq key (codes "types") || bytes_eq key (codes "resources") || bytes_eq key (codes "held")
-    || bytes_eq key (codes "systems") || bytes_eq key (codes "rules") || bytes_eq key
-    (codes "frames")
 
 -- no name is declared
 abbrev pub no_names : Declared
@@ -506,7 +494,7 @@ in_turn types systems frames d =
 -- scenarios
 abbrev pub scenario_of : Data → Reading Scenario
 scenario_of d =
-    known_keys is_root_key d >>= λ _.
+    known_keys SCENARIO_KEYS.now d >>= λ _.
     at_key key.Types d >>= λ types.
     at_key key.Systems d >>= λ systems.
     at_key key.Frames d >>= λ frames.

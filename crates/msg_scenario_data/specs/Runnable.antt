@@ -34,7 +34,8 @@ places_of s = map (λ x. x.place) s.systems
 
 -- no frame was run, and those of join 1 have joined
 abbrev pub state_of : Scenario → State i64_values
-state_of s = first_state (meanings_of s) (places_of s) s.rules (length s.types) (first_world s)
+state_of s = first_state (meanings_of s) (places_of s) s.rules (length s.types) (length s.resources)
+    (first_world s)
 
 -- ---- what may be run
 

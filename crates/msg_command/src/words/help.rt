@@ -162,7 +162,7 @@ docs/FORMATS.md has each line of the report, and `msgrun --help` the refusals an
 statuses.";
 
 pub(crate) const CHECK: &str = "\
-FILE is read as `msgrun run` reads it; or, if it is an object with the key calls, as `msgrun
+FILE is read as `msgrun run` reads it; or, if its keys are those of a calls file, as `msgrun
 buffer` does. Nothing is run. A file that can be run is told with its counts:
   ok: 2 systems, 1 types, 0 resources, 1 rules, 2 frames
 and a scenario with a remark on each thing that its author may not have meant:

@@ -11,8 +11,8 @@ use crate::read::names::Declarations;
 use crate::{Fault, Name, Scenario, SystemSpec};
 use msg_frames::{Frame, Items};
 use msg_json::fault::inside;
-use msg_json::json::{Keys, check_keys, needed};
-use msg_json::{Key, Reason, Step};
+use msg_json::json::{check_keys, needed};
+use msg_json::{Key, Reason, SCENARIO_KEYS, Step};
 use msg_order::Rule;
 use msg_world::{MAX_RESOURCES, MAX_SYSTEMS, MAX_TYPES};
 use serde_json::Value;
@@ -31,7 +31,7 @@ struct Sections<'a> {
 pub fn read_sections(alloc: Global, file: &Value) -> Result<Scenario, Fault>
     ensures reads { Reads (Spec.scenario_of (view file.now)) result }
 {
-    check_keys::<FileKeys>(file)?;
+    check_keys(file, SCENARIO_KEYS)?;
     let sections = Sections {
         types: needed(file, Key::Types)?,
         systems: needed(file, Key::Systems)?,
@@ -71,20 +71,6 @@ fn read_in_turn(
         rules,
         frames,
     })
-}
-
-/// The keys of a scenario file.
-struct FileKeys;
-
-impl Keys for FileKeys {
-    ghost known = { Spec.is_root_key };
-
-    fn is_known(key: &str) -> bool {
-        matches!(
-            key,
-            "types" | "resources" | "held" | "systems" | "rules" | "frames"
-        )
-    }
 }
 
 #[tactic(auto, using(crate::proofs::ListsInTurn::ReadsWith_inside), unfolding(crate::specs::ScenarioFormat::types_of))]

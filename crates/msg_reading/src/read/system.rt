@@ -11,8 +11,8 @@ use crate::read::place::{read_conditions, read_join, read_start};
 use crate::{Fault, Kind, Name, SystemSpec};
 use msg_frames::Place;
 use msg_json::fault::inside;
-use msg_json::json::{Keys, check_keys, needed, text};
-use msg_json::{Key, Reason, Step};
+use msg_json::json::{check_keys, needed, text};
+use msg_json::{Key, Reason, SYSTEM_KEYS, Step};
 use msg_system::{Items, MAX_OPS, Op, Program};
 use serde_json::Value;
 use std::alloc::Global;
@@ -33,22 +33,11 @@ impl Element for SystemSpec {
 fn read_system(alloc: Global, names: &mut Declarations, value: &Value) -> Result<SystemSpec, Fault>
     ensures reads { ReadsWith (Spec.system_of names.old (view value.now)) names.new result }
 {
-    check_keys::<SystemKeys>(value)?;
+    check_keys(value, SYSTEM_KEYS)?;
     let name = needed(value, Key::Name)?;
     let ops = needed(value, Key::Ops)?;
     let name = read_name(alloc, names, name)?;
     read_program(alloc, names, name, ops, value)
-}
-
-/// The keys of a system.
-struct SystemKeys;
-
-impl Keys for SystemKeys {
-    ghost known = { Spec.is_system_key };
-
-    fn is_known(key: &str) -> bool {
-        matches!(key, "name" | "kind" | "ops" | "if" | "join" | "start")
-    }
 }
 
 #[tactic(auto, using(msg_json::proofs::WalksOverLists::Reads_inside))]

@@ -1,7 +1,7 @@
 // A calls file: its limit, and each call after those before it.
 ghost use Rattle.std.specs.Prelude.{◌≡◌, true, IfOk, map};
 ghost use Rattle.serde_json.specs.View.{view};
-ghost use Rattle.msg_files.specs.{CallsFormat.calls_from, CallsFormat.calls_of, CallsFormat.file_of, CallsFormat.is_known, Cursors.cursors_exist, Cursors.made_by};
+ghost use Rattle.msg_files.specs.{CallsFormat.calls_from, CallsFormat.calls_of, CallsFormat.file_of, Cursors.cursors_exist, Cursors.made_by};
 ghost use Rattle.msg_json.specs.Faults.{Reads};
 
 use crate::call::Call;
@@ -9,8 +9,8 @@ use crate::calls::Calls;
 use crate::calls::read::call::read_call;
 use crate::limits::MAX_CALLS;
 use msg_json::fault::inside;
-use msg_json::json::{Keys, check_keys, list, needed};
-use msg_json::{Fault, Key, Step, numbers};
+use msg_json::json::{check_keys, list, needed};
+use msg_json::{CALLS_KEYS, Fault, Key, Step, numbers};
 use msg_world::Items;
 use serde_json::Value;
 use std::alloc::Global;
@@ -19,23 +19,12 @@ use std::alloc::Global;
 pub fn read_file(alloc: Global, value: &Value) -> Result<Calls, Fault>
     ensures file { Reads (file_of (view value.now)) result }
 {
-    check_keys::<FileKeys>(value)?;
+    check_keys(value, CALLS_KEYS)?;
     let limit = needed(value, Key::Limit)?;
     let list = needed(value, Key::Calls)?;
     let limit = inside(Step::Section(Key::Limit), numbers::limit(limit))?;
     let calls = inside(Step::Section(Key::Calls), read_list(alloc, list))?;
     Ok(Calls::new(limit, calls.into_vec()))
-}
-
-/// The keys of a calls file.
-struct FileKeys;
-
-impl Keys for FileKeys {
-    ghost known = { is_known };
-
-    fn is_known(key: &str) -> bool {
-        key == "limit" || key == "calls"
-    }
 }
 
 fn read_list(alloc: Global, value: &Value) -> Result<Items<Call>, Fault>
