@@ -7,11 +7,11 @@
 //! length, `write` writes a message, `batch` writes 1,024, `read` reads two by a script, `limited`
 //! reads one of two, `decide` reads two by a behavior, and `function` by a function. Of `boxed` each
 //! system is in a box, and half of them read by a script and half by a behavior. In the first frame
-//! alone, `large` reads 4,096 at once, and `many` reads 64, each by an op of its own. On one worker,
-//! or on that many.
+//! alone, and skipped in the others, `large` reads 4,096 at once, and `many` reads 64, each by an op
+//! of its own. On one worker, or on that many.
 #![tactic(auto)]
 
-ghost use Rattle.std.specs.Prelude.{IfOk};
+ghost use Rattle.std.specs.Prelude.{◌≤◌, IfOk, length};
 ghost use Rattle.msg_exec.specs.Prelude.{IsEngine};
 ghost use Rattle.msg_frames.specs.Prelude.{IsNew};
 ghost use Rattle.msg_world.specs.Prelude.{IsWhole, i64_values};
@@ -44,6 +44,7 @@ const SYSTEMS: u32 = 64;
 
 /// A script of these ops, which writes as this number.
 fn script(ops: Vec<Op>, number: u32) -> Scripted
+    requires few { length ops.items ≤ MAX_OPS }
     ensures new { IsNew number (⟦<Scripted as SystemOf>⟧.meaning result) }
 {
     let ops = Items::from_vec(ops);
@@ -177,12 +178,19 @@ fn hearers(
 }
 
 /// The conditions of a script of this kind.
-fn conditions_of(alloc: Global, kind: &str, r: ResNo) -> Result<Vec<Condition>, NoMemory> {
+fn conditions_of(
+    alloc: Global,
+    kind: &str,
+    shared: TypeNo,
+    r: ResNo,
+) -> Result<Vec<Condition>, NoMemory> {
     let mut conditions = Vec::new(alloc);
-    if kind == "skipped" {
-        let probe = Probe::ResourceEquals(r, 1);
-        conditions.push(Condition { nots: 0, probe })?;
-    }
+    let probe = match kind {
+        "skipped" => Probe::ResourceEquals(r, 1),
+        "large" | "many" => Probe::OnMessage(shared),
+        _ => return Ok(conditions),
+    };
+    conditions.push(Condition { nots: 0, probe })?;
     Ok(conditions)
 }
 
@@ -195,8 +203,10 @@ fn add_script(
     shared: TypeNo,
     r: ResNo,
 ) -> anyhow::Result<()> {
-    let system = script(ops_of(alloc, kind, own, shared, r)?, 0);
-    systems.add_system(system, conditions_of(alloc, kind, r)?, 1)?;
+    let ops = ops_of(alloc, kind, own, shared, r)?;
+    anyhow::ensure!(ops.len() <= MAX_OPS, "a turn has fewer ops");
+    let system = script(ops, 0);
+    systems.add_system(system, conditions_of(alloc, kind, shared, r)?, 1)?;
     Ok(())
 }
 

@@ -3,10 +3,10 @@ ghost use Rattle.std.specs.Prelude.{◌≡◌, [], IfOk};
 
 use crate::job::JobContents;
 use crate::size::size_of_turns;
-use crate::{Items, Log, NoMemory, Outcome, Turn};
+use crate::{Log, NoMemory, Outcome, Turn};
 use msg_system::Reply;
 use msg_workers::Habits;
-use msg_world::{Access, MAX_SYSTEMS, Record, Taken, Value, World};
+use msg_world::{Access, MAX_SYSTEMS, Taken, Value, World};
 use std::alloc::Global;
 use std::marker::Model;
 use std::mem::replace;
@@ -33,14 +33,16 @@ impl<V> Model for Spares<V> {
     ghost view = { λ _. tt };
 }
 
-/// The messages that a reply gave, if it gave some.
-fn items_of<V>(reply: &mut Reply<V>) -> Option<&mut Items<Record<V>>> {
+/// Gives a world the list of the messages that a reply gave, if it gave some.
+fn keep_list_of<V: Value>(reply: Reply<V>, world: &mut World<V>)
+    ensures world { world.new ≡ world.old }
+{
     match reply {
-        Reply::Read(took) => Some(&mut took.items),
-        Reply::Forwarded { took, .. } => Some(&mut took.items),
-        Reply::Summed { took, .. } => Some(&mut took.items),
-        Reply::Drained { items, .. } => Some(items),
-        _ => None,
+        Reply::Read(took) => world.keep_list(took.items.into_vec()),
+        Reply::Forwarded { took, .. } => world.keep_list(took.items.into_vec()),
+        Reply::Summed { took, .. } => world.keep_list(took.items.into_vec()),
+        Reply::Drained { items, .. } => world.keep_list(items.into_vec()),
+        _ => {}
     }
 }
 
@@ -127,20 +129,11 @@ impl<V: Value> Spares<V> {
         ensures world { world.new ≡ world.old }
     {
         let mut replies = replies;
-        let alloc = *replies.allocator();
-        for reply in replies.iter_mut() {
-            if let Some(items) = items_of(reply) {
-                let items = replace(items, Items::from_vec(Vec::new(alloc)));
-                world.keep_list(items.into_vec());
-            }
+        while let Some(reply) = replies.pop() {
+            keep_list_of(reply, world);
         }
         if self.replies.len() < MAX_SPARES {
             let _kept = self.replies.push(replies);
-
-            // (it is emptied where it is kept, so that the copy needn't wait for its new length)
-            if let Some(last) = self.replies.last_mut() {
-                last.clear();
-            }
         }
     }
 }
