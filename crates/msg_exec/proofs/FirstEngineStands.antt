@@ -49,7 +49,7 @@ module _ {S V : Type 0} (meaning : S → Meaning V) where
 
     -- the state before any has joined
     abbrev first : {values : Values V} → List Rule → WorldState values → State values
-    first rules w = before_joining (map meaning systems) places rules (length world.types) w
+    first rules w = before_joining (map meaning systems) places rules (length world.types) (length world.resources) w
 
     module _ (rules : List Rule) (made : Prepared)
         (prepared : IsPreparedFor meaning (length world.types) systems places rules made)
@@ -82,6 +82,7 @@ module _ {S V : Type 0} (meaning : S → Meaning V) where
               world = stands;
               whole = whole;
               types = refl;
+              resources = refl;
             },
             (let joins = prepared.joins in grind (arith, joins, get_or-map, length-map)),
             λ i t joins. elim (cases_lt i (length systems)) [
@@ -100,7 +101,7 @@ module _ {S V : Type 0} (meaning : S → Meaning V) where
     pub are_new : {values : Values V} (rules : List Rule) (w : WorldState values) → PartsStand world w
         → (length world.types ≤ MAX_TYPES) × (length world.resources ≤ MAX_RESOURCES)
         → ((joined : List Bool) → length joined ≡ length systems → IsAcyclic (rules_among joined rules))
-        → AreNew (map meaning systems) places rules (length world.types) w
+        → AreNew (map meaning systems) places rules (length world.types) (length world.resources) w
     are_new rules w stands few none = record {
       uses = λ i lt p.
           let f = found i (omega (arith, lt, length-map systems meaning)) in

@@ -36,6 +36,7 @@ module _ {S V : Type 0} {values : Values V} (meaning : S → Meaning V) where
     pub world : PartsStand g.world s.world
     pub whole : IsWhole g.world
     pub types : length g.world.types ≡ s.types
+    pub resources : length g.world.resources ≡ s.resources
 
 -- the frames with which the systems join
 pub record AreJoins {V : Type 0} {values : Values V} (joins : List ℕ)

@@ -24,6 +24,8 @@ impl<V: Value, S: SystemOf<Value = V>> EngineOf<S, V> {
             → IfSome result (λ a. a.rules.now ≡ s.rules) }
         ensures types { (s : State V.values) → EngineStands S.meaning self.now s
             → IfSome result (λ a. a.types ≡ s.types) }
+        ensures resources { (s : State V.values) → EngineStands S.meaning self.now s
+            → IfSome result (λ a. a.resources ≡ s.resources) }
         ensures one_each { IsEngine V.values S.meaning self.now
             → IfSome result (λ a. length a.joins.now ≡ length a.accesses.now) }
         ensures few { IsEngine V.values S.meaning self.now

@@ -30,6 +30,8 @@ impl<V: Value, S: SystemOf<Value = V>> EngineOf<S, V> {
             → account.now.place ≤ count (s.world.histories account.now.of_type)
             → IfSome result (λ left. account.now.place + left.lost + left.unread
             ≡ count (s.world.histories account.now.of_type)) }
+        ensures no_type { (s : State V.values) → EngineStands S.meaning self.now s
+            → s.types ≤ account.now.of_type → IsNone result }
         ensures spoiled { IsSpoiled self.now → IsNone result }
     {
         let messages = self.world()?.messages(account.of_type)?;

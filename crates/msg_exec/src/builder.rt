@@ -180,7 +180,7 @@ impl<V: Value, S: Numbered + SystemOf<Value = V>> EngineBuilder<S, V> {
         requires whole { IsWhole world }
         ensures since { IfOk result (λ e. (w : WorldState V.values) → PartsStand world w
             → HasRunSince S.meaning (first_state (numbered_from 0 (map S.meaning self.systems))
-            self.places self.rules (length world.types) w) [] [] e) }
+            self.places self.rules (length world.types) (length world.resources) w) [] [] e) }
         ensures engine { IfOk result (IsEngine V.values S.meaning) }
         ensures fresh { IfOk result (λ e. ¬ IsSpoiled e) }
         ensures fit { OnOk result (AllFit S.meaning world self.systems self.places) }

@@ -72,7 +72,7 @@ impl<V: Value, S: SystemOf<Value = V>> EngineOf<S, V> {
         ensures since { IfOk result (λ e. (w : WorldState V.values) → PartsStand world w
             → HasRunSince S.meaning
             (first_state (map S.meaning systems.items) places.items rules.items
-            (length world.types) w) [] [] e) }
+            (length world.types) (length world.resources) w) [] [] e) }
         ensures engine { IfOk result (IsEngine V.values S.meaning) }
         ensures fresh { IfOk result (λ e. ¬ IsSpoiled e) }
         ensures no_clash { OnOk result (NoneIsClash S.meaning systems.items) }
@@ -223,6 +223,8 @@ impl<V: Value, S: SystemOf<Value = V>> EngineOf<S, V> {
         ensures whole { IsEngine V.values S.meaning self.now → IfSome result (λ w. IsWhole w.now) }
         ensures types { (s : State V.values) → EngineStands S.meaning self.now s
             → IfSome result (λ w. length w.now.types ≡ s.types) }
+        ensures resources { (s : State V.values) → EngineStands S.meaning self.now s
+            → IfSome result (λ w. length w.now.resources ≡ s.resources) }
     {
         match &self.core {
             Some(core) => Some(&core.lender.world),

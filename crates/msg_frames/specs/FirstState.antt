@@ -31,21 +31,22 @@ module _ {V : Type 0} where
 
 module _ {V : Type 0} {values : Values V} where
   -- No frame was run, and nobody has joined.
-  abbrev pub before_joining : List (Meaning V) → List (Place V) → List Rule → ℕ → WorldState values
-      → State values
-  before_joining systems places rules types world = record {
+  abbrev pub before_joining : List (Meaning V) → List (Place V) → List Rule → ℕ → ℕ
+      → WorldState values → State values
+  before_joining systems places rules types resources world = record {
     systems = length systems;
     members =
         λ i. waiting_member (slice_index_or systems i default_system)
         (slice_index_or places i default_place);
     rules = rules;
     types = types;
+    resources = resources;
     world = world;
     frames = 0;
   }
 
   -- No frame was run, and those of join 1 have joined.
-  abbrev pub first_state : List (Meaning V) → List (Place V) → List Rule → ℕ → WorldState values
-      → State values
-  first_state systems places rules types world =
-      with_joining 1 (before_joining systems places rules types world)
+  abbrev pub first_state : List (Meaning V) → List (Place V) → List Rule → ℕ → ℕ
+      → WorldState values → State values
+  first_state systems places rules types resources world =
+      with_joining 1 (before_joining systems places rules types resources world)

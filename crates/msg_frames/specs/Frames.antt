@@ -21,12 +21,14 @@ pub record Member (V : Type 0) : Type 0 where
   pub totals : ℕ → Totals
 
 -- What a frame starts from and leaves: how many systems there are, and each by its number, in order
--- of addition; the rules; how many types, and the world; and how many frames were run.
+-- of addition; the rules; how many types and resources there are, and the world; and how many
+-- frames were run.
 pub record State {V : Type 0} (values : Values V) : Type 0 where
   pub systems : ℕ
   pub members : ℕ → Member V
   pub rules : List Rule
   pub types : ℕ
+  pub resources : ℕ
   pub world : WorldState values
   pub frames : ℕ
 

@@ -23,12 +23,14 @@ pub record SameMember {V : Type 0} (m n : Member V) : Type 0 where
   pub conditions : conditions_of n.job ≡ conditions_of m.job
   pub join : n.join ≡ m.join
 
--- The same systems, rules and types. The world may be another, and the number of frames.
+-- The same systems and rules, and as many types and resources. The world may be another, and the
+-- number of frames.
 pub record SameSystems {V : Type 0} {values : Values V} (s u : State values) : Type 0 where
   pub systems : u.systems ≡ s.systems
   pub members : (i : ℕ) → SameMember (s.members i) (u.members i)
   pub rules : u.rules ≡ s.rules
   pub types : u.types ≡ s.types
+  pub resources : u.resources ≡ s.resources
 
 -- A frame keeps the systems: as some join, as it begins, before its turns and after them. It
 -- counts as one frame.
@@ -99,11 +101,11 @@ RunStaysSound {V} values = (frames : List (Frame V)) (s : State values) → IsSo
 -- Systems that were given nothing yet, each of its own number, places for them, and rules that make
 -- no cycle, over a sound world.
 pub record AreNew {V : Type 0} {values : Values V} (systems : List (Meaning V))
-    (places : List (Place V)) (rules : List Rule) (types : ℕ)
+    (places : List (Place V)) (rules : List Rule) (types resources : ℕ)
     (world : WorldState values) : Type 0 where
   -- each needs only parts that a world may have
-  pub uses : UsesParts (before_joining systems places rules types world)
-  pub no_cycle : NoCycle (before_joining systems places rules types world)
+  pub uses : UsesParts (before_joining systems places rules types resources world)
+  pub no_cycle : NoCycle (before_joining systems places rules types resources world)
   pub histories : (t : ℕ) → t < types → IsSound (world.histories t)
   pub new : EachIndex systems (λ i. IsNew i (slice_index_or systems i default_system))
   pub joins : All (λ place. 1 ≤ place.join) places
@@ -111,9 +113,9 @@ pub record AreNew {V : Type 0} {values : Values V} (systems : List (Meaning V))
 -- The first state of new systems over a sound world is sound.
 abbrev pub FirstIsSound : {V : Type 0} → Values V → Type 0
 FirstIsSound {V} values = (systems : List (Meaning V)) (places : List (Place V)) (rules : List Rule)
-    (types : ℕ)
-    (world : WorldState values) → AreNew systems places rules types world
-    → IsSoundState (first_state systems places rules types world)
+    (types resources : ℕ) (world : WorldState values)
+    → AreNew systems places rules types resources world
+    → IsSoundState (first_state systems places rules types resources world)
 
 -- ---- complete runs
 

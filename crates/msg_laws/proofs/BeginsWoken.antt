@@ -24,9 +24,9 @@ at_start Current n place is = (omega (arith, is), λ h. is)
 
 module _ {V : Type 0} {values : Values V} where
   pub who_begins : WhoBeginsIsWoken values
-  who_begins systems places rules types world i t sound below has reads waits =
-      let s : State values = first_state systems places rules types world in
-      let b : State values = before_joining systems places rules types world in
+  who_begins systems places rules types resources world i t sound below has reads waits =
+      let s : State values = first_state systems places rules types resources world in
+      let b : State values = before_joining systems places rules types resources world in
       let m : Member V = b.members i in
       let keeps = (joining_on_keeps 1 b).members i in
       let on : (nat_lt i b.systems && (m.join == 1)) ≡ true =

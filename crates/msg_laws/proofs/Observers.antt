@@ -22,6 +22,7 @@ record Lacks {V : Type 0} {values : Values V} (n : ℕ) (s t : State values) : T
   pub behind : All (λ rule. rule.earlier ≢ n) s.rules
   pub rules : t.rules ≡ rules_without n s.rules
   pub types : t.types ≡ s.types
+  pub resources : t.resources ≡ s.resources
   pub world : t.world ≡ s.world
   pub frames : t.frames ≡ s.frames
 
@@ -43,6 +44,7 @@ module _ {V : Type 0} {values : Values V} where
     behind = w.behind;
     rules = w.rules;
     types = w.types;
+    resources = w.resources;
     world = w.world;
     frames = w.frames;
   }
@@ -67,6 +69,7 @@ module _ {V : Type 0} {values : Values V} where
         behind = j.behind;
         rules = j.rules;
         types = j.types;
+        resources = j.resources;
         world = ap (λ (v : WorldState values). after_posts posts (after_update v)) j.world;
         frames = ap suc j.frames;
       }
@@ -87,6 +90,7 @@ module _ {V : Type 0} {values : Values V} where
       behind = w.behind;
       rules = w.rules;
       types = w.types;
+      resources = w.resources;
       world = w.world ∙ sym (quiet_turn (s.members i) s.world (rw is (w.quiet)));
       frames = w.frames;
     }
@@ -106,6 +110,7 @@ module _ {V : Type 0} {values : Values V} where
             behind = w.behind;
             rules = w.rules;
             types = w.types;
+            resources = w.resources;
             world = ap (λ (e : AfterJob values). e.state) same;
             frames = w.frames;
           },
@@ -159,6 +164,7 @@ module _ {V : Type 0} {values : Values V} where
     behind = rw w.systems w.behind;
     rules = rw w.systems w.rules;
     types = w.types;
+    resources = w.resources;
     world = w.world;
     frames = w.frames;
   }
@@ -193,6 +199,7 @@ module _ {V : Type 0} {values : Values V} where
           behind = w.behind;
           rules = w.rules;
           types = w.types;
+          resources = w.resources;
           world = w.world;
           frames = w.frames;
         }) in
@@ -201,10 +208,10 @@ module _ {V : Type 0} {values : Values V} where
   -- ---- a first state
 
   pub observers_may_be_added : ObserversMayBeAdded values
-  observers_may_be_added systems observer places place rules types world same quiet behind =
+  observers_may_be_added systems observer places place rules types resources world same quiet behind =
       let n : ℕ = length systems in
-      let s : State values = before_joining (systems ++ observer ∷ []) (places ++ place ∷ []) rules types world in
-      let t : State values = before_joining systems places (rules_without n rules) types world in
+      let s : State values = before_joining (systems ++ observer ∷ []) (places ++ place ∷ []) rules types resources world in
+      let t : State values = before_joining systems places (rules_without n rules) types resources world in
       let system : get_or (systems ++ observer ∷ []) n default_system ≡ observer = get_or-append_seam systems observer [] default_system in
       without n (with_joining 1 s) (with_joining 1 t) (joining_on n 1 s t (record {
         more = omega (arith, length_push systems observer);
@@ -218,6 +225,7 @@ module _ {V : Type 0} {values : Values V} where
         behind = behind;
         rules = refl;
         types = refl;
+        resources = refl;
         world = refl;
         frames = refl;
       }))

@@ -15,8 +15,8 @@ module _ {V : Type 0} {values : Values V} where
 
   -- from a first state a reader was found with new accounts
   pub accounts_begin : AccountsBeginAtTheStart values
-  accounts_begin systems places rules types world frames i t sound below has =
-      let s : State values = first_state systems places rules types world in
+  accounts_begin systems places rules types resources world frames i t sound below has =
+      let s : State values = first_state systems places rules types resources world in
       let served = (runs_are_complete frames s sound).served i t below has in
       let new : IsTrue (has_joined (join_flags s) i) → (s.members i).totals t ≡ totals_from (reader_place s i t) = λ here.
       grind (arith, cases_Bool, eqb_tells, nat_tests, sound.joins i, here, joined_is s i) in

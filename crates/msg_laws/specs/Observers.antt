@@ -19,6 +19,7 @@ pub record IsWithoutObserver {V : Type 0} {values : Values V} (s t : State value
   pub behind : All (λ rule. rule.earlier ≢ t.systems) s.rules
   pub rules : t.rules ≡ rules_without t.systems s.rules
   pub types : t.types ≡ s.types
+  pub resources : t.resources ≡ s.resources
   pub world : t.world ≡ s.world
   pub frames : t.frames ≡ s.frames
 
@@ -38,10 +39,10 @@ ObserversDisturbNobody {V} values = (frames : List (Frame V)) (s t : State value
 -- So begin two engines of the same systems if one has an observer more.
 abbrev pub ObserversMayBeAdded : {V : Type 0} → Values V → Type 0
 ObserversMayBeAdded {V} values = (systems : List (Meaning V)) (observer : Meaning V)
-    (places : List (Place V)) (place : Place V) (rules : List Rule) (types : ℕ)
+    (places : List (Place V)) (place : Place V) (rules : List Rule) (types resources : ℕ)
     (world : WorldState values)
     → length places ≡ length systems → ((p : Part) → observer.needs.writes p ≡ false)
     → All (λ rule. rule.earlier ≢ length systems) rules
     → IsWithoutObserver
-    (first_state (systems ++ observer ∷ []) (places ++ place ∷ []) rules types world)
-    (first_state systems places (rules_without (length systems) rules) types world)
+    (first_state (systems ++ observer ∷ []) (places ++ place ∷ []) rules types resources world)
+    (first_state systems places (rules_without (length systems) rules) types resources world)

@@ -33,8 +33,8 @@ AllAreAnswered {V} values = (frames : List (Frame V)) (s : State values) → Are
 -- on, where the run found it.
 abbrev pub AccountsBeginAtTheStart : {V : Type 0} → Values V → Type 0
 AccountsBeginAtTheStart {V} values = (systems : List (Meaning V)) (places : List (Place V))
-    (rules : List Rule) (types : ℕ) (world : WorldState values) (frames : List (Frame V))
-    → let s : State values = first_state systems places rules types world in
+    (rules : List Rule) (types resources : ℕ) (world : WorldState values) (frames : List (Frame V))
+    → let s : State values = first_state systems places rules types resources world in
     let u : State values = (run frames s).state in
     (i t : ℕ) → IsSoundState s → t < types → IsTrue (has_joined (join_flags u) i)
     → (u.members i).totals t

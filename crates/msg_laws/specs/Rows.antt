@@ -24,7 +24,7 @@ systems_numbered n (p ∷ ps) = new_system p n ∷ systems_numbered (suc n) ps
 abbrev pub setup : List (Program ℤ) → List (Place ℤ) → List Rule → List ℕ → List ℤ
     → State i64_values
 setup programs places rules limits resources =
-    first_state (systems_numbered 0 programs) places rules (length limits)
+    first_state (systems_numbered 0 programs) places rules (length limits) (length resources)
     (new_world i64_values limits resources)
 
 -- the same, over a held world

@@ -45,8 +45,8 @@ module _ {V : Type 0} {values : Values V} where
 -- is up to date too if nothing of the type was written before, or if it starts at the count.
 abbrev pub WhoBeginsIsWoken : {V : Type 0} → Values V → Type 0
 WhoBeginsIsWoken {V} values = (systems : List (Meaning V)) (places : List (Place V))
-    (rules : List Rule) (types : ℕ) (world : WorldState values) (i t : ℕ)
-    → let s : State values = first_state systems places rules types world in
+    (rules : List Rule) (types resources : ℕ) (world : WorldState values) (i t : ℕ)
+    → let s : State values = first_state systems places rules types resources world in
     IsSoundState s → t < types → IsTrue (has_joined (join_flags s) i)
     → IsTrue ((s.members i).job.system.needs.reads (OfType t))
     → conditions_of (s.members i).job ≡ record { nots = 0; probe = OnMessage t } ∷ []

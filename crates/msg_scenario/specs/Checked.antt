@@ -1,14 +1,13 @@
 -- What the check of a file comes to, which runs nothing. What is told of the file is for a person:
 -- no clause says more of it than that the sink takes it.
-use Rattle.std.specs.Prelude.{◌≡◌, ◌⊎◌, ℕ, Bool, true, false, List, [], Ok, Err, Option, is_some}
-use Rattle.serde_json.specs.{Data.Data, Find.get}
-use Rattle.msg_json.specs.Prelude.{IsJsonOf, IsNotJson, key_text, reason_refusal}
+use Rattle.std.specs.Prelude.{◌≡◌, ◌⊎◌, ℕ, true, false, List, [], Ok, Err, Option}
+use Rattle.serde_json.specs.Data.{Data}
+use Rattle.msg_json.specs.Prelude.{IsJsonOf, IsNotJson, is_calls_file, reason_refusal}
 use Rattle.msg_text.specs.Prelude.{AppendsAtLeast, one_failure_more}
 use Rattle.msg_text.specs.declared.report_fault.ReportFault.TheVariants as report_fault
 use Rattle.msg_files.specs.Prelude.{file_of}
 use Rattle.msg_files.specs.Cursors.{CallsFile}
 use Rattle.msg_json.specs.declared.fault.Fault.{Fault}
-use Rattle.msg_json.specs.declared.location.Key.TheVariants as key
 use Rattle.msg_json.specs.declared.refusal.Refusal.{Refusal}
 use Rattle.msg_json.specs.declared.refusal.Refusal.TheVariants as refusal
 use Rattle.msg_reading.specs.Prelude.{HasFault, IsReadAs}
@@ -24,10 +23,6 @@ IsEither d =
 -- the bytes are the text of such a value
 abbrev pub Passes : List ℕ → Type 0
 Passes bytes = (d : Data) × IsJsonOf bytes d × IsEither d
-
--- an object that has calls is a calls file
-abbrev pub is_calls_file : Data → Bool
-is_calls_file d = is_some (get (key_text key.Calls) d)
 
 -- a value has this fault, as the calls file or the scenario that it is to be
 abbrev pub IsFaultOfEither : Data → Fault → Type 0

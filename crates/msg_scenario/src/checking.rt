@@ -9,7 +9,7 @@ ghost use Rattle.msg_scenario.specs.inner.Checking.{EndsFor, EndsForEither, Ends
 use crate::CheckFault;
 use msg_files::{Calls, read_file};
 use msg_json::json::parse;
-use msg_json::{Fault, FileFault, Key, Reason, Refusal, add_told};
+use msg_json::{Fault, FileFault, Reason, Refusal, fault_lines, is_calls_file};
 use msg_plans::{remarks_of, unfit_lines};
 use msg_reading::{read_sections, read_value};
 use msg_scenario_data::Scenario;
@@ -58,12 +58,12 @@ fn check(alloc: Global, bytes: &[u8]) -> Result<Vec<u8>, CheckFault>
     }
 }
 
-/// The same, of the value that the bytes are a text of. An object that has calls is a calls file.
+/// The same, of the value that the bytes are a text of.
 fn check_value(alloc: Global, value: &Value) -> Result<Vec<u8>, CheckFault>
     ensures passed { OnOk result (IsEither (view value.now)) }
     ensures refused { IfErr result (EndsForEither (view value.now)) }
 {
-    if value.get(Key::Calls.text()).is_some() {
+    if is_calls_file(value) {
         match read_file(alloc, value) {
             Ok(calls) => Ok(count_calls(alloc, &calls)?),
             Err(fault) => Err(tell(alloc, &fault, value)),
@@ -83,16 +83,15 @@ fn tell(alloc: Global, fault: &Fault, value: &Value) -> CheckFault
     if matches!(fault.reason, Reason::NoMemory) {
         return CheckFault::Report(ReportFault::NoMemory);
     }
-    match fault_lines(alloc, fault, value) {
+    match lines_of(alloc, fault, value) {
         Ok(lines) => CheckFault::Refused(fault.reason.refusal(), lines),
         Err(_) => CheckFault::Report(ReportFault::NoMemory),
     }
 }
 
 /// The lines that tell of a fault of a value.
-fn fault_lines(alloc: Global, fault: &Fault, value: &Value) -> Result<Vec<u8>, NoMemory> {
-    let mut text = Vec::new(alloc);
-    add_told(alloc, &mut text, fault, value)?;
+fn lines_of(alloc: Global, fault: &Fault, value: &Value) -> Result<Vec<u8>, NoMemory> {
+    let mut text = fault_lines(alloc, fault, value)?.into_bytes();
     if matches!(fault.reason, Reason::Clash(_) | Reason::Cycle(_)) {
         add_unfit(alloc, &mut text, fault.reason, value)?;
     }

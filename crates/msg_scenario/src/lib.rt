@@ -15,7 +15,7 @@ pub use answering::{answer_bytes, plan_bytes, report_bytes};
 pub use check_fault::CheckFault;
 pub use checking::check_bytes;
 pub use msg_files::{Call, Calls, check_calls, read_calls, run_calls};
-pub use msg_json::{Fault, FileFault, Key, Location, Reason, Refusal, Step, add_told};
+pub use msg_json::{Fault, FileFault, Key, Location, Reason, Refusal, Step, fault_lines};
 pub use msg_plans::{
     Clash, Form, Planned, clash_of, plan_frame, put_plan, round, scenario_of_engine, unfit_lines,
 };

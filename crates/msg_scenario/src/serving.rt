@@ -1,5 +1,6 @@
 // From the bytes of a file, and lines after it, to what a sink takes.
 ghost use Rattle.std.specs.Prelude.{◌≡◌, Err, IfSome, OnOk};
+ghost use Rattle.msg_world.specs.declared.run_fault.RunFault.{RunFault as RunView};
 ghost use Rattle.msg_text.specs.declared.report_fault.ReportFault.{ReportFault as FaultView};
 ghost use Rattle.msg_json.specs.declared.refusal.Refusal.{Refusal as RefusalView};
 ghost use Rattle.msg_reading.specs.Prelude.{HasFault};
@@ -15,6 +16,7 @@ use msg_reading::read_scenario;
 use msg_scenario_data::Scenario;
 use msg_serve::{ServeFault, serve_scenario, trace_scenario};
 use msg_text::{ReportFault, Sink};
+use msg_world::RunFault;
 use std::io::BufRead;
 use std::thread::Threads;
 
@@ -33,6 +35,8 @@ fn serve_systems<R: Threads + Sync + AllocGlobal, B: BufRead, S: Sink>(
     ensures ends { (fault : ServeView) → result ≡ Err fault
         → IfSome (B.remaining input.old) (λ lines.
         EndsServing S.contents S.failures scenario.now lines fault sink.old sink.new) }
+    ensures run { (why : RunView) → result ≡ Err (ServeFault.Report (ReportFault.Run why))
+        → why ≡ RunFault.NoMemory }
 {
     let systems = systems_of(rt.alloc(), scenario)?;
     serve_scenario(rt, scenario, systems, workers, input, sink)
@@ -62,6 +66,11 @@ pub fn serve_bytes<R: Threads + Sync + AllocGlobal, B: BufRead, S: Sink>(
         → IsOfScenario bytes.now (λ scenario. IfSome (B.remaining input.old) (λ lines.
         EndsServing S.contents S.failures scenario lines (ServeFault.Report fault)
         sink.old sink.new)) }
+
+    // A run fault is want of memory, in a frame or for the accounts.
+    ensures run { (why : RunView) → result ≡ Err (AnswerFault.Report (ReportFault.Run why))
+        → why ≡ RunFault.NoMemory }
+
     ensures input { result ≡ Err AnswerFault.Input
         → IsOfScenario bytes.now (λ scenario. IfSome (B.remaining input.old) (λ lines.
         EndsServing S.contents S.failures scenario lines ServeFault.Input sink.old sink.new)) }
@@ -90,6 +99,8 @@ fn trace_systems<R: Threads + Sync + AllocGlobal, S: Sink>(
     ensures quiet { OnOk result (S.failures sink.new ≡ S.failures sink.old) }
     ensures ends { (fault : FaultView) → result ≡ Err fault
         → EndsTrace S.contents S.failures scenario.now fault sink.old sink.new }
+    ensures run { (why : RunView) → result ≡ Err (ReportFault.Run why)
+        → why ≡ RunFault.NoMemory }
 {
     let systems = systems_of(rt.alloc(), scenario)?;
     trace_scenario(rt, scenario, systems, workers, sink)
@@ -115,6 +126,11 @@ pub fn trace_bytes<R: Threads + Sync + AllocGlobal, S: Sink>(
     ensures report { (fault : FaultView) → result ≡ Err (AnswerFault.Report fault)
         → IsOfScenario bytes.now (λ scenario.
         EndsTrace S.contents S.failures scenario fault sink.old sink.new) }
+
+    // A run fault is want of memory, in a frame or for the accounts.
+    ensures run { (why : RunView) → result ≡ Err (AnswerFault.Report (ReportFault.Run why))
+        → why ≡ RunFault.NoMemory }
+
     ensures refused { (why : RefusalView) → result ≡ Err (AnswerFault.Refused why)
         → IsRefusedFile HasFault bytes.now why }
     ensures unread { (why : RefusalView) → result ≡ Err (AnswerFault.Refused why)

@@ -1,5 +1,5 @@
 -- Requests that are answered one after another, and what the sink took of the answers.
-use Rattle.std.proofs.Common.{get_or, ◌+◌, take-append-drop, ℤ, ◌≤◌, All, IfOk, ◌<◌, inl, inr, IfSome, Some, None, ◌≡◌, ◌≢◌, ℕ, List, [], ◌∷◌, ◌++◌, map, refl, sym, ap, ◌∙◌, arith, append_assoc, append-nil, Option, Result, Ok, Err, OnOk, IfErr, length, take, drop}
+use Rattle.std.proofs.Common.{get_or, ◌+◌, take-append-drop, ℤ, ◌≤◌, All, IfOk, ◌<◌, inl, inr, IfSome, Some, None, ◌≡◌, ◌≢◌, ℕ, List, [], ◌∷◌, ◌++◌, map, refl, sym, ap, ◌∙◌, arith, append_assoc, append-nil, Option, Result, Ok, Err, OnOk, length, take, drop}
 use Rattle.std.specs.List.{AllZip}
 use Rattle.std.specs.Io.BufRead.{DropsThrough, drop_through}
 use Rattle.std.specs.Io.KnownBytes.{Appends}
@@ -8,25 +8,24 @@ use Rattle.std.proofs.lemmas.{Bool.cases_Bool, List.drop_more, List.length-map, 
 use Rattle.serde_json.specs.Data.{Data}
 use Rattle.msg_serve.specs.declared.limits.TheConstants.{MAX_LINE}
 use Rattle.msg_json.specs.Prelude.{IsJsonOf, IsNotJson, Reading, ◌>>=◌}
-use Rattle.msg_json.specs.declared.fault.Fault.{Fault}
 use Rattle.msg_reading.specs.ScenarioFormat as Spec
 use Rattle.msg_reading.specs.Prelude.{Declared}
 use Rattle.msg_reading.proofs.{ReadScenarioRuns.posts_fit, WhatIsUsedIsThere.HasNames}
 use Rattle.msg_system.specs.Prelude.{Meaning}
-use Rattle.msg_exec.specs.Prelude.{EngineStands, IsEngine}
+use Rattle.msg_exec.specs.Prelude.{EngineStands, IsEngine, IsSpoiled}
+use Rattle.msg_exec.proofs.EngineRunsFrames.{is_alive}
 use Rattle.msg_exec.specs.declared.engine.EngineOf.{EngineOf}
 use Rattle.std.proofs.Math.Seq.{take-length}
-use Rattle.msg_frames.specs.Prelude.{IsCompleteRun, State, before_turns, frame as frame_of, run as run_of}
-use Rattle.msg_frames.specs.Frames.{turn_order}
+use Rattle.msg_frames.specs.Prelude.{IsCompleteRun, SameSystems, State, run as run_of}
 use Rattle.msg_frames.specs.declared.frame.Frame.{Frame}
-use Rattle.msg_frames.proofs.SystemsStay.{frames_keep}
+use Rattle.msg_frames.proofs.Functions.{run_keeps}
 use Rattle.msg_log_json.specs.Prelude.{not_json_line}
 use Rattle.msg_scenario_data.specs.Prelude.{state_of}
 use Rattle.msg_scenario_data.specs.declared.scenario.Scenario.{Scenario}
 use Rattle.msg_serve.specs.Prelude.{AsksFor, AsksNext, EndsServing, EndsTrace, IsServed, IsTraced, Request, StopsAfter, lines_of, after_own, after_request, after_requests, answer_of, answers_of, frames_among, own_requests}
 use Rattle.msg_serve.specs.Requests.{frame_in, is_for_readers, names_of, readers, refused, request_of, run}
 use Rattle.msg_serve.specs.declared.server.Server.{Server}
-use Rattle.msg_serve.specs.inner.Answering.{AnsweredSoFar, Answers, AreAsked, IsPut, Serves, ValueAsksFor}
+use Rattle.msg_serve.specs.inner.Answering.{AnsweredSoFar, Answers, AreAsked, IsPut, IsWantOfMemory, Serves, ValueAsksFor}
 use Rattle.msg_serve.specs.inner.Input.{IsRead, first_line}
 use Rattle.msg_serve.specs.declared.input.Line.{Line}
 use Rattle.msg_serve.specs.declared.input.Line.TheVariants as what
@@ -36,7 +35,8 @@ use Rattle.msg_serve.proofs.{InputLines.lines_more, Requests.only_frames}
 use Rattle.msg_text.specs.Prelude.{AppendsPrefix, Text, one_failure_more}
 use Rattle.msg_text.specs.declared.report_fault.ReportFault.{ReportFault}
 use Rattle.msg_text.specs.declared.report_fault.ReportFault.TheVariants as report_fault
-use Rattle.msg_world.specs.Prelude.{i64_values}
+use Rattle.msg_world.specs.{Prelude.i64_values, declared.run_fault.RunFault.RunFault}
+use Rattle.msg_world.specs.declared.run_fault.RunFault.TheVariants as run_fault
 
 -- ---- states
 
@@ -46,17 +46,9 @@ pub after-append : (xs ys : List Request) (now : State i64_values)
 after-append [] ys now = refl
 after-append (x ∷ xs) ys now = after-append xs ys (after_request x now)
 
--- a request leaves as many types
-type_stays : (request : Request) (now : State i64_values) → (after_request request now).types ≡ now.types
-type_stays (run f) now = grind (arith, (frames_keep (turn_order (before_turns f.posts now)) f now).after)
-type_stays readers now = refl
-type_stays (refused text) now = refl
-
--- and so do all
-pub types_stay : (requests : List Request) (now : State i64_values)
-    → (after_requests requests now).types ≡ now.types
-types_stay [] now = refl
-types_stay (request ∷ requests) now = types_stay requests (after_request request now) ∙ type_stays request now
+-- requests keep the systems
+pub requests_keep : (requests : List Request) (now : State i64_values) → SameSystems now (after_requests requests now)
+requests_keep requests now = rw (only_frames requests now) (run_keeps (frames_among requests) now)
 
 -- of frames the frames are these
 frames-map : (fs : List (Frame ℤ)) → frames_among (map run fs) ≡ fs
@@ -68,9 +60,13 @@ pub after_frames : (fs : List (Frame ℤ)) (now : State i64_values)
     → after_requests (map run fs) now ≡ (run_of fs now).state
 after_frames fs now = rw (only_frames (map run fs) now, frames-map fs) refl
 
--- and the state after those of the file has the scenario's types
-pub own_types : (s : Scenario) → (after_own s).types ≡ length s.types
-own_types s = rw (← after_frames s.frames (state_of s)) (types_stay (map run s.frames) (state_of s))
+-- requests after the frames of the file leave the systems of the scenario
+pub own_keep : (s : Scenario) (requests : List Request)
+    → SameSystems (state_of s) (after_requests requests (after_own s))
+own_keep s requests =
+    let own = run_keeps s.frames (state_of s) in
+    let later = requests_keep requests (after_own s) in
+    grind (arith, own, later)
 
 -- ---- answers
 
@@ -174,7 +170,16 @@ module _ {X : Type 0} (meaning : X → Meaning ℤ) where
 
   -- the engine is one that may run frames
   pub is_engine : (server : Server X) → Serves meaning server → IsEngine i64_values meaning server.engine
-  is_engine server serves = inr (serves.0, serves.1)
+  is_engine server serves = inr (serves.now, serves.stands)
+
+  -- a run fault of it is want of memory
+  pub only_memory : {T : Type 0} (server : Server X) (r : Result T RunFault) (why : RunFault) → Serves meaning server
+      → r ≡ Err why → (r ≡ Err run_fault.Spoiled → IsSpoiled server.engine) → ¬ (r ≡ Err run_fault.BadOrder)
+      → IsWantOfMemory (report_fault.Run why)
+  only_memory server r run_fault.NoMemory serves is spoiled in_order = inl refl
+  only_memory server r run_fault.Spoiled serves is spoiled in_order =
+      absurd (is_alive meaning server.engine serves.now serves.stands (spoiled is))
+  only_memory server r run_fault.BadOrder serves is spoiled in_order = absurd (in_order is)
 
 names_fit : (s : Scenario) → HasNames (length s.types) 0 0 (names_of s)
 names_fit s = record { types = length-map s.types (λ named. named.0); resources = refl; systems = refl }
@@ -356,16 +361,12 @@ own_split s k f lt is =
     ap (λ l. map run l ++ readers ∷ []) parts ∙ ap (λ l. l ++ readers ∷ []) (map-append run first (f ∷ later))
     ∙ append_assoc (map run first) (run f ∷ map run later) (readers ∷ [])
 
--- a call came to a fault
-abbrev ended : ReportFault → Result (Unit {0}) ReportFault
-ended fault = Err fault
-
--- a fault that is no failed put
-pub report_other : (fault : ReportFault) → ¬ (ended fault ≡ ended report_fault.Write)
-    → serve_fault.Report fault ≢ write_failed
-report_other report_fault.Write other = absurd (other refl)
-report_other report_fault.NoMemory other = λ is. cc
-report_other (report_fault.Run fault) other = λ is. cc
+-- want of memory is no failed put
+pub no_failed_put : (fault : ReportFault) → IsWantOfMemory fault → serve_fault.Report fault ≢ write_failed
+no_failed_put fault memory is = elim memory [
+  | inl for_run ↦ absurd cc
+  | inr for_text ↦ absurd cc
+]
 
 module _ {S : Type 0} (contents : S → Option (List ℕ)) (failures : S → ℕ) (s : Scenario) where
   -- nothing was answered

@@ -39,7 +39,7 @@ IsRefusedBy s line text =
     ((MAX_LINE < length line) × (text ≡ too_long_line MAX_LINE))
     ⊎ ((length line ≤ MAX_LINE) × IsNotJson line × ((column : ℕ) × (text ≡ not_json_line column)))
     ⊎ ((length line ≤ MAX_LINE) × ((d : Data) × (e : Fault) × IsJsonOf line d
-    × (request_of s d ≡ Err e) × (text ≡ refused_line s e d)))
+    × (request_of s d ≡ Err e) × ((why : Text) × (text ≡ refused_line e why))))
 
 -- a line asks for this
 abbrev pub AsksFor : Scenario → Text → Request → Type 0

@@ -1,5 +1,5 @@
 // The lines of an input.
-ghost use Rattle.std.specs.Prelude.{◌≡◌, ◌≢◌, ◌<◌, ◌≤◌, ◌==◌, Err, IfOk, IfSome, OnOk, length, position};
+ghost use Rattle.std.specs.Prelude.{◌≡◌, ◌≢◌, ◌<◌, ◌≤◌, ◌==◌, ◌⊎◌, IfErr, IfOk, IfSome, OnOk, length, position};
 ghost use Rattle.std.specs.List.{position_or_len};
 ghost use Rattle.std.specs.Io.BufRead.{DropsThrough};
 ghost use Rattle.msg_serve.specs.inner.Input.{IsPart, IsRead, IsSeen};
@@ -27,7 +27,8 @@ pub fn read_line<B: BufRead>(input: &mut B, line: &mut Vec<u8>) -> Result<Line, 
     ensures line { IfOk result (λ read. IfSome (B.remaining input.old) (λ bytes.
         IsRead read bytes line.new.items)) }
     ensures rest { OnOk result (DropsThrough (B.remaining input.old) (B.remaining input.new) 10) }
-    ensures unput { ¬ (result ≡ Err (ServeFault.Report ReportFault.Write)) }
+    ensures faults { IfErr result (λ fault. (fault ≡ ServeFault.Input)
+        ⊎ (fault ≡ ServeFault.Report ReportFault.NoMemory)) }
 {
     line.clear();
     let mut is_empty = true;
@@ -59,7 +60,8 @@ enum Part {
 fn add_part<B: BufRead>(input: &mut B, line: &mut Vec<u8>) -> Result<Part, ServeFault>
     requires short { length line.old.items ≤ MAX_LINE }
     ensures short { length line.new.items ≤ MAX_LINE }
-    ensures unput { ¬ (result ≡ Err (ServeFault.Report ReportFault.Write)) }
+    ensures faults { IfErr result (λ fault. (fault ≡ ServeFault.Input)
+        ⊎ (fault ≡ ServeFault.Report ReportFault.NoMemory)) }
     ensures part { IfOk result (λ part. IfSome (B.remaining input.old) (λ bytes.
         IsPart part bytes (B.remaining input.new) line.old.items line.new.items)) }
 {
@@ -110,7 +112,7 @@ fn feed_in(shown: &[u8]) -> Option<usize>
 /// Skips what is left of a line.
 fn skip_line<B: BufRead>(input: &mut B) -> Result<Line, ServeFault>
     ensures too_long { IfOk result (λ read. read ≡ Line.TooLong) }
-    ensures unput { ¬ (result ≡ Err (ServeFault.Report ReportFault.Write)) }
+    ensures input { IfErr result (λ fault. fault ≡ ServeFault.Input) }
     ensures rest { OnOk result (DropsThrough (B.remaining input.old) (B.remaining input.new) 10) }
 {
     match input.skip_until(b'\n') {

@@ -1,11 +1,11 @@
 // A scenario that is being served.
-ghost use Rattle.std.specs.Prelude.{◌≡◌, ◌≢◌, ◌≤◌, Err, IfErr, IsTrue, OnOk, length};
-ghost use Rattle.serde_json.specs.View.{view};
+ghost use Rattle.std.specs.Prelude.{◌≡◌, ◌≢◌, IfErr, OnOk};
 ghost use Rattle.msg_world.specs.Prelude.{i64_values};
-ghost use Rattle.msg_exec.specs.Prelude.{EngineStands, IsEngine, PostsFit};
+ghost use Rattle.msg_exec.specs.Prelude.{EngineStands, PostsFit};
 ghost use Rattle.msg_frames.specs.Prelude.{State};
 ghost use Rattle.msg_log_json.specs.Prelude.{frame_line, not_json_line, refused_line, too_long_line};
-ghost use Rattle.msg_serve.specs.{Served.after_request, Served.number_of, Requests.readers, Requests.run, inner.Answering.Answers, inner.Answering.IsPut};
+ghost use Rattle.msg_text.specs.Prelude.{Text};
+ghost use Rattle.msg_serve.specs.{Served.after_request, Served.number_of, Requests.readers, Requests.run, inner.Answering.Answers, inner.Answering.IsPut, inner.Answering.IsWantOfMemory, inner.Answering.Serves};
 
 use crate::limits::MAX_LINE;
 use msg_exec::{EngineOf, Frame, Log, NoGate, Workers};
@@ -16,7 +16,6 @@ use msg_log_json::{
 use msg_scenario_data::Scenario;
 use msg_system::SystemOf;
 use msg_text::{ReportFault, Sink, put_text};
-use msg_world::{MAX_RESOURCES, MAX_TYPES, RunFault, World};
 use serde_json::Value;
 use std::thread::Threads;
 
@@ -35,11 +34,11 @@ pub fn run_frame<R: Threads + Sync, X: SystemOf<Value = i64> + Send>(
     frame: &Frame,
     workers: Workers,
 ) -> Result<(), ReportFault>
-    requires engine { IsEngine i64_values X.meaning server.old.engine }
+    requires serves { Serves X.meaning server.old }
     requires posts { PostsFit server.old.engine frame.now }
     ensures same { server.new.scenario ≡ server.old.scenario }
     ensures answers { OnOk result (Answers X.meaning (run frame.now) server.old server.new) }
-    ensures unput { ¬ (result ≡ Err ReportFault.Write) }
+    ensures memory { IfErr result IsWantOfMemory }
 {
     let log = match server.engine.run_frame(rt, frame, workers, &NoGate) {
         Ok(log) => log,
@@ -56,10 +55,10 @@ fn tell_frame<X: SystemOf<Value = i64>>(
     frame: &Frame,
     log: &Log,
 ) -> Result<(), ReportFault>
-    requires engine { IsEngine i64_values X.meaning server.old.engine }
+    requires serves { Serves X.meaning server.old }
     ensures same { server.new.scenario ≡ server.old.scenario }
     ensures engine { server.new.engine ≡ server.old.engine }
-    ensures unput { ¬ (result ≡ Err ReportFault.Write) }
+    ensures memory { IfErr result IsWantOfMemory }
     ensures line { OnOk result
         ((now : State i64_values) → EngineStands X.meaning server.old.engine now
         → server.new.text.items ≡ frame_line server.old.scenario.now (number_of now) frame.now
@@ -68,11 +67,8 @@ fn tell_frame<X: SystemOf<Value = i64>>(
     server.text.clear();
     let number = server.engine.frames_run();
     let Some(world) = server.engine.world() else {
-        return Err(ReportFault::Run(RunFault::Spoiled));
+        unreachable!()
     };
-    if !fits(server.scenario, world) {
-        return Err(ReportFault::Run(RunFault::Spoiled));
-    }
     Ok(add_frame_line(
         &mut server.text,
         server.scenario,
@@ -83,18 +79,6 @@ fn tell_frame<X: SystemOf<Value = i64>>(
     )?)
 }
 
-/// Whether the world has as many types and resources as the scenario, as that of its engine does.
-fn fits(scenario: &Scenario, world: &World) -> bool
-    ensures few { IsTrue result → (length scenario.now.types ≤ MAX_TYPES)
-        × (length scenario.now.resources ≤ MAX_RESOURCES) }
-    ensures as_many { IsTrue result → (length world.now.types ≡ length scenario.now.types)
-        × (length world.now.resources ≡ length scenario.now.resources) }
-{
-    let types = scenario.types.as_slice().len();
-    let resources = scenario.resources.as_slice().len();
-    world.types() == types && world.resources() == resources
-}
-
 /// Runs the next frame, and says nothing of it.
 pub fn pass_frame<R: Threads + Sync, X: SystemOf<Value = i64> + Send>(
     rt: &R,
@@ -102,13 +86,13 @@ pub fn pass_frame<R: Threads + Sync, X: SystemOf<Value = i64> + Send>(
     frame: &Frame,
     workers: Workers,
 ) -> Result<(), ReportFault>
-    requires engine { IsEngine i64_values X.meaning server.old.engine }
+    requires serves { Serves X.meaning server.old }
     requires posts { PostsFit server.old.engine frame.now }
     ensures same { server.new.scenario ≡ server.old.scenario }
     ensures stands { OnOk result
         ((now : State i64_values) → EngineStands X.meaning server.old.engine now
         → EngineStands X.meaning server.new.engine (after_request (run frame.now) now)) }
-    ensures unput { ¬ (result ≡ Err ReportFault.Write) }
+    ensures memory { IfErr result IsWantOfMemory }
 {
     match server.engine.run_frame(rt, frame, workers, &NoGate) {
         Ok(log) => {
@@ -121,10 +105,10 @@ pub fn pass_frame<R: Threads + Sync, X: SystemOf<Value = i64> + Send>(
 
 /// Makes the line of the readers.
 pub fn tell_readers<X: SystemOf<Value = i64>>(server: &mut Server<X>) -> Result<(), ReportFault>
-    requires engine { IsEngine i64_values X.meaning server.old.engine }
+    requires serves { Serves X.meaning server.old }
     ensures same { server.new.scenario ≡ server.old.scenario }
     ensures answers { OnOk result (Answers X.meaning readers server.old server.new) }
-    ensures unput { ¬ (result ≡ Err ReportFault.Write) }
+    ensures memory { IfErr result IsWantOfMemory }
 {
     server.text.clear();
     let accounts = match server.engine.accounts() {
@@ -132,11 +116,8 @@ pub fn tell_readers<X: SystemOf<Value = i64>>(server: &mut Server<X>) -> Result<
         Err(fault) => return Err(ReportFault::Run(fault)),
     };
     let Some(world) = server.engine.world() else {
-        return Err(ReportFault::Run(RunFault::Spoiled));
+        unreachable!()
     };
-    if !fits(server.scenario, world) {
-        return Err(ReportFault::Run(RunFault::Spoiled));
-    }
     Ok(add_readers_line(
         &mut server.text,
         server.scenario,
@@ -150,7 +131,7 @@ pub fn tell_too_long<X>(server: &mut Server<X>) -> Result<(), ReportFault>
     ensures same { server.new.scenario ≡ server.old.scenario }
     ensures engine { server.new.engine ≡ server.old.engine }
     ensures line { OnOk result (server.new.text.items ≡ too_long_line MAX_LINE) }
-    ensures unput { ¬ (result ≡ Err ReportFault.Write) }
+    ensures memory { IfErr result IsWantOfMemory }
 {
     server.text.clear();
     Ok(add_too_long_line(&mut server.text, MAX_LINE)?)
@@ -161,7 +142,7 @@ pub fn tell_not_json<X>(server: &mut Server<X>, column: usize) -> Result<(), Rep
     ensures same { server.new.scenario ≡ server.old.scenario }
     ensures engine { server.new.engine ≡ server.old.engine }
     ensures line { OnOk result (server.new.text.items ≡ not_json_line column) }
-    ensures unput { ¬ (result ≡ Err ReportFault.Write) }
+    ensures memory { IfErr result IsWantOfMemory }
 {
     server.text.clear();
     Ok(add_not_json_line(&mut server.text, column)?)
@@ -175,10 +156,10 @@ pub fn tell_refused<X>(
 ) -> Result<(), ReportFault>
     ensures same { server.new.scenario ≡ server.old.scenario }
     ensures engine { server.new.engine ≡ server.old.engine }
-    ensures line { OnOk result (server.new.text.items
-        ≡ refused_line server.old.scenario.now fault.now (view value.now)) }
+    ensures line { OnOk result ((why : Text)
+        × (server.new.text.items ≡ refused_line fault.now why)) }
     ensures refused { OnOk result (fault.now.reason ≢ Reason.NoMemory) }
-    ensures unput { ¬ (result ≡ Err ReportFault.Write) }
+    ensures memory { IfErr result IsWantOfMemory }
 {
     if matches!(fault.reason, Reason::NoMemory) {
         return Err(ReportFault::NoMemory);

@@ -1,15 +1,16 @@
 // Lines, each answered by a line.
-ghost use Rattle.std.specs.Prelude.{◌≡◌, ◌≢◌, ◌≤◌, All, [], ℕ, Err, IfSome, List, Ok, OnOk, false, length, true};
+ghost use Rattle.std.specs.Prelude.{◌≡◌, ◌≢◌, ◌≤◌, [], ℕ, Err, IfErr, IfSome, List, Ok, OnOk, false, length, true};
 ghost use Rattle.std.specs.List.{AllZip};
 ghost use Rattle.std.specs.Io.BufRead.{DropsThrough};
 ghost use Rattle.serde_json.specs.View.{view};
-ghost use Rattle.msg_world.specs.Prelude.{i64_values};
-ghost use Rattle.msg_exec.specs.Prelude.{EachIs, EngineStands, IsEngine};
+ghost use Rattle.msg_world.specs.declared.run_fault.RunFault.{RunFault as RunView};
+ghost use Rattle.msg_text.specs.declared.report_fault.ReportFault.{ReportFault as ReportView};
+ghost use Rattle.msg_exec.specs.Prelude.{EachIs, EngineStands};
 ghost use Rattle.msg_serve.specs.declared.serve_fault.ServeFault.{ServeFault as FaultView};
 ghost use Rattle.msg_reports.specs.Prelude.{IsSystemAt};
-ghost use Rattle.msg_scenario_data.specs.Prelude.{IsRunnable, PostsAreToTypes, state_of};
+ghost use Rattle.msg_scenario_data.specs.Prelude.{IsRunnable, state_of};
 ghost use Rattle.msg_serve.specs.{Lines.lines_of, Requests.AsksFor, Requests.Request as RequestView, Served.EndsServing, Served.IsServed, Served.after_own};
-ghost use Rattle.msg_serve.specs.{inner.Answering.AnsweredSoFar, inner.Answering.Answers, inner.Answering.Serves, inner.Answering.ValueAsksFor, inner.Input.IsRead, inner.Input.first_line};
+ghost use Rattle.msg_serve.specs.{inner.Answering.AnsweredSoFar, inner.Answering.Answers, inner.Answering.IsWantOfMemory, inner.Answering.Serves, inner.Answering.ValueAsksFor, inner.Input.IsRead, inner.Input.first_line};
 
 use crate::ServeFault;
 use crate::input::{Line, read_line};
@@ -26,6 +27,7 @@ use msg_reports::engine_of;
 use msg_scenario_data::Scenario;
 use msg_system::SystemOf;
 use msg_text::{ReportFault, Sink};
+use msg_world::RunFault;
 use serde_json::Value;
 use std::io::BufRead;
 use std::thread::Threads;
@@ -61,6 +63,10 @@ pub fn serve_scenario<
     ensures ends { (fault : FaultView) → result ≡ Err fault
         → IfSome (B.remaining input.old) (λ bytes.
         EndsServing S.contents S.failures scenario.now bytes fault sink.old sink.new) }
+
+    // A run fault is want of memory, in a frame or for the accounts.
+    ensures run { (why : RunView) → result ≡ Err (ServeFault.Report (ReportFault.Run why))
+        → why ≡ RunFault.NoMemory }
 {
     let mut server = Server {
         scenario,
@@ -80,16 +86,17 @@ fn serve<R: Threads + Sync + AllocGlobal, X: SystemOf<Value = i64> + Send, B: Bu
     input: &mut B,
     sink: &mut S,
 ) -> Result<(), ServeFault>
+    requires runnable { IsRunnable server.old.scenario.now }
     requires engine { EngineStands X.meaning server.old.engine
         (state_of server.old.scenario.now) }
-    requires posts { All (PostsAreToTypes server.old.scenario.now)
-        server.old.scenario.now.frames }
     ensures ok { OnOk result (IfSome (B.remaining input.old) (λ bytes.
         IsServed server.old.scenario.now bytes (S.contents sink.old) (S.contents sink.new))) }
     ensures quiet { OnOk result (S.failures sink.new ≡ S.failures sink.old) }
     ensures ends { (fault : FaultView) → result ≡ Err fault
         → IfSome (B.remaining input.old) (λ bytes.
         EndsServing S.contents S.failures server.old.scenario.now bytes fault sink.old sink.new) }
+    ensures run { (why : RunView) → result ≡ Err (ServeFault.Report (ReportFault.Run why))
+        → why ≡ RunFault.NoMemory }
 {
     pass_frames(rt, server, workers)?;
     answer_lines(rt, server, workers, input, sink)?;
@@ -103,14 +110,13 @@ fn pass_frames<R: Threads + Sync, X: SystemOf<Value = i64> + Send>(
     server: &mut Server<X>,
     workers: Workers,
 ) -> Result<(), ReportFault>
+    requires runnable { IsRunnable server.old.scenario.now }
     requires engine { EngineStands X.meaning server.old.engine
         (state_of server.old.scenario.now) }
-    requires posts { All (PostsAreToTypes server.old.scenario.now)
-        server.old.scenario.now.frames }
     ensures same { server.new.scenario ≡ server.old.scenario }
     ensures stands { OnOk result (EngineStands X.meaning server.new.engine
         (after_own server.old.scenario.now)) }
-    ensures unput { ¬ (result ≡ Err ReportFault.Write) }
+    ensures memory { IfErr result IsWantOfMemory }
 {
     let scenario = server.scenario;
     for frame in scenario.frames.as_slice() {
@@ -132,6 +138,7 @@ fn answer_lines<
     input: &mut B,
     sink: &mut S,
 ) -> Result<(), ServeFault>
+    requires runnable { IsRunnable server.old.scenario.now }
     requires engine { EngineStands X.meaning server.old.engine
         (after_own server.old.scenario.now) }
     ensures same { server.new.scenario ≡ server.old.scenario }
@@ -143,6 +150,8 @@ fn answer_lines<
     ensures ends { (fault : FaultView) → result ≡ Err fault
         → IfSome (B.remaining input.old) (λ bytes.
         EndsServing S.contents S.failures server.old.scenario.now bytes fault sink.old sink.new) }
+    ensures run { (why : RunView) → result ≡ Err (ServeFault.Report (ReportFault.Run why))
+        → why ≡ RunFault.NoMemory }
 {
     let mut line = Vec::new(rt.alloc());
     for _ in 0..u64::MAX {
@@ -171,7 +180,8 @@ fn answer_next<R: Threads + Sync + AllocGlobal, X: SystemOf<Value = i64> + Send,
         (bytes ≢ []) × AsksFor server.old.scenario.now (first_line bytes) request)
         × Answers X.meaning request server.old server.new }
     ensures rest { OnOk result (DropsThrough (B.remaining input.old) (B.remaining input.new) 10) }
-    ensures unput { ¬ (result ≡ Err (ServeFault.Report ReportFault.Write)) }
+    ensures memory { (fault : ReportView) → result ≡ Err (ServeFault.Report fault)
+        → IsWantOfMemory fault }
 {
     let read = read_line(input, line)?;
     if read == Line::End {
@@ -197,7 +207,7 @@ fn answer_read<R: Threads + Sync + AllocGlobal, X: SystemOf<Value = i64> + Send>
         × ((bytes : List ℕ) → IsRead read bytes line.now
         → AsksFor server.old.scenario.now (first_line bytes) request)
         × Answers X.meaning request server.old server.new) }
-    ensures unput { ¬ (result ≡ Err ReportFault.Write) }
+    ensures memory { IfErr result IsWantOfMemory }
 {
     match read {
         Line::Whole => answer_line(rt, server, line, workers),
@@ -219,7 +229,7 @@ fn answer_line<R: Threads + Sync + AllocGlobal, X: SystemOf<Value = i64> + Send>
     ensures answers { OnOk result ((request : RequestView)
         × AsksFor server.old.scenario.now line.now request
         × Answers X.meaning request server.old server.new) }
-    ensures unput { ¬ (result ≡ Err ReportFault.Write) }
+    ensures memory { IfErr result IsWantOfMemory }
 {
     match parse(rt.alloc(), line) {
         Ok(value) => answer_value(rt, server, &value, workers),
@@ -240,7 +250,7 @@ fn answer_value<R: Threads + Sync + AllocGlobal, X: SystemOf<Value = i64> + Send
     ensures answers { OnOk result ((request : RequestView)
         × ValueAsksFor server.old.scenario.now (view value.now) request
         × Answers X.meaning request server.old server.new) }
-    ensures unput { ¬ (result ≡ Err ReportFault.Write) }
+    ensures memory { IfErr result IsWantOfMemory }
 {
     match read_request(rt.alloc(), server.scenario, value) {
         Ok(Request::Frame(frame)) => run_frame(rt, server, &frame, workers),

@@ -1,12 +1,13 @@
 // The frames of a scenario, each told by a line.
-ghost use Rattle.std.specs.Prelude.{◌≡◌, All, Err, OnOk, length};
-ghost use Rattle.msg_exec.specs.Prelude.{EachIs, EngineStands, IsEngine, PostsFit};
+ghost use Rattle.std.specs.Prelude.{◌≡◌, Err, OnOk, length};
+ghost use Rattle.msg_exec.specs.Prelude.{EachIs, EngineStands, PostsFit};
 ghost use Rattle.msg_frames.specs.Prelude.{State};
 ghost use Rattle.msg_text.specs.declared.report_fault.ReportFault.{ReportFault as FaultView};
 ghost use Rattle.msg_world.specs.Prelude.{i64_values};
+ghost use Rattle.msg_world.specs.declared.run_fault.RunFault.{RunFault as RunView};
 ghost use Rattle.msg_reports.specs.Prelude.{IsSystemAt};
-ghost use Rattle.msg_scenario_data.specs.Prelude.{IsRunnable, PostsAreToTypes, state_of};
-ghost use Rattle.msg_serve.specs.{Requests.run, Served.EndsTrace, Served.IsTraced, Served.after_request, Served.answer_of, inner.Answering.IsPut};
+ghost use Rattle.msg_scenario_data.specs.Prelude.{IsRunnable, state_of};
+ghost use Rattle.msg_serve.specs.{Requests.run, Served.EndsTrace, Served.IsTraced, Served.after_request, Served.answer_of, inner.Answering.IsPut, inner.Answering.Serves};
 
 use crate::server::{Server, put_answer, run_frame, tell_readers};
 use msg_exec::{Frame, Workers};
@@ -14,6 +15,7 @@ use msg_reports::engine_of;
 use msg_scenario_data::Scenario;
 use msg_system::SystemOf;
 use msg_text::{ReportFault, Sink};
+use msg_world::RunFault;
 use std::thread::Threads;
 
 /// Makes the engine of a scenario of its systems, and runs its frames: the line of each is put
@@ -40,6 +42,10 @@ pub fn trace_scenario<R: Threads + Sync + AllocGlobal, X: SystemOf<Value = i64> 
     ensures quiet { OnOk result (S.failures sink.new ≡ S.failures sink.old) }
     ensures ends { (fault : FaultView) → result ≡ Err fault
         → EndsTrace S.contents S.failures scenario.now fault sink.old sink.new }
+
+    // A run fault is want of memory, in a frame or for the accounts.
+    ensures run { (why : RunView) → result ≡ Err (ReportFault.Run why)
+        → why ≡ RunFault.NoMemory }
 {
     let mut server = Server {
         scenario,
@@ -58,15 +64,16 @@ fn trace<R: Threads + Sync, X: SystemOf<Value = i64> + Send, S: Sink>(
     workers: Workers,
     sink: &mut S,
 ) -> Result<(), ReportFault>
+    requires runnable { IsRunnable server.old.scenario.now }
     requires engine { EngineStands X.meaning server.old.engine
         (state_of server.old.scenario.now) }
-    requires posts { All (PostsAreToTypes server.old.scenario.now)
-        server.old.scenario.now.frames }
     ensures ok { OnOk result (IsTraced server.old.scenario.now
         (S.contents sink.old) (S.contents sink.new)) }
     ensures quiet { OnOk result (S.failures sink.new ≡ S.failures sink.old) }
     ensures ends { (fault : FaultView) → result ≡ Err fault
         → EndsTrace S.contents S.failures server.old.scenario.now fault sink.old sink.new }
+    ensures run { (why : RunView) → result ≡ Err (ReportFault.Run why)
+        → why ≡ RunFault.NoMemory }
 {
     let scenario = server.scenario;
     for frame in scenario.frames.as_slice() {
@@ -84,7 +91,7 @@ fn trace_frame<R: Threads + Sync, X: SystemOf<Value = i64> + Send, S: Sink>(
     workers: Workers,
     sink: &mut S,
 ) -> Result<(), ReportFault>
-    requires engine { IsEngine i64_values X.meaning server.old.engine }
+    requires serves { Serves X.meaning server.old }
     requires posts { PostsFit server.old.engine frame.now }
     ensures same { server.new.scenario ≡ server.old.scenario }
     ensures stands { OnOk result
@@ -93,6 +100,8 @@ fn trace_frame<R: Threads + Sync, X: SystemOf<Value = i64> + Send, S: Sink>(
     ensures put { (now : State i64_values) → EngineStands X.meaning server.old.engine now
         → IsPut S.contents S.failures (answer_of server.old.scenario.now (run frame.now) now)
         result sink.old sink.new }
+    ensures run { (why : RunView) → result ≡ Err (ReportFault.Run why)
+        → why ≡ RunFault.NoMemory }
 {
     run_frame(rt, server, frame, workers)?;
     put_answer(server, sink)

@@ -172,7 +172,7 @@ fn defend<R: Threads + Sync>(
         → HasRunFrames ⟦<Part as SystemOf>⟧.meaning frames.now (first_state
         (numbered_from 0
         (map ⟦<Part as SystemOf>⟧.meaning parts.systems)) parts.places
-        parts.rules (length world.types) w) [] r.1.items r.0) }
+        parts.rules (length world.types) (length world.resources) w) [] r.1.items r.0) }
     ensures engine { IfOk result
         (λ r. IsEngine event_values ⟦<Part as SystemOf>⟧.meaning r.0) }
 {

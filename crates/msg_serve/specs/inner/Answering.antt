@@ -1,14 +1,15 @@
 -- What an answer is while lines are served: the words of private functions.
-use Rattle.std.specs.Prelude.{◌≡◌, ◌≢◌, ℕ, ℤ, List, ◌++◌, Option, Some, Result, Ok, Err, OnErr, OnOk, length}
+use Rattle.std.specs.Prelude.{◌≡◌, ◌≢◌, ◌⊎◌, ℕ, ℤ, List, ◌++◌, Option, Some, Result, Ok, Err, OnErr, OnOk}
 use Rattle.std.specs.Io.KnownBytes.{Appends}
 use Rattle.std.specs.List.{AllZip}
 use Rattle.serde_json.specs.Data.{Data}
 use Rattle.msg_exec.specs.Prelude.{EngineStands}
 use Rattle.msg_exec.specs.declared.engine.EngineOf.{EngineOf}
-use Rattle.msg_frames.specs.Prelude.{State}
+use Rattle.msg_frames.specs.Prelude.{SameSystems, State}
 use Rattle.msg_json.specs.Prelude.{Reading}
 use Rattle.msg_json.specs.declared.fault.Fault.{Fault}
 use Rattle.msg_log_json.specs.Prelude.{refused_line}
+use Rattle.msg_scenario_data.specs.Prelude.{IsRunnable, state_of}
 use Rattle.msg_scenario_data.specs.declared.scenario.Scenario.{Scenario}
 use Rattle.msg_serve.specs.declared.server.Server.{Server}
 use Rattle.msg_serve.specs.declared.request.Request.{Request as Asked}
@@ -20,6 +21,12 @@ use Rattle.msg_text.specs.Prelude.{AppendsPrefix, Text, one_failure_more}
 use Rattle.msg_text.specs.declared.report_fault.ReportFault.{ReportFault}
 use Rattle.msg_text.specs.declared.report_fault.ReportFault.TheVariants as report_fault
 use Rattle.msg_world.specs.Prelude.{i64_values}
+use Rattle.msg_world.specs.declared.run_fault.RunFault.TheVariants as run_fault
+
+-- there was no memory: for a frame or for the accounts, or for an answer
+abbrev pub IsWantOfMemory : ReportFault → Type 0
+IsWantOfMemory fault =
+    (fault ≡ report_fault.Run run_fault.NoMemory) ⊎ (fault ≡ report_fault.NoMemory)
 
 -- a request that was read
 abbrev pub request_seen : Result Asked Fault → Reading Request
@@ -29,7 +36,8 @@ request_seen (Err e) = Err e
 
 -- the value of a line asks for this
 abbrev pub ValueAsksFor : Scenario → Data → Request → Type 0
-ValueAsksFor s d (refused text) = (e : Fault) × (request_of s d ≡ Err e) × (text ≡ refused_line s e d)
+ValueAsksFor s d (refused text) =
+    (e : Fault) × (request_of s d ≡ Err e) × ((why : Text) × (text ≡ refused_line e why))
 ValueAsksFor s d request = request_of s d ≡ Ok request
 
 -- the first lines ask for these, and what is left of the input has the others
@@ -42,10 +50,13 @@ pub record AreAsked (s : Scenario) (input : List ℕ) (after : Option (List ℕ)
   pub asked : AllZip (AsksFor s) lines requests
 
 module _ {X : Type 0} (meaning : X → Meaning ℤ) where
-  -- the engine stands for a state with as many types as the scenario has
-  abbrev pub Serves : Server X → Type 0
-  Serves server = (now : State i64_values) × EngineStands meaning server.engine now
-      × (now.types ≡ length server.scenario.now.types)
+  -- The scenario can be run, and the engine stands for a state that has its systems, and as many
+  -- types and resources.
+  pub record Serves (server : Server X) : Type 0 where
+    pub runnable : IsRunnable server.scenario.now
+    pub now : State i64_values
+    pub stands : EngineStands meaning server.engine now
+    pub same : SameSystems (state_of server.scenario.now) now
 
   -- the text is the answer of a request to this state, and the engine stands for the state after it
   pub record IsAnswer (s : Scenario) (request : Request) (now : State i64_values)

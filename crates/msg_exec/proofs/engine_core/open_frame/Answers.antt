@@ -40,6 +40,7 @@ returns g c = record {
           whole = λ p there. shape.there p
               ∙ has.lender.whole p (rw (shape.size.types, shape.size.resources) at there);
           types = shape.size.types ∙ has.lender.types;
+          resources = shape.size.resources ∙ has.lender.resources;
         };
         fixed = fixed_along refl refl (grind arith) has.fixed;
         plan = has.plan;

@@ -92,6 +92,7 @@ loop-i-preserved g c =
             world = far.world;
             whole = far.whole;
             types = far.types;
+            resources = far.resources;
           };
       systems = grind (arith, length-set);
       totals = grind (arith, length-set);

@@ -14,9 +14,13 @@ returns-in-Ok g c =
     let s = c.args.scenario.now in
     let made = all_made g.S.SystemOf.meaning s c.args.systems.items c.requires.as_many c.requires.each in
     record {
-      meaning = rw
-          (made, c.in_ok-places.ensures.places, c.in_ok-rules.ensures.rules, c.in_ok-world.ensures.types)
-          at (c.in-Ok.ensures.since (first_world s) c.in_ok-world.ensures.meaning).stands;
+      meaning = rw (
+        made,
+        c.in_ok-places.ensures.places,
+        c.in_ok-rules.ensures.rules,
+        c.in_ok-world.ensures.types,
+        c.in_ok-world.ensures.resources,
+      ) at (c.in-Ok.ensures.since (first_world s) c.in_ok-world.ensures.meaning).stands;
     }
 
 pub unreachable-requires : goal.unreachable-requires

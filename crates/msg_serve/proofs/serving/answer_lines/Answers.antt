@@ -1,8 +1,9 @@
-use Rattle.std.proofs.Common.{[], Err, Ok, ap, arith, refl, true, ◌∙◌, ◌≡◌, ◌≢◌, ◌∷◌, ◌++◌}
+use Rattle.std.proofs.Common.{[], Err, Ok, ap, arith, refl, true, ◌∙◌, ◌≡◌, ◌∷◌, ◌++◌}
 use Rattle.std.proofs.lemmas.Result.{err_from_is_err_and}
 use Rattle.msg_serve.specs.Prelude.{after_own}
 use Rattle.msg_serve.specs.declared.serve_fault.ServeFault.TheVariants as serve_fault
-use Rattle.msg_serve.proofs.AnswersInTurn.{answered_more, answered_none, asked_all, asked_more, asked_none, ends_before, ends_within, own_types, stopped, stopped_put, types_stay}
+use Rattle.msg_text.specs.declared.report_fault.ReportFault.TheVariants as report_fault
+use Rattle.msg_serve.proofs.AnswersInTurn.{answered_more, answered_none, asked_more, asked_none, ends_before, ends_within, no_failed_put, own_keep, stopped, stopped_put}
 use Rattle.msg_serve.proofs.serving.answer_lines.Goals as goal
 
 pub loop-init : goal.loop-init
@@ -21,7 +22,12 @@ pub answer_next-requires-clause-serves : goal.answer_next-requires-clause-serves
 answer_next-requires-clause-serves g c κs within =
     let s = c.args.server.now.scenario.now in
     let far = c.loop.invariant.1 in
-    (_, far.1.stands, rw c.loop.invariant.0 (types_stay far.0 (after_own s) ∙ own_types s))
+    record {
+      runnable = rw c.loop.invariant.0 c.requires.runnable;
+      now = _;
+      stands = far.1.stands;
+      same = rw c.loop.invariant.0 (own_keep s far.0);
+    }
 
 pub returns-in_err-answer_next-clause-ends : goal.returns-in_err-answer_next-clause-ends
 returns-in_err-answer_next-clause-ends g c fault came =
@@ -32,7 +38,7 @@ returns-in_err-answer_next-clause-ends g c fault came =
     let same : fault ≡ why = grind (arith, came, passed.1, passed.2) in
     rw same (ends_before s g.S.Sink.contents g.S.Sink.failures _ _ why _ _ far.0 far.2
     (λ IsNext. stopped g.S.Sink.contents g.S.Sink.failures g.X.SystemOf.meaning s (after_own s) far.0 _ _ _ far.1 IsNext why
-    (λ is. c.in_err-answer_next.ensures.unput (ap Err is))))
+    (λ is. no_failed_put report_fault.Write (c.in_err-answer_next.ensures.memory report_fault.Write (ap Err is)) refl)))
 
 pub returns-in_err-put_answer-clause-ends : goal.returns-in_err-put_answer-clause-ends
 returns-in_err-put_answer-clause-ends g c fault came =

@@ -3,20 +3,14 @@ use Rattle.std.proofs.lemmas.Result.{on_ok_weaker}
 use Rattle.serde_json.specs.View.{view}
 use Rattle.msg_exec.proofs.EngineRunsFrames.{takes_posts}
 use Rattle.msg_serve.specs.Requests.{readers, refused, run}
-use Rattle.msg_serve.proofs.AnswersInTurn.{is_engine, on_ok_both, request_fits, text_answers}
+use Rattle.msg_serve.proofs.AnswersInTurn.{on_ok_both, request_fits, text_answers}
 use Rattle.msg_serve.proofs.serving.answer_value.Goals as goal
-
-pub run_frame-requires-clause-engine : goal.run_frame-requires-clause-engine
-run_frame-requires-clause-engine g c κs within = is_engine g.X.SystemOf.meaning c.args.server.now c.requires.serves
 
 pub run_frame-requires-clause-posts : goal.run_frame-requires-clause-posts
 run_frame-requires-clause-posts g c κs within =
     let serves = c.requires.serves in
-    (takes_posts g.X.SystemOf.meaning _ serves.0 serves.1 _).1
-    (rw serves.2 (request_fits c.args.server.now.scenario.now (view c.args.value.now) c.in-Ok-Frame.frame (rw c.in-Ok-Frame.field-0-is at c.in-Ok-Frame.ensures.reads)))
-
-pub tell_readers-requires : goal.tell_readers-requires
-tell_readers-requires g c = record { engine = is_engine g.X.SystemOf.meaning c.args.server.now c.requires.serves }
+    (takes_posts g.X.SystemOf.meaning _ serves.now serves.stands _).1
+    (rw serves.same.types (request_fits c.args.server.now.scenario.now (view c.args.value.now) c.in-Ok-Frame.frame (rw c.in-Ok-Frame.field-0-is at c.in-Ok-Frame.ensures.reads)))
 
 pub returns-in-Ok-Frame-clause-answers : goal.returns-in-Ok-Frame-clause-answers
 returns-in-Ok-Frame-clause-answers g c = on_ok_weaker c.run_frame.result

@@ -6,7 +6,7 @@ use Rattle.msg_scenario_data.specs.Prelude.{state_of}
 use Rattle.msg_serve.specs.Prelude.{after_own}
 use Rattle.msg_serve.specs.Requests.{readers}
 use Rattle.msg_serve.specs.declared.serve_fault.ServeFault.TheVariants as serve_fault
-use Rattle.msg_serve.proofs.AnswersInTurn.{asked_none, ends_after, ends_before, report_other, served, stopped, stopped_put, unbegun}
+use Rattle.msg_serve.proofs.AnswersInTurn.{asked_none, ends_after, ends_before, no_failed_put, own_keep, served, stopped, stopped_put, unbegun}
 use Rattle.msg_serve.proofs.serving.serve.Goals as goal
 
 pub returns-in_err-pass_frames-clause-ends : goal.returns-in_err-pass_frames-clause-ends
@@ -18,7 +18,21 @@ returns-in_err-pass_frames-clause-ends g c fault came =
     let known = g.B.Read.remaining c.args.input.now in
     rw same (ends_before s g.S.Sink.contents g.S.Sink.failures _ _ (serve_fault.Report why) known known [] (asked_none s known)
     (λ IsNext. unbegun g.S.Sink.contents g.S.Sink.failures s (after_own s) IsNext (serve_fault.Report why) _
-    (report_other why c.in_err-pass_frames.ensures.unput)))
+    (no_failed_put why c.in_err-pass_frames.ensures.memory)))
+
+pub tell_readers-requires : goal.tell_readers-requires
+tell_readers-requires g c =
+    let s = c.args.server.now.scenario.now in
+    let far = rw c.in_ok-pass_frames.ensures.same at c.in_ok-answer_lines.ensures.ok in
+    let scenario = c.in_ok-answer_lines.ensures.same ∙ c.in_ok-pass_frames.ensures.same in
+    record {
+      serves = record {
+        runnable = rw scenario c.requires.runnable;
+        now = _;
+        stands = far.1.stands;
+        same = rw scenario (own_keep s far.0);
+      };
+    }
 
 pub returns-in_err-tell_readers-clause-ends : goal.returns-in_err-tell_readers-clause-ends
 returns-in_err-tell_readers-clause-ends g c fault came =
@@ -30,7 +44,7 @@ returns-in_err-tell_readers-clause-ends g c fault came =
     let same : fault ≡ serve_fault.Report why = grind (arith, came, passed.1, passed.2) in
     rw same (ends_after s g.S.Sink.contents g.S.Sink.failures _ _ (serve_fault.Report why) _ far.0 far.2
     (λ IsNext _. stopped g.S.Sink.contents g.S.Sink.failures g.X.SystemOf.meaning s (after_own s) far.0 _ _ _ far.1 IsNext
-    (serve_fault.Report why) (report_other why c.in_err-tell_readers.ensures.unput)))
+    (serve_fault.Report why) (no_failed_put why c.in_err-tell_readers.ensures.memory)))
 
 pub returns-in_err-put_answer-clause-ends : goal.returns-in_err-put_answer-clause-ends
 returns-in_err-put_answer-clause-ends g c fault came =

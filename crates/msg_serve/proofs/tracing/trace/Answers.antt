@@ -4,8 +4,32 @@ use Rattle.msg_exec.proofs.EngineRunsFrames.{is_sound, takes_posts}
 use Rattle.msg_frames.proofs.ReaderOverRun.{runs_are_complete}
 use Rattle.msg_scenario_data.specs.Prelude.{state_of}
 use Rattle.msg_serve.specs.Requests.{run}
-use Rattle.msg_serve.proofs.AnswersInTurn.{answered_more, frames_next, report_other, trace_done, trace_ends, trace_unread, types_stay}
+use Rattle.msg_serve.proofs.AnswersInTurn.{answered_more, frames_next, no_failed_put, requests_keep, trace_done, trace_ends, trace_unread}
 use Rattle.msg_serve.proofs.tracing.trace.Goals as goal
+
+pub trace_frame-requires-clause-serves : goal.trace_frame-requires-clause-serves
+trace_frame-requires-clause-serves g c κs within =
+    let s = c.args.server.now.scenario.now in
+    let far = c.loop-frame.invariant in
+    record {
+      runnable = rw far.0 c.requires.runnable;
+      now = _;
+      stands = far.1.stands;
+      same = rw far.0 (requests_keep (map run (take c.loop-frame.frame-index s.frames)) (state_of s));
+    }
+
+pub tell_readers-requires : goal.tell_readers-requires
+tell_readers-requires g c =
+    let s = c.args.server.now.scenario.now in
+    let far = c.loop-frame.invariant in
+    record {
+      serves = record {
+        runnable = rw far.0 c.requires.runnable;
+        now = _;
+        stands = far.1.stands;
+        same = rw far.0 (requests_keep (map run (take c.loop-frame.frame-index s.frames)) (state_of s));
+      };
+    }
 
 pub trace_frame-requires-clause-posts : goal.trace_frame-requires-clause-posts
 trace_frame-requires-clause-posts g c κs within =
@@ -14,7 +38,7 @@ trace_frame-requires-clause-posts g c κs within =
     let is = rw c.as_slice-frame-items.ensures.items at c.frame-item.is in
     let lt = rw c.as_slice-frame-items.ensures.items at c.loop-frame-test.true in
     (takes_posts g.X.SystemOf.meaning _ _ c.loop-frame.invariant.1.stands _).1
-    (rw (types_stay (map run (take k s.frames)) (state_of s), is) (c.requires.posts k _ lt))
+    (rw ((requests_keep (map run (take k s.frames)) (state_of s)).types, is) (c.requires.runnable.posts k _ lt))
 
 pub returns-in_err-trace_frame-clause-ends : goal.returns-in_err-trace_frame-clause-ends
 returns-in_err-trace_frame-clause-ends g c fault came =
@@ -52,7 +76,7 @@ returns-in_err-tell_readers-clause-ends g c fault came =
     let why = c.in_err-tell_readers.field-0.0 in
     let same : fault ≡ why = grind (arith, came, passed.1, passed.2) in
     rw same (trace_unread g.S.Sink.contents g.S.Sink.failures s g.X.SystemOf.meaning _ _ _ c.loop-frame.frame-index
-    c.loop-frame.invariant.1 all why (report_other why c.in_err-tell_readers.ensures.unput))
+    c.loop-frame.invariant.1 all why (no_failed_put why c.in_err-tell_readers.ensures.memory))
 
 pub returns-clause-ok : goal.returns-clause-ok
 returns-clause-ok g c =

@@ -61,7 +61,7 @@ returns-clause-since g c w stands =
     at c.in_ok-accesses.ensures.prepared in
     let parts = parts_stand m _ systems places c.requires.whole c.requires.one_place_each c.requires.each rules made
     prepared _ c.in_ok-guarded.ensures.as_many (rw c.deref-6.ensures.value at c.in_ok-guarded.ensures.guarded) w stands in
-    let first : State g.V.Value.values = before_joining (map m systems) places rules (length c.args.world.types) w in
+    let first : State g.V.Value.values = before_joining (map m systems) places rules (length c.args.world.types) (length c.args.world.resources) w in
     let s : State g.V.Value.values = with_joining 1 first in
     let core : Core g.row.S.Denot g.row.V.Denot =
     record { lender = c.join_those.new.lender; joins = made.joins; rules = c.args.rules; plan = made.plan } in
@@ -76,7 +76,7 @@ returns-clause-since g c w stands =
         fixed = fixed;
         plan = rw (c.join_those.ensures.accesses, ← joined_by_frame made.joins.items s 1 fixed.joins (omega arith))
             prepared.plan;
-        sound = first_is_sound (map m systems) places rules (length c.args.world.types) w
+        sound = first_is_sound (map m systems) places rules (length c.args.world.types) (length c.args.world.resources) w
             (are_new m _ systems places c.requires.whole c.requires.one_place_each c.requires.each rules w stands
             c.stands_for_some.ensures.few none);
       };

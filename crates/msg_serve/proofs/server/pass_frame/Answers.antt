@@ -1,0 +1,11 @@
+use Rattle.msg_serve.proofs.AnswersInTurn.{is_engine, only_memory}
+use Rattle.msg_serve.proofs.server.pass_frame.Goals as goal
+
+pub run_frame-requires-clause-engine : goal.run_frame-requires-clause-engine
+run_frame-requires-clause-engine g c κs within =
+    is_engine g.X.SystemOf.meaning c.args.server.now c.requires.serves
+
+pub returns-in-Err-clause-memory : goal.returns-in-Err-clause-memory
+returns-in-Err-clause-memory g c =
+    only_memory g.X.SystemOf.meaning c.args.server.now c.run_frame.result c.in-Err.fault c.requires.serves c.in-Err.is
+    (λ e. c.run_frame.ensures.spoiled.0 e) c.run_frame.ensures.no_bad_order
