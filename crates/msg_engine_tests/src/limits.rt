@@ -47,8 +47,8 @@ fn many_frames_in_one_call(rt: HostRuntime) {
     ran.expect(rt, "frames");
     expect_eq(
         rt,
-        (engine.frames_run(), logs.len() as u32),
-        (NUMBER, NUMBER),
+        (engine.frames_run(), logs.len()),
+        (NUMBER, NUMBER as usize),
     );
     drop((engine, frames, logs));
 }
