@@ -194,12 +194,36 @@ fn last_number(rt: HostRuntime) -> Result<(), Fail> {
     tried.tell(rt)
 }
 
+#[test]
+fn drain_both_halves(rt: HostRuntime) -> Result<(), Fail> {
+    let rt = &rt;
+    let mut tried = Tried::new(rt.alloc(), 10);
+    tried.expect_written(rt, &[(0, 1)]);
+    tried.buffer.update();
+    tried.expect_written(rt, &[(1, 2)]);
+    tried.expect_drained(rt, &[(0, 1), (1, 2)]);
+    expect_eq(rt, tried.cursor.missed(&tried.buffer), 2);
+    tried.expect_read(rt, &[]);
+    tried.expect_written(rt, &[(2, 3)]);
+    tried.expect_read(rt, &[(2, 3)]);
+    tried.tell(rt)
+}
+
 /// Both halves have no room left, so one of them has to grow if they are drained together.
 #[test]
 fn drain_full_halves(rt: HostRuntime) -> Result<(), Fail> {
     let rt = &rt;
     let mut tried = Tried::new(rt.alloc(), 10);
-    let want = [0, 1, 2, 3, 4, 5, 6, 7].map(|number| (number, number as i64));
+    let want = [
+        (0, 10),
+        (1, 11),
+        (2, 12),
+        (3, 13),
+        (4, 14),
+        (5, 15),
+        (6, 16),
+        (7, 17),
+    ];
     tried.expect_written(rt, &want[..4]);
     tried.buffer.update();
     tried.expect_written(rt, &want[4..]);
