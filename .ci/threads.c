@@ -1,9 +1,9 @@
 // Counts the threads that the program which loads this library starts: the file that THREADS names has a `t` for
-// each. If HELD is a number, a thread that has started others waits at each request for so many bytes or more until
-// these have ended. So a job that makes such a request lasts until the others have run all jobs that are left,
-// however short these are and whatever else the machine does. The file has an `h` where the first thread makes such a
-// request after it has started others and before it waits for their end itself, and a `w` for each write on standard
-// output.
+// each, and a `y` for each that gives way. A thread that gives way a second time ends the program. If HELD is a number, a
+// thread that has started others waits at each request for so many bytes or more until these have ended. So a job that
+// makes such a request lasts until the others have run all jobs that are left, however short these are and whatever else
+// the machine does. The file has an `h` where the first thread makes such a request after it has started others and
+// before it waits for their end itself, and a `w` for each write on standard output.
 #define _GNU_SOURCE
 #include <dlfcn.h>
 #include <fcntl.h>
@@ -72,6 +72,15 @@ int pthread_join(pthread_t thread, void **came) {
     has_started = 0;
     has_asked = 0;
     return join(thread, came);
+}
+
+int sched_yield(void) {
+    static _Thread_local int has_given_way;
+    if (has_given_way)
+        abort();
+    has_given_way = 1;
+    tell("y");
+    return (int)syscall(SYS_sched_yield);
 }
 
 ssize_t write(int file, const void *bytes, size_t size) {

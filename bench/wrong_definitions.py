@@ -1,15 +1,16 @@
 #!/usr/bin/env python3
 """Puts each wrong definition of wrong_definitions.txt in place of the right one, in a copy of its crate, and looks
-whether the proof of the function beside it, or the worked run, is refused.
+whether the proof of the function beside it is refused.
 
   wrong_definitions.py [WORD..]     those whose name has one of the words, or all
 
 A wrong definition is a block of lines. The first is its name. `law CRATE FUNCTION` names a law whose proof it breaks.
-`row CRATE NAME` names a worked run (of specs/Rows.antt of msg_laws) that it makes false; the rows are then read as
-specs of CRATE, since no crate above one that isn't proved is read. `code CRATE FUNCTION` names a function whose body
-isn't what it says: only the code tells it from the right one. Then come `file:`, `old:` and `new:`, as in a crate's
-must-fail edits, but with the path below crates/. The crates have to be proved in this clone (`rt all check`). A line
-tells what came of each, and the last line counts: `N passed, M failed`.
+`code CRATE FUNCTION` names a function whose body isn't what it says: only the code tells it from the right one.
+`example NAME` names a file of examples/answered: a program that is proved by the wrong definition prints something else
+than NAME.json.stdout. That is only listed here; `.ci/examples` gives the file to the program that is proved by the
+right one. Then come `file:`, `old:` and `new:`, as in a crate's must-fail edits, but with the path below crates/. The
+crates have to be proved in this clone (`rt all check`). A line tells what came of each, and the last line counts:
+`N passed, M failed`.
 """
 import os
 import shutil
@@ -41,28 +42,19 @@ def copied(crate, changes, room):
         shutil.copytree(old / "out", new / "out", copy_function=os.link, ignore=left)
 
 
-def tried(how, crate, function, changes):
-    """Whether the function's proof, or the worked run, is refused, and what was said."""
+def tried(crate, function, changes):
+    """Whether the function's proof is refused, and what was said."""
     with tempfile.TemporaryDirectory(prefix="wrong-") as room:
         copied(crate, changes, Path(room))
         lost = changed(Path(room) / "crates", changes)
         if lost:
             return False, lost
-        words = ["rt", "check", "--jobs", "1"] + ([] if how == "row" else ["--only", function])
-        if how == "row":
-            specs = Path(room) / "crates" / crate / "specs"
-            shutil.copy(ROOT / "crates/msg_laws/specs/Rows.antt", specs)
-            with (specs / "Lib.antt").open("a", encoding="utf-8") as lib:
-                lib.write("\npub mod Rows\n")
+        words = ["rt", "check", "--jobs", "1", "--only", function]
         ran = subprocess.run(words, cwd=Path(room) / "crates" / crate, stdout=subprocess.PIPE, stderr=subprocess.STDOUT, text=True)
         lines = ran.stdout.strip().split("\n")
         errors = [line for line in lines if ": error: " in line]
         unread = [line for line in errors if any(f"/{line}".startswith(f"/./{file.partition('/')[2]}:") for file, _, _ in changes)]
-        if how == "row":
-            errors = [line for line in errors if line.startswith("./specs/Rows.antt:") and f": error: `{function}`:" in line]
-            refused = bool(errors)
-        else:
-            refused = any(line.startswith(f"fn {crate}::{function}: ") and not line.endswith(": proved") for line in lines)
+        refused = any(line.startswith(f"fn {crate}::{function}: ") and not line.endswith(": proved") for line in lines)
         said = (unread or errors or lines[-3:])[0][:160]
         return refused and not unread, said
 
@@ -71,10 +63,16 @@ def main():
     words = sys.argv[1:]
     passed = failed = 0
     for name, words_of, changes in blocks(ROOT / "bench/wrong_definitions.txt"):
-        how, crate, function = words_of.split()
+        how, *where = words_of.split()
         if words and not any(word in name for word in words):
             continue
-        refused, said = tried(how, crate, function, changes)
+        if how == "example":
+            there = (ROOT / "examples/answered" / f"{where[0]}.json.stdout").is_file()
+            failed += not there
+            print(f"{name}: {'not tried' if there else 'NOT THERE'}: the example {where[0]} tells it", flush=True)
+            continue
+        crate, function = where
+        refused, said = tried(crate, function, changes)
         passed, failed = passed + refused, failed + (not refused)
         told = f"refused by the {how}" if refused else "NOT REFUSED by the " + how
         print(f"{name}: {told} {crate}::{function}: {said}", flush=True)

@@ -8,7 +8,8 @@
 //! reads one of two, `decide` reads two by a behavior, and `function` by a function. Of `boxed` each
 //! system is in a box, and half of them read by a script and half by a behavior. In the first frame
 //! alone, and skipped in the others, `large` reads 4,096 at once, and `many` reads 64, each by an op
-//! of its own. On one worker, or on that many.
+//! of its own. Of `replayed` each system does nothing, and each frame is run after it was replayed.
+//! On one worker, or on that many.
 #![tactic(auto)]
 
 ghost use Rattle.std.specs.Prelude.{◌≤◌, IfOk, length};
@@ -20,6 +21,7 @@ mod boxes;
 mod hearing;
 mod poster;
 mod reader;
+mod replays;
 
 use anyhow::{Context, bail};
 use boxes::run_boxes;
@@ -33,6 +35,7 @@ use msg_system::{
 use msg_world::{ResNo, TypeNo, World};
 use poster::Poster;
 use reader::Reading;
+use replays::run_replays;
 use std::alloc::Global;
 use std::env;
 use std::env::Env;
@@ -155,6 +158,17 @@ fn bench<R: Threads + AllocGlobal + Print + Sync, S: Numbered + SystemOf<Value =
     run_frames(rt, engine, poster, workers)
 }
 
+/// Runs frames of idle systems, each after one that is replayed, and prints what was done.
+fn bench_replays<R: Threads + AllocGlobal + Print + Sync>(
+    rt: &R,
+    systems: EngineBuilder<Scripted>,
+    frames: u64,
+    workers: Workers,
+) -> anyhow::Result<()> {
+    let mut engine = systems.build(world(rt.alloc())?)?;
+    run_replays(rt, rt.alloc(), &mut engine, frames, workers)
+}
+
 /// Systems that decide to read.
 fn readers(alloc: Global, from: TypeNo) -> anyhow::Result<EngineBuilder<BehaviorSystem<Reading>>> {
     let mut systems = EngineBuilder::new(alloc);
@@ -246,6 +260,7 @@ fn run<R: Threads + AllocGlobal + Print + Sync>(
         "boxed" => run_boxes(rt, shared, poster, workers),
         "decide" => bench(rt, readers(alloc, shared)?, poster, workers),
         "function" => bench(rt, hearers(alloc, shared)?, poster, workers),
+        "replayed" => bench_replays(rt, scripts(alloc, "idle", shared, r)?, frames, workers),
         _ => bench(rt, scripts(alloc, kind, shared, r)?, poster, workers),
     }
 }

@@ -25,6 +25,7 @@ pub fn clears_leave_none<M>()
 
 /// The reads and clears of one reader tile its history: each fits the place that the one before it
 /// led to.
+#[tactic(auto, using(crate::proofs::Tiles::reads_fit, crate::proofs::Tiles::reads_up_to, crate::proofs::Tiles::clears_fit, crate::proofs::Tiles::runs_tile))]
 pub fn readers_tile<M>()
     ensures reads { ReadsFit M }
     ensures up_to { ReadsUpTo M }

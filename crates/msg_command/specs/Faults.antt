@@ -7,7 +7,7 @@ use Rattle.msg_command.specs.declared.input.InputFault.TheVariants as input
 use Rattle.msg_json.specs.declared.refusal.Refusal.{Refusal}
 use Rattle.msg_json.specs.declared.refusal.Refusal.TheVariants as refusal
 use Rattle.msg_world.specs.declared.run_fault.RunFault.TheVariants as run
-use Rattle.msg_text.specs.declared.report_fault.ReportFault.TheVariants as report
+use Rattle.msg_json.specs.declared.report_fault.ReportFault.TheVariants as report
 
 -- the line of a refusal: its number and name, but for want of memory
 abbrev pub refusal_line : Refusal → List ℕ

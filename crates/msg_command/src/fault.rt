@@ -1,6 +1,5 @@
 use crate::{InputFault, WordFault};
-use msg_json::Refusal;
-use msg_text::ReportFault;
+use msg_json::{Refusal, ReportFault};
 use thiserror::Error;
 
 mod print;

@@ -74,24 +74,6 @@ fn a_script_before_itself(rt: HostRuntime) {
 }
 
 #[test]
-fn refusals_say_why(rt: HostRuntime) {
-    const ROWS: &[(BuildRefusal, &str)] = &[
-        (
-            BuildRefusal::Clash(1),
-            "system 1 reads and writes one type or resource",
-        ),
-        (
-            BuildRefusal::Cycle(2),
-            "the rules go round in a circle through system 2",
-        ),
-        (BuildRefusal::NoMemory, "want of memory"),
-    ];
-    for (refusal, why) in ROWS {
-        expect_text(&rt, refusal, why);
-    }
-}
-
-#[test]
 fn builders_say_why(rt: HostRuntime) {
     const ROWS: &[(BuildError, &str)] = &[
         (

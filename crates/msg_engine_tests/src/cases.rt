@@ -38,6 +38,23 @@ fn one_frames_lag(rt: HostRuntime) {
     expect_case(&rt, LAG);
 }
 
+/// A writer, and two readers that may run side by side: on two workers they draw from a board. In
+/// each frame both readers are given what was written in it.
+pub const BOARD: &Case = &Case {
+    acts: &[(0, Does::Writes(1)), (0, Does::Reads), (0, Does::Reads)],
+    rules: &[],
+    frames: &[
+        (
+            &[],
+            "[0 wrote 1 from 0][1 read from 0: 0=1][2 read from 0: 0=1]",
+        ),
+        (
+            &[],
+            "[0 wrote 1 from 1][1 read from 1: 0=1][2 read from 1: 0=1]",
+        ),
+    ],
+};
+
 /// In each frame the host posts, both writers write after it, and all four messages are read.
 #[test]
 fn host_and_two_writers(rt: HostRuntime) {
@@ -64,29 +81,31 @@ fn host_and_two_writers(rt: HostRuntime) {
     expect_case(&rt, CASE);
 }
 
+/// Rules that are against the order of addition.
+pub const CONTRADICTORY: &Case = &Case {
+    acts: &[
+        (0, Does::Writes(1)),
+        (1, Does::Writes(2)),
+        (1, Does::Reads),
+        (0, Does::Reads),
+    ],
+    rules: &[
+        Rule {
+            earlier: 3,
+            later: 1,
+        },
+        Rule {
+            earlier: 2,
+            later: 0,
+        },
+    ],
+    frames: &[(
+        &[],
+        "[2 read from 0:][0 wrote 1 from 0][3 read from 0: 0=1][1 wrote 1 from 0]",
+    )],
+};
+
 #[test]
 fn contradictory_order(rt: HostRuntime) {
-    const CASE: &Case = &Case {
-        acts: &[
-            (0, Does::Writes(1)),
-            (1, Does::Writes(2)),
-            (1, Does::Reads),
-            (0, Does::Reads),
-        ],
-        rules: &[
-            Rule {
-                earlier: 3,
-                later: 1,
-            },
-            Rule {
-                earlier: 2,
-                later: 0,
-            },
-        ],
-        frames: &[(
-            &[],
-            "[2 read from 0:][0 wrote 1 from 0][3 read from 0: 0=1][1 wrote 1 from 0]",
-        )],
-    };
-    expect_case(&rt, CASE);
+    expect_case(&rt, CONTRADICTORY);
 }

@@ -5,7 +5,7 @@ ghost use Rattle.msg_world.specs.Prelude.{i64_values};
 use crate::equal::expect_eq;
 use crate::making::{replay, run_frame};
 use crate::told::expect_log;
-use msg_exec::{EngineOf, NoGate, RunFault};
+use msg_exec::{EngineOf, Log, NoGate, RunFault};
 use msg_system::SystemOf;
 use msg_world::Value;
 use std::fmt::Debug;
@@ -15,6 +15,13 @@ use std::thread::Threads;
 
 /// A frame: the values that the host posts to the first type, and what its log tells.
 pub type Told<'a, V = i64> = (&'a [V], &'a str);
+
+/// These are the logs of the first frames.
+pub fn expect_logs(rt: &impl Abort, logs: &[Log], frames: &[Told<'_>]) {
+    for (log, frame) in logs.iter().zip(frames) {
+        expect_log(rt, log, frame.1);
+    }
+}
 
 /// Runs a frame on `number` workers.
 pub fn expect_frame<

@@ -3,53 +3,123 @@ ghost use Rattle.msg_exec.specs.Prelude.{IsEngine};
 ghost use Rattle.msg_world.specs.Prelude.{i64_values};
 
 use crate::equal::expect_eq;
-use crate::gates::{FirstGate, HoldGate, MeetGate, OneByOne};
-use crate::making::{readers, run_frame};
+use crate::making::run_frame;
 use crate::prefaced::{add_counts, prefaced_readers, shared_number};
 use msg_exec::{EngineOf, Gate};
-use msg_system::{Scripted, SystemOf};
+use msg_part_tests::meeting::Meeting;
+use msg_part_tests::prefaced::Prefaced;
+use msg_system::SystemOf;
 use std::process::Abort;
-use std::sync::atomic::Ordering;
+use std::sync::atomic::{AtomicU64, Ordering};
 use std::thread::Threads;
 use std::time::Clock;
 
-/// How many readers there are, on how many workers they run, and which of them the gate holds in
-/// the first frame until it was called for all readers. If it holds all, each worker has a thread
-/// and a number of its own.
-type Row = (u32, u32, [bool; 5]);
+/// Holds one system, or each, until so many calls came, and counts the wrong calls: those whose
+/// worker's number is in use by another call or isn't below the number of workers, those before
+/// which there were more runs than calls, and, on one worker, those that aren't in turn.
+#[derive(Drop)]
+pub struct Watch<'a, C> {
+    workers: u32,
+    held: Option<u32>,
+    runs: &'a AtomicU64,
+    meeting: Meeting<'a, C>,
+    busy: AtomicU64,
+    wrong: AtomicU64,
+}
 
+impl<'a, C: Clock> Watch<'a, C> {
+    /// Holds this system, or each, until `awaited` calls came. The runs are counted elsewhere.
+    pub fn new(
+        clock: &'a C,
+        workers: u32,
+        held: Option<u32>,
+        awaited: u64,
+        runs: &'a AtomicU64,
+    ) -> Watch<'a, C> {
+        Watch {
+            workers,
+            held,
+            runs,
+            meeting: Meeting::new(clock, awaited),
+            busy: AtomicU64::new(0),
+            wrong: AtomicU64::new(0),
+        }
+    }
+
+    /// `calls` calls came and no more, none was wrong, and each that was held saw all that it
+    /// awaited.
+    pub fn expect_met(&self, rt: &impl Abort, calls: u64) {
+        let wrong = self.wrong.load(Ordering::SeqCst);
+        let found = (self.meeting.came(), self.meeting.missed(), wrong);
+        expect_eq(rt, (self.held, found), (self.held, (calls, 0, 0)));
+    }
+}
+
+impl<C: Clock + Sync> Gate for Watch<'_, C> {
+    fn pass(&self, worker: u32, system: u32) {
+        let runs = self.runs.load(Ordering::SeqCst);
+        let before = self.meeting.come();
+        let bit = 1u64 << (worker % 64);
+        let is_busy = self.busy.fetch_or(bit, Ordering::SeqCst) & bit != 0;
+        let is_out_of_turn = self.workers == 1 && system as u64 != before;
+        if worker >= self.workers || is_busy || runs > before || is_out_of_turn {
+            self.wrong.fetch_add(1, Ordering::SeqCst);
+        }
+        if self.held.is_none() || self.held == Some(system) {
+            self.meeting.wait();
+        }
+        self.busy.fetch_and(!bit, Ordering::SeqCst);
+    }
+}
+
+/// How many readers there are, on how many workers they run, which of them (or each) the gate holds
+/// in the first frame, and until how many calls came.
+type Row = (u32, u32, Option<u32>, u64);
+
+/// If each is held until one was begun on each worker, each worker has a thread and a number of its
+/// own. One worker takes a hundred jobs one by one. One job needs one worker if 64 may run.
 const ROWS: &[Row] = &[
-    (3, 2, [true, false, false, false, false]),
-    (3, 2, [false, true, false, false, false]),
-    (3, 2, [false, false, true, false, false]),
-    (2, 2, [true; 5]),
-    (3, 3, [true; 5]),
-    (4, 4, [true; 5]),
-    (5, 5, [true; 5]),
+    (3, 2, Some(0), 3),
+    (3, 2, Some(1), 3),
+    (3, 2, Some(2), 3),
+    (2, 2, None, 2),
+    (3, 3, None, 3),
+    (4, 4, None, 4),
+    (5, 5, None, 5),
+    (20, 20, None, 20),
+    (65, 2, None, 2),
+    (100, 1, None, 0),
+    (1, 64, None, 0),
 ];
 
-/// Runs a frame on these, with a gate that holds some of them and is called once for each.
+/// Runs a frame on these, with a gate that is called once for each, before its run.
 fn run_held<R: Threads + Clock + Sync + Abort + AllocGlobal>(
     rt: &R,
-    engine: &mut EngineOf<Scripted>,
+    engine: &mut EngineOf<Prefaced>,
+    runs: &AtomicU64,
     row: Row,
 )
-    requires engine { IsEngine i64_values ⟦<Scripted as SystemOf>⟧.meaning engine.old }
-    ensures engine { IsEngine i64_values ⟦<Scripted as SystemOf>⟧.meaning engine.new }
+    requires engine { IsEngine i64_values ⟦<Prefaced as SystemOf>⟧.meaning engine.old }
+    ensures engine { IsEngine i64_values ⟦<Prefaced as SystemOf>⟧.meaning engine.new }
 {
-    let (number, workers, held) = row;
-    let gate = HoldGate::new(rt, workers, held, number as u64);
+    let (number, workers, held, awaited) = row;
+    runs.store(0, Ordering::SeqCst);
+    let gate = Watch::new(rt, workers.min(number), held, awaited, runs);
     drop(run_frame(rt, engine, &[5], workers, &gate));
     gate.expect_met(rt, number as u64);
+    expect_eq(rt, runs.load(Ordering::SeqCst), number as u64);
 }
 
 /// What the first frame has shown decides whether the workers of the second rest and how many start
 /// at once, so nobody is held in it.
 fn expect_row<R: Threads + Clock + Sync + Abort + AllocGlobal>(rt: &R, row: Row) {
-    let (number, workers, _) = row;
-    let mut engine = readers(rt, rt.alloc(), number);
-    run_held(rt, &mut engine, row);
-    run_held(rt, &mut engine, (number, workers, [false; 5]));
+    let (number, workers, held, _) = row;
+    let runs = shared_number(rt, rt.alloc());
+    let mut all = Vec::new(rt.alloc());
+    add_counts(rt, &mut all, number, &runs);
+    let mut engine = prefaced_readers(rt, rt.alloc(), all);
+    run_held(rt, &mut engine, &runs, row);
+    run_held(rt, &mut engine, &runs, (number, workers, held, 0));
     drop(engine);
 }
 
@@ -57,59 +127,5 @@ fn expect_row<R: Threads + Clock + Sync + Abort + AllocGlobal>(rt: &R, row: Row)
 fn readers_run_side_by_side(rt: HostRuntime) {
     for row in ROWS {
         expect_row(&rt, *row);
-    }
-}
-
-/// Runs a quiet frame of so many readers on so many workers.
-fn run_readers<R: Threads + Sync + Abort + AllocGlobal, G: Gate>(
-    rt: &R,
-    number: u32,
-    workers: u32,
-    gate: &G,
-) {
-    let mut engine = readers(rt, rt.alloc(), number);
-    drop(run_frame(rt, &mut engine, &[], workers, gate));
-    drop(engine);
-}
-
-/// One worker takes a hundred jobs one by one. One job needs one worker if 64 may run.
-#[test]
-fn one_worker_takes_them_one_by_one(rt: HostRuntime) {
-    for (number, workers) in [(100, 1), (1, 64)] {
-        let gate = OneByOne::new();
-        run_readers(&rt, number, workers, &gate);
-        gate.expect_calls(&rt, number as u64);
-    }
-}
-
-/// Runs readers that may run side by side, none before the gate was called for it.
-fn expect_gate_first<R: Threads + Sync + Abort + AllocGlobal>(rt: &R, number: u32, workers: u32) {
-    let runs = shared_number(rt, rt.alloc());
-    let mut all = Vec::new(rt.alloc());
-    add_counts(rt, &mut all, number, &runs);
-    let mut engine = prefaced_readers(rt, rt.alloc(), all);
-    let gate = FirstGate::new(&runs);
-    drop(run_frame(rt, &mut engine, &[], workers, &gate));
-    drop(engine);
-    gate.expect_first(rt, number as u64);
-    expect_eq(rt, runs.load(Ordering::SeqCst), number as u64);
-}
-
-/// On a board, and without one.
-#[test]
-fn the_gate_is_called_before_the_system_runs(rt: HostRuntime) {
-    for (number, workers) in [(5, 1), (5, 2), (5, 5), (1, 2)] {
-        expect_gate_first(&rt, number, workers);
-    }
-}
-
-/// Each row has how many readers and workers there are. Each reader is held until one was begun on
-/// each worker: twenty workers have twenty threads, and more than 64 readers have two.
-#[test]
-fn readers_meet(rt: HostRuntime) {
-    for (number, workers) in [(20, 20), (65, 2)] {
-        let gate = MeetGate::new(&rt, workers as u64);
-        run_readers(&rt, number, workers, &gate);
-        gate.expect_met(&rt, number as u64);
     }
 }

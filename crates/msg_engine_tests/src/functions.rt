@@ -82,15 +82,6 @@ fn functions_that_are_there_already(rt: HostRuntime) {
              [1 read from 2: host=10 wrote 3 from 0][2 read from 2: host=10 Value(3)]\
              [3 read from 2: host=10 Value(27)]",
         ),
-        (
-            &[],
-            "[0 read from 3:][1 read from 3:][2 read from 3:][3 read from 3:]",
-        ),
-        (
-            &[1],
-            " wrote 1 from 3[0 read from 3: host=1][1 read from 3: host=1 wrote 1 from 3]\
-             [2 read from 3: host=1 Value(4)][3 read from 3: host=1 Value(28)]",
-        ),
     ];
     for number in [1, 2] {
         expect_frames(&rt, ready(&rt, rt.alloc()), number, FRAMES);

@@ -21,8 +21,6 @@ mod frames;
 #[cfg(test)]
 mod functions;
 #[cfg(test)]
-mod gates;
-#[cfg(test)]
 mod limits;
 #[cfg(test)]
 mod loops;

@@ -3,37 +3,24 @@ use crate::equal::expect_eq;
 use crate::making::{Act, Does, quiet_frames, readers, run_frame, run_frames, scripted_engine};
 use msg_exec::{LAST_JOIN, NoGate};
 use std::panic::Expect;
-use std::process::Abort;
-use std::thread::Threads;
 
-/// Runs a frame of scripts of these acts, with so many posts.
-fn run_acts<R: Threads + Sync + Abort + AllocGlobal>(rt: &R, acts: &[Act], posts: i64) {
-    let mut engine = scripted_engine(rt, rt.alloc(), u64::MAX, acts, &[]);
-    let posts: Vec<i64> = (0..posts).collect(rt.alloc()).expect(rt, "posts");
-    drop(run_frame(rt, &mut engine, &posts, 2, &NoGate));
-    drop(engine);
-}
-
-/// A read asks for room for what is unread, however great its limit is.
+/// Many posts, a batch of many values, and a read and a drain of all of them. A read asks for room
+/// for what is unread, however great its limit is.
 #[test]
-fn a_read_of_the_greatest_limit(rt: HostRuntime) {
+fn many_posts_and_values(rt: HostRuntime) {
     const ACTS: &[Act] = &[
         (0, Does::ReadsAtMost(u64::MAX)),
         (0, Does::ReadsAtMost(0)),
         (0, Does::ReadsAtMost(1)),
-    ];
-    run_acts(&rt, ACTS, 2);
-}
-
-/// Many posts, a batch of many values, and a read and a drain of all of them.
-#[test]
-fn many_posts_and_values(rt: HostRuntime) {
-    const ACTS: &[Act] = &[
         (0, Does::WritesFrom(0, 100_001)),
         (0, Does::Reads),
         (0, Does::Drains),
     ];
-    run_acts(&rt, ACTS, 100_000);
+    let rt = &rt;
+    let mut engine = scripted_engine(rt, rt.alloc(), u64::MAX, ACTS, &[]);
+    let posts: Vec<i64> = (0..100_000).collect(rt.alloc()).expect(rt, "posts");
+    drop(run_frame(rt, &mut engine, &posts, 2, &NoGate));
+    drop((engine, posts));
 }
 
 /// More frames in one call than a system may wait before it joins.

@@ -102,23 +102,6 @@ pub fn engine_over<V: Value, S: Numbered + SystemOf<Value = V>>(
     systems.build(world).expect(rt, "an engine")
 }
 
-/// Scripts of these acts, and these rules.
-pub fn scripts(
-    rt: &impl Abort,
-    alloc: Global,
-    acts: &[Act],
-    rules: &[Rule],
-) -> Result<EngineBuilder<Scripted>, BuildError> {
-    let mut systems = EngineBuilder::new(alloc);
-    match add_scripts(rt, alloc, &mut systems, acts, rules) {
-        Ok(()) => Ok(systems),
-        Err(error) => {
-            drop(systems);
-            Err(error)
-        }
-    }
-}
-
 /// Adds a script of each of these acts, and these rules.
 fn add_scripts(
     rt: &impl Abort,
@@ -148,13 +131,9 @@ pub fn engine_of(
     ensures engine { IfOk result (IsEngine i64_values ⟦<Scripted as SystemOf>⟧.meaning) }
 {
     let world = World::new(alloc, &[limit; 2], &[])?;
-    match scripts(rt, alloc, acts, rules) {
-        Ok(systems) => systems.build(world),
-        Err(error) => {
-            drop(world);
-            Err(error)
-        }
-    }
+    let mut systems = EngineBuilder::new(alloc);
+    add_scripts(rt, alloc, &mut systems, acts, rules)?;
+    systems.build(world)
 }
 
 /// Such an engine, if there is memory for it.

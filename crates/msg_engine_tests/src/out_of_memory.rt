@@ -4,20 +4,17 @@ ghost use Rattle.std.specs.Prelude.{◌≡◌, IfOk, Ok};
 ghost use Rattle.msg_world.specs.Prelude.{i64_values};
 ghost use Rattle.msg_exec.specs.Prelude.{IsEngine};
 
-use crate::cases::{Case, LAG};
+use crate::cases::{BOARD, CONTRADICTORY, Case, LAG};
 use crate::equal::expect_eq;
-use crate::expecting::{Told, expect_unlawful};
+use crate::expecting::{Told, expect_logs, expect_unlawful};
 use crate::functions::Large;
-use crate::making::{Act, Does, engine_of, replay, run_two_quiet, script, scripts};
+use crate::making::{Does, engine_of, replay, run_two_quiet, script};
 use crate::spoiled::expect_spoiled;
 use crate::told::{expect_accounts, expect_log};
-use msg_exec::{
-    Account, BuildError, BuildRefusal, EngineBuilder, EngineOf, Log, NoMemory, RunFault,
-};
+use msg_exec::{Account, BuildError, BuildRefusal, EngineBuilder, EngineOf, NoMemory, RunFault};
 use msg_function::Port::Messages;
 use msg_function::ready::Filter;
 use msg_function::{Either, FunctionSystem};
-use msg_order::Rule;
 use msg_part_tests::numbers::type_no;
 use msg_part_tests::outcome::tell;
 use msg_system::{Scripted, Start, SystemOf};
@@ -40,35 +37,11 @@ fn made<T: Drop>(rt: &impl Abort, made: Result<T, BuildError>) -> Result<T, NoMe
     }
 }
 
-/// A writer, and two readers that may run side by side: on two workers they draw from a board. In
-/// each frame both readers are given what was written in it.
-const BOARD: &Case = &Case {
-    acts: &[(0, Does::Writes(5)), (0, Does::Reads), (0, Does::Reads)],
-    rules: &[],
-    frames: &[
-        (
-            &[],
-            "[0 wrote 1 from 0][1 read from 0: 0=5][2 read from 0: 0=5]",
-        ),
-        (
-            &[],
-            "[0 wrote 1 from 1][1 read from 1: 0=5][2 read from 1: 0=5]",
-        ),
-    ],
-};
-
 /// The engine of a case.
 fn engine_for(rt: &impl Abort, alloc: Global, case: &Case) -> Result<EngineOf<Scripted>, NoMemory>
     ensures engine { IfOk result (IsEngine i64_values ⟦<Scripted as SystemOf>⟧.meaning) }
 {
     made(rt, engine_of(rt, alloc, 10, case.acts, case.rules))
-}
-
-/// These are the logs of the first frames.
-fn expect_logs(rt: &impl Abort, logs: &[Log], frames: &[Told<'_>]) {
-    for (log, frame) in logs.iter().zip(frames) {
-        expect_log(rt, log, frame.1);
-    }
 }
 
 /// Whether a call was refused memory. If it was, the engine is spoiled after `frames_run`
@@ -198,34 +171,21 @@ fn functions_on_two_workers(rt: HostRuntime) -> Result<(), Fail> {
     tell_two_of_functions(&rt, 2)
 }
 
-/// Replays a frame in this order. Its log tells this.
-fn replay_as<S: SystemOf<Value = i64>>(
+/// Replays these frames in this order, up to the first fault, and counts those that were replayed.
+fn replay_all<S: SystemOf<Value = i64>>(
     rt: &(impl Abort + AllocGlobal),
     engine: &mut EngineOf<S>,
     order: &[u32],
-    told: &str,
-) -> Result<(), RunFault>
-    requires engine { IsEngine i64_values S.meaning engine.old }
-    ensures engine { IsEngine i64_values S.meaning engine.new }
-{
-    let log = replay(rt, engine, &[], order)?;
-    expect_log(rt, &log, told);
-    drop(log);
-    Ok(())
-}
-
-/// Replays two frames of the lagging engine, up to the first fault, and counts those that were
-/// replayed.
-fn replay_two<S: SystemOf<Value = i64>>(
-    rt: &(impl Abort + AllocGlobal),
-    engine: &mut EngineOf<S>,
+    frames: &[Told<'_>],
     replayed: &mut u32,
 ) -> Result<(), RunFault>
     requires engine { IsEngine i64_values S.meaning engine.old }
     ensures engine { IsEngine i64_values S.meaning engine.new }
 {
-    for frame in LAG.frames {
-        replay_as(rt, engine, &[0, 1], frame.1)?;
+    for frame in frames {
+        let log = replay(rt, engine, frame.0, order)?;
+        expect_log(rt, &log, frame.1);
+        drop(log);
         *replayed = replayed.saturating_add(1);
     }
     Ok(())
@@ -236,31 +196,10 @@ fn a_replayed_frame(rt: HostRuntime) -> Result<(), Fail> {
     let rt = &rt;
     let mut engine = engine_for(rt, rt.alloc(), LAG)?;
     let mut replayed = 0;
-    let came = replay_two(rt, &mut engine, &mut replayed);
+    let came = replay_all(rt, &mut engine, &[0, 1], LAG.frames, &mut replayed);
     let is_refused = is_refused(rt, &mut engine, replayed, came);
     drop(engine);
     tell(rt, is_refused)
-}
-
-/// What is to be an engine whose rules are against the order of addition.
-fn contradictory(rt: &impl Abort, alloc: Global) -> Result<EngineBuilder<Scripted>, NoMemory> {
-    const ACTS: &[Act] = &[
-        (0, Does::Writes(1)),
-        (1, Does::Writes(2)),
-        (1, Does::Reads),
-        (0, Does::Reads),
-    ];
-    const RULES: &[Rule] = &[
-        Rule {
-            earlier: 3,
-            later: 1,
-        },
-        Rule {
-            earlier: 2,
-            later: 0,
-        },
-    ];
-    made(rt, scripts(rt, alloc, ACTS, RULES))
 }
 
 /// It takes the one lawful order, and no other.
@@ -270,9 +209,8 @@ fn expect_settled(
 ) -> Result<(), RunFault>
     requires engine { IsEngine i64_values ⟦<Scripted as SystemOf>⟧.meaning engine.old }
 {
-    let told = "[2 read from 0:][0 wrote 1 from 0][3 read from 0: 0=1][1 wrote 1 from 0]";
     expect_unlawful(rt, engine, &[], &[0, 1, 2, 3]);
-    replay_as(rt, engine, &[2, 0, 3, 1], told)
+    replay_all(rt, engine, &[2, 0, 3, 1], CONTRADICTORY.frames, &mut 0)
 }
 
 /// What came of frames that aren't tested here: they were run, unless there was no memory.
@@ -288,9 +226,7 @@ fn ran(rt: &impl Abort, came: Result<(), RunFault>) -> Result<(), NoMemory> {
 #[test]
 fn a_new_engine(rt: HostRuntime) -> Result<(), Fail> {
     let rt = &rt;
-    let systems = contradictory(rt, rt.alloc())?;
-    let world = World::new(rt.alloc(), &[10, 10], &[])?;
-    let Ok(mut engine) = made(rt, systems.build(world)) else {
+    let Ok(mut engine) = engine_for(rt, rt.alloc(), CONTRADICTORY) else {
         return tell(rt, true);
     };
     let came = expect_settled(rt, &mut engine);
@@ -320,7 +256,7 @@ fn are_accounts_refused(
 ) -> Result<bool, NoMemory>
     requires engine { IsEngine i64_values ⟦<Scripted as SystemOf>⟧.meaning engine.old }
 {
-    ran(rt, replay_two(rt, engine, &mut 0))?;
+    ran(rt, replay_all(rt, engine, &[0, 1], LAG.frames, &mut 0))?;
     let (accounts, is_refused) = accounts_of(rt, engine);
     let told = "[0 of 0: start Some(0) got 1 missed 0 cleared 0 place 1]";
     expect_accounts(rt, &accounts, told);

@@ -2,12 +2,13 @@
 ghost use Rattle.msg_exec.specs.Prelude.{IsEngine};
 ghost use Rattle.msg_world.specs.Prelude.{i64_values};
 
+use crate::cases::BOARD;
 use crate::equal::expect_eq;
-use crate::expecting::{Told, expect_frame, expect_replay, expect_unlawful};
+use crate::expecting::{Told, expect_frame, expect_logs, expect_replay, expect_unlawful};
 use crate::making::{Act, Does, run_two_quiet};
 use crate::prefaced::{noting_engine, shared_number};
-use crate::told::{expect_engine, expect_log};
-use msg_exec::{EngineOf, Log};
+use crate::told::expect_engine;
+use msg_exec::EngineOf;
 use msg_system::{Start, SystemOf};
 use std::panic::Expect;
 use std::process::Abort;
@@ -26,11 +27,6 @@ const WRITER_AND_READERS: &[(Act, Start)] = &[
     ((0, Does::Reads), Start::Zero),
     ((0, Does::Reads), Start::Zero),
 ];
-
-const FIRST_FRAME: &Told<'static> = &(
-    &[],
-    "[0 wrote 1 from 0][1 read from 0: 0=1][2 read from 0: 0=1]",
-);
 
 const AFTER_FIRST: &str = "1 frames, from 0 to 1: 0=1\
     [1 of 0: start Some(0) got 1 missed 0 cleared 0 place 1]\
@@ -66,8 +62,11 @@ fn replay_second<S: SystemOf<Value = i64>>(
 
 /// Runs the first frame on two workers, and replays the second in another order.
 fn run_and_replay<R: Threads + Sync + Abort + AllocGlobal>(rt: &R, noted: &Arc<AtomicU64>) {
+    let [first, _second] = BOARD.frames else {
+        panic!(rt; "two frames")
+    };
     let mut engine = noting_engine(rt, rt.alloc(), 1, WRITER_AND_READERS, noted);
-    expect_frame(rt, &mut engine, 2, FIRST_FRAME);
+    expect_frame(rt, &mut engine, 2, first);
     replay_second(rt, &mut engine, noted);
     expect_engine(rt, &engine, AFTER_SECOND);
     drop(engine);
@@ -80,19 +79,8 @@ fn run_both<R: Threads + Sync + Abort + AllocGlobal>(rt: &R, noted: &Arc<AtomicU
     run_two_quiet(rt, &mut engine, 2, &mut logs).expect(rt, "frames");
     expect_engine(rt, &engine, AFTER_SECOND);
     drop(engine);
-    expect_both(rt, &logs);
+    expect_logs(rt, &logs, BOARD.frames);
     drop(logs);
-}
-
-/// The logs of both frames. The second has the turns of the replayed frame, in the order in which
-/// they were taken.
-fn expect_both(rt: &impl Abort, logs: &[Log]) {
-    let [first, second] = logs else {
-        panic!(rt; "two logs")
-    };
-    expect_log(rt, first, FIRST_FRAME.1);
-    let turns = "[0 wrote 1 from 1][1 read from 1: 0=1][2 read from 1: 0=1]";
-    expect_log(rt, second, turns);
 }
 
 /// Two engines of a writer and two readers. One runs two frames on two workers; the other runs the

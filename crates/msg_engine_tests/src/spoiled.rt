@@ -4,7 +4,7 @@ ghost use Rattle.msg_world.specs.Prelude.{i64_values};
 
 use crate::equal::expect_eq;
 use crate::expecting::{Told, expect_fault, expect_frame};
-use crate::gates::HoldGate;
+use crate::frames::Watch;
 use crate::making::{replay, run_two_quiet, try_frame};
 use crate::prefaced::{add_counts, prefaced_readers, shared_number};
 use msg_exec::{EngineOf, NoGate, RunFault};
@@ -100,7 +100,8 @@ fn expect_run_of_others<R: Threads + Clock + Sync + Abort + AllocGlobal>(
 ) {
     let runs = shared_number(rt, rt.alloc());
     let mut engine = failing_engine(rt, rt.alloc(), readers, 0, &runs);
-    let gate = HoldGate::new(rt, workers, [true; 5], workers.min(readers) as u64);
+    let held = workers.min(readers);
+    let gate = Watch::new(rt, held, None, held as u64, &runs);
     let log = try_frame(rt, &mut engine, &[], workers, &gate);
     expect_fault(rt, log, RunFault::NoMemory);
     expect_spoiled(rt, &mut engine, 0);

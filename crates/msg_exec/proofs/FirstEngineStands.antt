@@ -1,13 +1,12 @@
 -- A new engine stands for the first state.
-use Rattle.std.proofs.Common.{◌≡◌, ℕ, ◌<◌, ◌≤◌, Bool, true, false, List, length, map, Option, Some, None, refl, sym, ap, ◌∙◌, arith, inl, inr, le_refl, replicate, slice_get, take, slice_index_or}
-use Rattle.std.proofs.lemmas.{Bool.cases_lt, Bool.false≢true, List.get_or-map, List.get_or-replicate, List.get_or_past, List.get_or-take, List.length-map, Option.get_or_from_slice_get, Option.slice_get-get_or, List.map-id, Simd.map-map}
+use Rattle.std.proofs.Common.{◌≡◌, ℕ, ◌<◌, ◌≤◌, Bool, true, false, List, length, map, Option, Some, None, refl, sym, ap, ◌∙◌, arith, inl, inr, slice_get, slice_index_or}
+use Rattle.std.proofs.lemmas.{Bool.cases_lt, Bool.false≢true, List.get_or-map, List.get_or_past, List.length-map, Option.get_or_from_slice_get, Option.slice_get-get_or, List.map-id, Simd.map-map}
 use Rattle.std.specs.Global.{Box, Vec}
 use Rattle.msg_world.specs.{declared.part.Part.Part, declared.part.Part.TheVariants.OfResource, declared.part.Part.TheVariants.OfType, declared.part.Part.TheVariants.Registry, Prelude.Has, Prelude.HasPart, Prelude.IsWhole, Prelude.Parts, Prelude.PartsStand, Prelude.WorldState, Prelude.Values}
 use Rattle.msg_world.specs.declared.limits.TheConstants.{MAX_RESOURCES, MAX_SYSTEMS, MAX_TYPES}
 use Rattle.msg_order.specs.declared.rule.Rule.{Rule}
-use Rattle.msg_order.specs.Prelude.{IsAcyclic, NameSystemsBelow, access_of, edges_of, rules_among}
+use Rattle.msg_order.specs.Prelude.{IsAcyclic, NameSystemsBelow, access_of, rules_among}
 use Rattle.msg_system.specs.Prelude.{Meaning, new_asked}
-use Rattle.msg_order.proofs.{SetPaths.all_rules, SettledOrders.fewer_make_none}
 use Rattle.msg_system.proofs.AccessesUseNeeds.{uses_needs}
 use Rattle.msg_frames.specs.declared.place.Place.{Place}
 use Rattle.msg_exec.specs.Prelude.{AreJoins, Core, EachIs, GuardedSystem, Lender, LenderStands, MayBeAdded, FixedParts}
@@ -126,12 +125,3 @@ module _ {S V : Type 0} (meaning : S → Meaning V) where
           early = λ i lt. (let f = found i (omega (arith, lt, n)) in rw f.at (f.may.joins f.place f.sp).1);
           named = rw n named;
         }
-
-pub none_more : (n : ℕ) (rules : List Rule) → NameSystemsBelow n rules → IsAcyclic (edges_of rules) → (joined : List Bool)
-    → length joined ≡ n → IsAcyclic (rules_among joined rules)
-none_more n rules below none joined size =
-    fewer_make_none rules (take n (replicate n true)) joined
-    (λ i has.
-    let lt : i < n = grind (arith, cases_lt, false≢true, get_or_past) in
-    get_or-take n (replicate n true) i false lt ∙ get_or-replicate n i true false lt)
-    (rw (all_rules n n rules (le_refl n) below) none)

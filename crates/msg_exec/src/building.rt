@@ -5,7 +5,6 @@ ghost use Rattle.msg_system.specs.Prelude.{HasClash, new_asked};
 ghost use Rattle.msg_exec.specs.Prelude.{Clash, EachIs, IsLowestClash, NoneIsClash, RefusesFor};
 ghost use Rattle.msg_exec.specs.inner.EngineParts.{AreNoTotals, IsAccessAt, IsPreparedFor, IsGuardedAt};
 
-use crate::engine_core::plan_by;
 use crate::job::GuardedSystem;
 use crate::{BuildRefusal, NoMemory, Place, Totals};
 use msg_order::{Plan, Rule, lowest_on_cycle};
@@ -162,7 +161,7 @@ pub(crate) fn prepare<V: Value, S: SystemOf<Value = V>>(
 {
     let accesses = accesses_of(alloc, systems, places)?;
     let joins = joins_of(alloc, places)?;
-    let plan = plan_by(alloc, &accesses, rules, &joins, 1)?;
+    let plan = Plan::of_frame(alloc, &accesses, rules, &joins, 1)?;
     let totals = totals_of(alloc, systems.len(), types)?;
     Ok(Prepared {
         accesses,

@@ -1,6 +1,5 @@
 // What an engine works on, and one frame of it.
-ghost use Rattle.std.specs.Prelude.{◌≡◌, ◌<◌, ◌≤◌, All, IfOk, OnErr, OnOk, List, Bool, length, map, nat_le};
-ghost use Rattle.msg_order.specs.Prelude.{IsAcyclic, IsPlanOf, NameSystemsBelow, rules_among};
+ghost use Rattle.std.specs.Prelude.{◌≡◌, ◌<◌, All, IfOk, OnErr, OnOk, length};
 ghost use Rattle.msg_exec.specs.Prelude.{CoreStands, SomeJoin, frame_count};
 ghost use Rattle.msg_workers.specs.Prelude.{EachPassedGate};
 ghost use Rattle.msg_exec.specs.inner.FrameSteps.{HasBegunFrame, HasLeft, HasOpened, IsNextPlan};
@@ -13,9 +12,9 @@ use crate::posts::post_all;
 use crate::side_by_side::Crew;
 use crate::spares::Spares;
 use crate::{Frame, Gate, Items, Log, NoMemory};
-use msg_order::{Plan, PlanRefusal, Rule};
+use msg_order::{Plan, Rule};
 use msg_system::{Reply, SystemOf};
-use msg_world::{Access, MAX_SYSTEMS, Value};
+use msg_world::Value;
 use std::alloc::Global;
 use std::thread::Threads;
 
@@ -28,41 +27,6 @@ pub struct Core<S, V = i64> {
     pub joins: Vec<u32>,
     pub rules: Vec<Rule>,
     pub plan: Plan,
-}
-
-/// Of each system, whether it has joined by this frame.
-fn joined_by(alloc: Global, joins: &[u32], frame: u32) -> Result<Vec<bool>, NoMemory>
-    ensures joined { IfOk result (λ joined. joined.items ≡ map (λ j. nat_le j frame) joins.now) }
-{
-    let mut joined = Vec::new(alloc);
-    for join in joins {
-        joined.push(*join <= frame)?;
-    }
-    Ok(joined)
-}
-
-/// The plan of the systems that have joined by this frame, if the rules make no cycle.
-pub(crate) fn plan_by(
-    alloc: Global,
-    accesses: &[Access],
-    rules: &[Rule],
-    joins: &[u32],
-    frame: u32,
-) -> Result<Plan, NoMemory>
-    requires few { length accesses.now ≤ MAX_SYSTEMS }
-    requires one_each { length joins.now ≡ length accesses.now }
-    requires in_range { NameSystemsBelow (length accesses.now) rules.now }
-    requires no_cycle { (joined : List Bool) → length joined ≡ length accesses.now
-        → IsAcyclic (rules_among joined rules.now) }
-    ensures plan { IfOk result
-        (IsPlanOf accesses.now rules.now (map (λ j. nat_le j frame) joins.now)) }
-{
-    let joined = joined_by(alloc, joins, frame)?;
-    match Plan::build(alloc, accesses, rules, &joined) {
-        Ok(plan) => Ok(plan),
-        Err(PlanRefusal::Cycle(_)) => unreachable!(),
-        Err(PlanRefusal::NoMemory) => Err(NoMemory),
-    }
 }
 
 /// The number of the next frame and its plan, if some join with it. If nobody does there is none,
@@ -86,7 +50,7 @@ pub(crate) fn next_plan<V: Value, S: SystemOf<Value = V>>(
     if frames == 0 || !core.joins.contains(&next) {
         return Ok(None);
     }
-    let plan = plan_by(alloc, &core.lender.accesses, &core.rules, &core.joins, next)?;
+    let plan = Plan::of_frame(alloc, &core.lender.accesses, &core.rules, &core.joins, next)?;
     Ok(Some((next, plan)))
 }
 

@@ -31,6 +31,7 @@ pub fn first_states_are_sound<V: Value>()
 /// message once, under the number that was told. From where the run found a reader to where it
 /// stands at the end, its entries tell each number once, in order: those that it went past, and
 /// those that it missed since they had been dropped unread. What it was given is what is there.
+#[tactic(auto, using(crate::proofs::ReaderOverRun::runs_are_complete))]
 pub fn runs_are_complete<V: Value>()
     ensures law { RunsAreComplete V.values }
 {}

@@ -9,6 +9,7 @@ use crate::Function;
 /// The turn of a function's system is never cut, neither by its access nor by the limit of ops: it
 /// is all that the system reads, and then all that the function answers to that. Then the system is
 /// again one of that function, with the memory that came of that; so no later turn is cut either.
+#[tactic(auto, using(crate::proofs::FunctionTurns::is_whole))]
 pub fn a_functions_turn_is_whole<
     T: Function<READS, WRITES>,
     const READS: usize,

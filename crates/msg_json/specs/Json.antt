@@ -2,7 +2,7 @@
 use Rattle.std.specs.Prelude.{◌≡◌, IsUtf8, ℕ, ℤ, pos, negsuc, ◌&&◌, nat_lt, Bool, List, [], ◌∷◌, Option, Some, None, is_some, option_map, unwrap_or, if◌then◌else◌}
 use Rattle.std.specs.List.{list_all}
 use Rattle.serde_json.specs.{Data.Data, Data.Items, Data.no_items, Data.item, Data.Members, Data.no_members, Data.member, Read.read, Find.as_number, Find.as_array, Find.as_object}
-use Rattle.msg_text.specs.Text.{Text}
+use Rattle.msg_json.specs.Text.{Text}
 
 -- the same elements as a list
 abbrev pub list_of : Items → List Data

@@ -1,3 +1,5 @@
+pub mod Text
+pub mod Sinks
 pub mod Json
 pub mod Keys
 pub mod Faults

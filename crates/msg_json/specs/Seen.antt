@@ -2,7 +2,7 @@
 use Rattle.std.specs.Prelude.{List, map, Result, Ok, Err}
 use Rattle.std.specs.Borrow.{Bor}
 use Rattle.serde_json.specs.{Data.Data, Data.Num, View.view, View.number_view, declared.value.Value.Value, declared.number.Number.Number}
-use Rattle.msg_text.specs.Text.{Text}
+use Rattle.msg_json.specs.Text.{Text}
 use Rattle.msg_json.specs.{Faults.Reading, declared.fault.Fault.Fault}
 
 -- a value

@@ -2,7 +2,7 @@
 use Rattle.std.specs.Prelude.{ℕ, ◌+◌, ℤ, ⊤, nat_le, not, Bool, List, [], ◌∷◌, length, position, Some, None, Ok, Err, option_and_then}
 use Rattle.std.specs.{List.list_any, Str.bytes_eq}
 use Rattle.serde_json.specs.{Data.Data, Find.get, Find.as_i64, Find.as_number, Find.as_str, Data.Num}
-use Rattle.msg_text.specs.Text.{Text}
+use Rattle.msg_json.specs.Text.{Text}
 use Rattle.msg_json.specs.Json.{elements, is_list, is_list_of_numbers, is_object, keys, not_negative, only_below}
 use Rattle.msg_json.specs.Faults.{Reading, fails, found, here, in_value, key_text, wanted, ◌>>=◌}
 use Rattle.msg_json.specs.declared.limits.TheConstants.{MAX_VALUES}

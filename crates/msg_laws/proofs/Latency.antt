@@ -1,92 +1,73 @@
 -- When readers have what was written: at once, or in the next frame.
-use Rattle.std.proofs.Common.{Contains, IsTrue, List, [], ap, append_assoc, arith, drop, filter, flat_map, inl, inr, length, map, refl, sym, ℕ, ◌++◌, ◌+◌, ◌-◌, ◌<◌, ◌==◌, ◌∙◌, ◌∷◌, ◌≡◌, ◌≤◌}
-use Rattle.std.proofs.lemmas.{Bool.cases_Bool, Bool.false≢true, Bool.Decides.eqb_tells, List.append-nil, List.length-map, List.Elements.All-contains, List.Elements.Contains-append_left, List.Elements.Contains-append_right, List.Elements.filter-append}
-use Rattle.std.specs.List.{enumerate_from}
-use Rattle.msg_buffer.specs.Prelude.{GoesOn, count}
+use Rattle.std.proofs.Common.{Contains, IsTrue, List, [], ap, append_assoc, arith, filter, flat_map, get_or-append-add, inl, inr, length, length-append, map, refl, sym, ℕ, ◌++◌, ◌+◌, ◌-◌, ◌<◌, ◌==◌, ◌∙◌, ◌∷◌, ◌≡◌, ◌≤◌}
+use Rattle.std.proofs.lemmas.{Bool.cases_Bool, Bool.Decides.eqb_tells, List.append-nil, List.length-map, List.Elements.All-contains, List.Elements.Contains-append_left, List.Elements.filter-append, List.FromFn.get_or-enumerate_from, List.FromFn.length-enumerate_from}
+use Rattle.msg_buffer.specs.Prelude.{Entry, GoesOn, count}
 use Rattle.msg_world.specs.{Prelude.Values, Prelude.WorldState, Prelude.after_update, declared.record.Record.Record}
-use Rattle.msg_system.specs.Prelude.{Step, wrote}
+use Rattle.msg_system.specs.Prelude.{Step}
 use Rattle.msg_order.specs.Prelude.{Path, has_joined}
-use Rattle.msg_order.proofs.Elements.{Contains-cases, Contains-flat_map, Contains-head, Contains-range, Contains-tail, filter-Contains, flat_map-Contains, map-Contains, not_in_none}
-use Rattle.msg_frames.proofs.{LawfulOrdersAgree.lawful_forward, ReaderOverTurns.turns_read}
-use Rattle.msg_frames.proofs.BeforeTurns.{Prepares, begun_within, comes, prepares, stood, waits}
+use Rattle.msg_order.proofs.Elements.{Contains-cases, Contains-head, Contains-range, Contains-tail, filter-Contains, flat_map-Contains, map-Contains}
+use Rattle.msg_frames.proofs.{LawfulOrdersAgree.lawful_forward}
+use Rattle.msg_frames.proofs.BeforeTurns.{begun_within, prepares}
 use Rattle.msg_frames.proofs.ElementsAndPairs.{Cut, cut, pairs_head, pairs_right}
-use Rattle.msg_frames.proofs.HistoriesGrow.{Grows, counts_more, grown, turns_change}
+use Rattle.msg_frames.proofs.HistoriesGrow.{counts_more}
 use Rattle.msg_frames.proofs.ReaderOverRun.{run_follows, runs_are_complete}
-use Rattle.msg_frames.proofs.StatesStaySound.{joined_alike, frame_sound, prepared_sound, turn_below}
-use Rattle.msg_frames.proofs.SystemsStay.{frame_keeps, turns_keep}
+use Rattle.msg_frames.proofs.StatesStaySound.{frame_sound, prepared_sound, turn_below}
+use Rattle.msg_frames.proofs.SystemsStay.{frame_keeps}
 use Rattle.msg_frames.proofs.WrittenOnce.{before_writes, run_writes, turns_write, written_further}
 use Rattle.msg_frames.specs.declared.frame.Frame.{Frame}
 use Rattle.msg_frames.specs.Frames.{settled_order, turn_order}
-use Rattle.msg_frames.specs.Prelude.{IsSoundState, IsTrueEntry, IsWrittenOnce, Moment, State, after_turn_of, after_turns_of, before_turns, entries_in_run, found_at, frame, join_flags, moments, numbers_missed, post_steps, reader_place, run, told, turn_of, turns_steps}
-use Rattle.msg_laws.proofs.{OrderOfTurns.are_ordered, WritersInOrder.below_count}
+use Rattle.msg_frames.specs.Prelude.{IsSoundState, IsTrueEntry, IsWrittenOnce, Moment, State, after_turn_of, after_turns_of, all_written, before_turns, entries_in_run, found_at, frame, join_flags, moments, numbers_missed, post_steps, reader_place, run, told, turn_of, turns_steps}
+use Rattle.msg_laws.proofs.{LateStarts.found_new, LateStarts.joined_still, OneTurn.others_go_on, OrderOfTurns.are_ordered, WritersInOrder.is_by, WritersInOrder.told_by}
 use Rattle.msg_laws.proofs.ReadersStayUpToDate.{caught_up, frame_recent, has_frame_before, is_there, joined_by_turn, new_recent}
 use Rattle.msg_laws.proofs.StampsStayRecent.{AreRecent, earlier_recent}
 use Rattle.msg_laws.specs.Prelude.{AllReadersHaveItNext, HasTaken, LaterReadersHaveItAtOnce, NothingDrained, PostsAreTakenAtOnce, told_to}
 
 -- ---- the numbers that are told
 
--- what stands behind a numbered list goes on with its numbers
-rest_numbered : {X : Type 0} (xs ys : List X) (zs : List (ℕ × X)) (a : ℕ) → enumerate_from a ys ≡ enumerate_from a xs ++ zs
-    → zs ≡ enumerate_from (a + length xs) (drop (length xs) ys)
-rest_numbered [] ys zs a is = grind (arith, is)
-rest_numbered (x ∷ xs) [] zs a is = absurd (omega (arith, ap length is))
-rest_numbered (x ∷ xs) (y ∷ ys) zs a is = grind (arith, rest_numbered xs ys zs (a + 1) (ap (drop 1) is))
-
-not_below : {X : Type 0} (xs : List X) (a n : ℕ) (x : X) → Contains (enumerate_from a xs) (n, x) → a ≤ n
-not_below [] a n x c = absurd (not_in_none (n, x) c)
-not_below (y ∷ ys) a n x c = elim (Contains-cases (a, y) (enumerate_from (a + 1) ys) (n, x) c) [
-  | inl here ↦ grind (arith, here)
-  | inr later ↦ omega (arith, not_below ys (a + 1) n x later)
-]
-
 module _ {V : Type 0} {values : Values V} (t n : ℕ) (m : Record V) where
   -- what steps tell was written between the states that they lead from and to
-  told_between : (w : WorldState values) (steps : List (ℕ × Step values)) (v : WorldState values) → IsWrittenOnce t w steps v
+  told_between : (w : WorldState values) (steps : List (ℕ × Step values)) (v : WorldState values)
+      → IsWrittenOnce t w steps v
       → Contains (told t steps) (n, m) → (count (w.histories t) ≤ n) × (n < count (v.histories t))
   told_between w steps v once c =
-      let before : List (Record V) = map (λ e. e.message) (w.histories t).entries in
-      let all : List (Record V) = map (λ e. e.message) (v.histories t).entries in
-      let first = length-map (w.histories t).entries (λ e. e.message) in
-      let last = length-map (v.histories t).entries (λ e. e.message) in
-      let rest = rest_numbered before all (told t steps) 0 once.grew in
-      let up = not_below (drop (length before) all) (0 + length before) n m (rw rest at c) in
-      let whole = below_count all 0 n m (rw (once.grew) (Contains-append_right _ (told t steps) (n, m) c)) in
-      (omega (arith, first, up), omega (arith, last, whole))
+      let message = λ (e : Entry (Record V)). e.message in
+      let old : List (ℕ × Record V) = all_written (w.histories t) in
+      let all : List (Record V) = map message (v.histories t).entries in
+      let before = length-enumerate_from 0 (map message (w.histories t).entries) in
+      let long : length old + length (told t steps) ≡ length all =
+      omega (arith, ap length once.grew, length-append old (told t steps), length-enumerate_from 0 all) in
+      let place = get_or-enumerate_from 0 all (length old + c.0) (n, m) (omega (arith, long, c.1)) in
+      let at = sym (rw (once.grew) at place) ∙ get_or-append-add old (told t steps) c.0 (n, m) ∙ c.2 in
+      let same : length old + c.0 ≡ n = omega (arith, ap (λ (x : ℕ × Record V). x.0) at) in (
+        omega (arith, same, before, length-map (w.histories t).entries message),
+        omega (arith, same, long, c.1, length-map (v.histories t).entries message),
+      )
 
+module _ {V : Type 0} {values : Values V} (t i : ℕ) where
   -- what one system is told is among what is told
-  told_by_one : (i : ℕ) (steps : List (ℕ × Step values)) → Contains (told_to i t steps) (n, m) → Contains (told t steps) (n, m)
-  told_by_one i steps c =
-      let wrote_at = λ (x : ℕ × Step values). wrote t x.0 x.1.op x.1.reply in
-      let f = flat_map-Contains wrote_at (filter (λ x. x.0 == i) steps) (n, m) c in
-      Contains-flat_map wrote_at steps f.0 (n, m) (filter-Contains (λ x. x.0 == i) steps f.0 f.1.0).0 f.1.1
+  told_by_one : (steps : List (ℕ × Step values)) (n : ℕ) (m : Record V) → Contains (told_to i t steps) (n, m)
+      → Contains (told t steps) (n, m)
+  told_by_one steps n m c = (filter-Contains (is_by i) (told t steps) (n, m) (rw (told_by i t steps) at c)).0
 
 -- ---- what a run does with a message that is new in its first frame
 
 module _ {V : Type 0} {values : Values V} where
   -- who has joined by the end of the first frame was found no further on than that frame's messages
   found_within : (f : Frame V) (fs : List (Frame V)) (s : State values) (j t : ℕ) → IsSoundState s → t < s.types
-      → IsTrue (has_joined (join_flags (frame f s).state) j) → IsTrue (has_joined (join_flags (run (f ∷ fs) s).state) j)
+      → IsTrue (has_joined (join_flags (frame f s).state) j)
       → found_at s (run (f ∷ fs) s).state j t ≤ count (s.world.histories t)
-  found_within f fs s j t sound below has still =
-      let b : State values = before_turns f.posts s in
-      let m : State values = (frame f s).state in
-      let prep : Prepares s b = prepares f.posts s in
-      let ready : IsSoundState b = prepared_sound s b sound prep in
-      let under : t < b.types = rw (prep.same.types) below in
-      let keep = turns_keep (turn_order b) b in
-      let here = turns_read j t (turn_order b) b (ready.histories t under) (ready.places j t under) in
-      let later = run_follows j t fs m (frame_sound f s sound) (rw (keep.0.types) under) still in
-      elim (prep.arrival j) [
-        | stood was now same ↦ rw was (sound.places j t below)
-        | comes was now new ↦ rw (was, later.totals, has, here.totals, new) (begun_within s j t below (sound.places j t below))
-        | waits was now same ↦ absurd (grind (arith, false≢true, has, now, joined_alike b m j keep))
-      ]
+  found_within f fs s j t sound below has = elim (cases_Bool (has_joined (join_flags s) j)) [
+    | inl was ↦ rw was (sound.places j t below)
+    | inr out ↦ rw (found_new f fs s j t sound below out has) (begun_within s j t below (sound.places j t below))
+  ]
 
   module _ (f : Frame V) (fs : List (Frame V)) (s : State values) (j t n : ℕ) (sound : IsSoundState s) (below : t < s.types)
-      (has : IsTrue (has_joined (join_flags (frame f s).state) j))
-      (still : IsTrue (has_joined (join_flags (run (f ∷ fs) s).state) j)) where
+      (has : IsTrue (has_joined (join_flags (frame f s).state) j)) where
     abbrev u : State values
     u = (run (f ∷ fs) s).state
+
+    still : IsTrue (has_joined (join_flags u) j)
+    still = joined_still fs (frame f s).state j has
 
     not_missed : count (s.world.histories t) ≤ n → AreRecent 1 (count (s.world.histories t)) (u.world.histories t)
         → NothingDrained t s u → ¬ Contains (flat_map numbers_missed (entries_in_run j t (f ∷ fs) s)) n
@@ -107,7 +88,7 @@ module _ {V : Type 0} {values : Values V} where
         → AreRecent 1 (count (s.world.histories t)) (u.world.histories t) → HasTaken j t n (f ∷ fs) s
     has_taken above passed recent =
         let found : ℕ = found_at s u j t in
-        let within = found_within f fs s j t sound below has still in
+        let within = found_within f fs s j t sound below has in
         record {
           told = rw (((runs_are_complete (f ∷ fs) s sound).served j t below still).once)
               (Contains-range found (reader_place u j t - found) n (omega (arith, within, above)) (omega (arith, passed, within, above)));
@@ -123,16 +104,16 @@ module _ {V : Type 0} {values : Values V} where
       let sound_mid : IsSoundState mid = frame_sound f s sound in
       let below_mid : t < mid.types = rw ((frame_keeps (turn_order (before_turns f.posts s)) f s).types) below in
       let wrote_once = rw (append-nil (frame f s).steps) at (run_writes t (f ∷ []) s sound) in
-      let at = told_between t n m s.world (frame f s).steps mid.world wrote_once (told_by_one t n m i (frame f s).steps c) in
+      let told_so = told_by_one t i (frame f s).steps n m c in
+      let at = told_between t n m s.world (frame f s).steps mid.world wrote_once told_so in
       let passed = has_frame_before next mid j t sound_mid below_mid reads in
       let updated : AreRecent 1 p ((after_update mid.world).histories t) = λ k e from is.
       grind (arith, cases_Bool, new_recent f s j t sound below k e from, is) in
-      has_taken f (next ∷ []) s j t n sound below has (joined_by_turn next mid j t sound_mid below_mid reads.has_turn)
-      at.0 (omega (arith, at.1, passed)) (frame_recent next mid j t sound_mid below_mid 1 p updated)
+      has_taken f (next ∷ []) s j t n sound below has at.0 (omega (arith, at.1, passed))
+      (frame_recent next mid j t sound_mid below_mid 1 p updated)
 
--- ---- at once
+  -- ---- at once
 
-module _ {V : Type 0} {values : Values V} where
   turns_steps_append : (xs ys : List ℕ) (s : State values) → turns_steps (xs ++ ys) s
       ≡ turns_steps xs s ++ turns_steps ys (after_turns_of xs s).state
   turns_steps_append [] ys s = refl
@@ -153,14 +134,12 @@ module _ {V : Type 0} {values : Values V} where
   pub posts_at_once : PostsAreTakenAtOnce values
   posts_at_once f s j t sound below reads n m c =
       let b : State values = before_turns f.posts s in
-      let prep : Prepares s b = prepares f.posts s in
-      let ready : IsSoundState b = prepared_sound s b sound prep in
       let cuts : Cut (turn_order b) j = cut (turn_order b) j reads.has_turn in
       let at = told_between t n m s.world (post_steps f.posts (after_update s.world)) b.world (before_writes t f.posts s) c in
       let passed = caught_up f s j t sound below reads cuts.before cuts.rest cuts.is in
-      let more = counts_more _ _ (turns_change Grows grown cuts.before b t (ready.histories t (rw (prep.same.types) below))) in
+      let more = counts_more _ _ (others_go_on f s j cuts.before cuts.rest cuts.is t sound below) in
       let has = joined_by_turn f s j t sound below reads.has_turn in
-      has_taken f [] s j t n sound below has has at.0 (omega (arith, at.1, passed, more))
+      has_taken f [] s j t n sound below has at.0 (omega (arith, at.1, passed, more))
       (λ k e from is. omega (arith, new_recent f s j t sound below k e from is))
 
   pub later_at_once : LaterReadersHaveItAtOnce values
@@ -182,17 +161,21 @@ module _ {V : Type 0} {values : Values V} where
       let early : List (ℕ × Step values) = posts ++ turns_steps cuts.before b in
       let late : List (ℕ × Step values) = turns_steps (j ∷ cuts.rest) found in
       let by_one = λ (x : ℕ × Step values). x.0 == i in
-      let steps : (frame f s).steps ≡ early ++ late =
-      ap (λ o. posts ++ turns_steps o b) cuts.is ∙ ap (λ xs. posts ++ xs) (turns_steps_append cuts.before (j ∷ cuts.rest) b)
-      ∙ sym (append_assoc posts (turns_steps cuts.before b) late) in
-      let all_early : filter by_one (frame f s).steps ≡ filter by_one early =
-      ap (filter by_one) steps ∙ filter-append by_one early late ∙ ap (λ xs. filter by_one early ++ xs) (no_steps_of i (j ∷ cuts.rest) found out)
-      ∙ append-nil (filter by_one early) in
+      let none = no_steps_of i (j ∷ cuts.rest) found out in
+      let parted : told_to i t (posts ++ turns_steps (cuts.before ++ j ∷ cuts.rest) b) ≡ told_to i t early =
+      rw (
+        turns_steps_append cuts.before (j ∷ cuts.rest) b,
+        ← append_assoc posts (turns_steps cuts.before b) late,
+        filter-append by_one early late,
+        none,
+        append-nil,
+      ) refl in
+      let early_alone = ap (λ (o : List ℕ). told_to i t (posts ++ turns_steps o b)) cuts.is ∙ parted in
       let own = λ (k : ℕ) (at : Contains cuts.before k).
       ready.writers k (turn_below b k (rw (cuts.is) (Contains-append_left cuts.before (j ∷ cuts.rest) k at))) in
       let once = written_further t _ _ _ _ _ (before_writes t f.posts s) (turns_write t cuts.before b own) in
-      let at = told_between t n m s.world early found.world once (told_by_one t n m i early (rw all_early at c)) in
+      let at = told_between t n m s.world early found.world once (told_by_one t i early n m (rw early_alone at c)) in
       let passed = caught_up f s j t sound below reads cuts.before cuts.rest cuts.is in
       let has = joined_by_turn f s j t sound below reads.has_turn in
-      has_taken f [] s j t n sound below has has at.0 (omega (arith, at.1, passed))
+      has_taken f [] s j t n sound below has at.0 (omega (arith, at.1, passed))
       (λ k e from is. omega (arith, new_recent f s j t sound below k e from is))

@@ -1,6 +1,5 @@
 -- ---- turns
 mod OrderOfTurns
-mod Drains
 mod ObserversOrder
 mod Observers
 -- ---- what runs tell of readers
@@ -19,5 +18,3 @@ mod ProgramsReadAll
 mod WakeUps
 mod BeginsWoken
 mod Latency
--- ---- worked runs
-mod ReadingsOfRows

@@ -36,8 +36,7 @@ module _ {V : Type 0} {values : Values V} where
 
   -- after a job, the rule of its system also takes in the replies of that job
   job_rule : (j : Job V) (w : WorldState values) → (after_job j w).job.system.rule
-      ≡ (λ (later : List (List (Reply V))) (now : List (Reply V)). j.system.rule
-      (replies_of (outcome_of (after_job j w).replies) ++ later) now)
+      ≡ after_told (replies_of (outcome_of (after_job j w).replies)) j.system.rule
   job_rule j w = grind (arith, cases_Bool)
 
   turn_tells : (i t j : ℕ) (s : State values) → Tells i t s (cond (j == i) (replies_of (logged_turn s j).outcome) [])

@@ -3,7 +3,7 @@ use Rattle.std.proofs.Common.{All, Bool, Contains, List, [], ap, append-nil, ari
 use Rattle.std.specs.Bool.{⊤}
 use Rattle.std.specs.List.{concat, range_with_len}
 use Rattle.std.proofs.lemmas.{Grind.flat_map-append, Bool.cases_Bool, Bool.cases_eq, Bool.eq-eqb, Bool.ne_eqb, Bool.Decides.eqb_tells}
-use Rattle.std.proofs.lemmas.List.{FromFn.get_or-range_with_len, FromFn.length-range_with_len, Elements.All-append, Elements.All-nil, Elements.All-filter, Elements.All-head, Elements.All-tail, Filters.length-filter_both, Elements.filter-append}
+use Rattle.std.proofs.lemmas.List.{FromFn.length-range_with_len, Elements.All-head, Elements.All-tail, Filters.length-filter_both, Elements.filter-append, nil_from_length}
 use Rattle.msg_order.proofs.Elements.{Contains-head, Contains-tail, flat_map-Contains, map-Contains, range-Contains, range_more}
 use Rattle.msg_order.specs.Prelude.{Graph, batches_of, follows, has_joined, pairs, path, rules_among, settle, settled, turns}
 use Rattle.msg_order.specs.declared.rule.Rule.{Rule}
@@ -34,10 +34,9 @@ module _ (n : ℕ) where
   path_cut : (g : Graph) (i j : ℕ) → IsBehind g → j ≢ n → path (cut g) i j ≡ path g i j
   path_cut [] i j b ne = refl
   path_cut (e ∷ g) i j b ne =
-      elim (cases_eq e.1 n) [
-        | inl is ↦ grind (arith, cases_Bool, is, eqb_tells, path_cut g i j b.1 ne, none_from g j b.1, ne)
-        | inr isnt ↦ grind (arith, cases_Bool, isnt, eqb_tells, path_cut g i j b.1 ne, path_cut g i e.0 b.1 b.0, path_cut g e.1 j b.1 ne)
-      ]
+      let to = path_cut g i e.0 b.1 b.0 in
+      let from = path_cut g e.1 j b.1 ne in
+      grind (arith, cases_Bool, cases_eq e.1 n, eqb_tells, path_cut g i j b.1 ne, to, from, none_from g j b.1)
 
   -- ---- the settled order
 
@@ -45,10 +44,7 @@ module _ (n : ℕ) where
   IsBehind_rules [] all joined = tt
   IsBehind_rules (r ∷ rules) all joined =
       let rest = IsBehind_rules rules (All-tail (λ (rule : Rule). rule.earlier ≢ n) r rules all) joined in
-      elim (cases_Bool (has_joined joined r.earlier && has_joined joined r.later)) [
-        | inl h ↦ rw h (All-head (λ (rule : Rule). rule.earlier ≢ n) r rules all, rest)
-        | inr h ↦ rw h rest
-      ]
+      grind (arith, cases_Bool, rest, All-head (λ (rule : Rule). rule.earlier ≢ n) r rules all)
 
   module _ (with without : List Bool) (same : (i : ℕ) → i ≢ n → has_joined without i ≡ has_joined with i) where
     rules_cut : (rules : List Rule) → All (λ rule. rule.earlier ≢ n) rules
@@ -57,10 +53,7 @@ module _ (n : ℕ) where
     rules_cut (r ∷ rules) all =
         let rest = rules_cut rules (All-tail (λ (rule : Rule). rule.earlier ≢ n) r rules all) in
         let ne : r.earlier ≢ n = All-head (λ (rule : Rule). rule.earlier ≢ n) r rules all in
-        elim (cases_eq r.later n) [
-          | inl is ↦ grind (arith, cases_Bool, is, eqb_tells, rest)
-          | inr isnt ↦ grind (arith, cases_Bool, isnt, eqb_tells, rest, same r.earlier ne, same r.later isnt)
-        ]
+        grind (arith, cases_Bool, cases_eq r.later n, eqb_tells, rest, same r.earlier ne, same r.later)
 
   module _ (c d : ℕ → ℕ → Bool) where
     -- one pair more
@@ -68,7 +61,7 @@ module _ (n : ℕ) where
     next test g p = cond (test p.0 p.1 && not (path g p.1 p.0)) (p ∷ g) g
 
     next_behind : (g : Graph) (p : ℕ × ℕ) → IsBehind g → p.0 ≢ n → IsBehind (next c g p)
-    next_behind g p b ne = elim (cases_Bool (c p.0 p.1 && not (path g p.1 p.0))) [ inl h ↦ rw h (ne, b) | inr h ↦ rw h b ]
+    next_behind g p b ne = grind (arith, cases_Bool, b, ne)
 
     next_to : (g : Graph) (p : ℕ × ℕ) → p.1 ≡ n → cut (next c g p) ≡ cut g
     next_to g p is = grind (arith, cases_Bool, is, eqb_tells)
@@ -128,19 +121,13 @@ module _ (n : ℕ) where
   follows_cut : (g : Graph) (left : List ℕ) (k : ℕ) → IsBehind g → k ≢ n → follows (cut g) (others left) k ≡ follows g left k
   follows_cut g [] k b ne = refl
   follows_cut g (x ∷ left) k b ne =
-      elim (cases_eq x n) [
-        | inl is ↦ grind (arith, cases_Bool, is, eqb_tells, none_from g k b, follows_cut g left k b ne)
-        | inr isnt ↦ grind (arith, cases_Bool, isnt, eqb_tells, path_cut g x k b ne, follows_cut g left k b ne)
-      ]
+      let rest = follows_cut g left k b ne in
+      grind (arith, cases_Bool, cases_eq x n, eqb_tells, none_from g k b, path_cut g x k b ne, rest)
 
   -- a test of the others alone
   filter_cut : (p q : ℕ → Bool) → ((k : ℕ) → k ≢ n → q k ≡ p k) → (xs : List ℕ) → others (filter p xs) ≡ filter q (others xs)
   filter_cut p q same [] = refl
-  filter_cut p q same (x ∷ xs) =
-      elim (cases_eq x n) [
-        | inl is ↦ grind (arith, cases_Bool, is, eqb_tells, filter_cut p q same xs)
-        | inr isnt ↦ grind (arith, cases_Bool, isnt, eqb_tells, same x isnt, filter_cut p q same xs)
-      ]
+  filter_cut p q same (x ∷ xs) = grind (arith, cases_Bool, cases_eq x n, eqb_tells, same x, filter_cut p q same xs)
 
 -- the batches one after the other
 abbrev layers : ℕ → Graph → List ℕ → List ℕ
@@ -152,35 +139,21 @@ first g left = filter (λ k. not (follows g left k)) left
 abbrev rest : Graph → List ℕ → List ℕ
 rest g left = filter (follows g left) left
 
-layers_none : (m : ℕ) (g : Graph) → layers m g [] ≡ []
-layers_none zero g = refl
-layers_none (suc m) g = refl
-
 layers_more : (m : ℕ) (g : Graph) (left : List ℕ) → layers (suc m) g left ≡ first g left ++ layers m g (rest g left)
-layers_more m g [] = sym (layers_none m g)
+layers_more zero g [] = refl
+layers_more (suc m) g [] = refl
 layers_more m g (i ∷ is) = refl
-
-layers_all : (P : ℕ → Type 0) (m : ℕ) (g : Graph) (left : List ℕ) → All P left → All P (layers m g left)
-layers_all P zero g left all = All-nil P
-layers_all P (suc m) g left all =
-    rw (layers_more m g left) (All-append P _ _ (All-filter _ P left all)
-    (layers_all P m g (rest g left) (All-filter _ P left all)))
 
 -- if all follow, none is in a batch
 all_follow : (p : ℕ → Bool) (xs : List ℕ) → filter (λ k. not (p k)) xs ≡ [] → filter p xs ≡ xs
 all_follow p [] none = refl
-all_follow p (x ∷ xs) none =
-    elim (cases_Bool (p x)) [ inl h ↦ grind (arith, h, none, all_follow p xs) | inr h ↦ absurd (grind (arith, h, none)) ]
+all_follow p (x ∷ xs) none = grind (arith, cases_Bool (p x), none, all_follow p xs)
 
 layers_stuck : (m : ℕ) (g : Graph) (left : List ℕ) → first g left ≡ [] → layers m g left ≡ []
 layers_stuck zero g left none = refl
 layers_stuck (suc m) g left none =
     let same : rest g left ≡ left = all_follow (follows g left) left none in
     rw (layers_more m g left, none, same) (layers_stuck m g left none)
-
-empty : (xs : List ℕ) → length xs ≡ 0 → xs ≡ []
-empty [] e = refl
-empty (x ∷ xs) e = absurd (omega (arith, e))
 
 -- so many batches as there are systems are enough
 layers_enough : (m : ℕ) (g : Graph) (left : List ℕ) → length left ≤ m → layers (suc m) g left ≡ layers m g left
@@ -189,7 +162,7 @@ layers_enough zero g (i ∷ is) few = absurd (omega arith)
 layers_enough (suc m) g left few =
     elim (cases_eq (length (first g left)) 0) [
       | inl is ↦
-          let none : first g left ≡ [] = empty (first g left) is in
+          let none : first g left ≡ [] = nil_from_length (first g left) is in
           layers_stuck (suc (suc m)) g left none ∙ sym (layers_stuck (suc m) g left none)
       | inr isnt ↦
           let all = length-filter_both (λ k. not (follows g left k)) (follows g left) (λ k. grind (arith, cases_Bool)) left in
@@ -210,20 +183,6 @@ module _ (n : ℕ) where
   range_cut : (a k : ℕ) → a + k ≡ n → others n (range_with_len a (suc k)) ≡ range_with_len a k
   range_cut a zero e = grind (arith, eqb_tells, e)
   range_cut a (suc k) e = grind (arith, eqb_tells, e, range_cut (a + 1) k (omega (arith, e)))
-
-range_below : (m : ℕ) → All (λ i. i < m) (range_with_len 0 m)
-range_below m i d lt =
-    let within : i < m = omega (arith, lt, length-range_with_len 0 m) in
-    rw (get_or-range_with_len 0 m i d within) (omega (arith, within))
-
-few_left : (p : ℕ → Bool) (m : ℕ) → length (filter p (range_with_len 0 m)) ≤ m
-few_left p m =
-    omega (arith, length-filter_both p (λ k. not (p k)) (λ k. refl) (range_with_len 0 m), length-range_with_len 0 m)
-
-pub turns_below : (g : Graph) (joined : List Bool) (m : ℕ) → length joined ≡ m → All (λ i. i < m) (turns g joined)
-turns_below g joined m long =
-    rw long (layers_all (λ i. i < m) m g (filter (has_joined joined) (range_with_len 0 m))
-    (All-filter (has_joined joined) (λ i. i < m) (range_with_len 0 m) (range_below m)))
 
 module _ (n : ℕ) (c d : ℕ → ℕ → Bool) (with without : List Bool) (long : length with ≡ suc n) (short : length without ≡ n)
     (same : (i : ℕ) → i ≢ n → has_joined without i ≡ has_joined with i)
@@ -250,8 +209,10 @@ module _ (n : ℕ) (c d : ℕ → ℕ → Bool) (with without : List Bool) (long
       let joined : others n (filter (has_joined with) (range_with_len 0 (suc n))) ≡ left =
       filter_cut n (has_joined with) (has_joined without) same (range_with_len 0 (suc n))
       ∙ ap (filter (has_joined without)) (range_cut n 0 n (omega arith)) in
+      let number = length-filter_both (has_joined without) (λ k. not (has_joined without k)) (λ k. refl)
+      (range_with_len 0 n) in
       rw (is, long, short, layers_cut n (suc n) g (filter (has_joined with) (range_with_len 0 (suc n))) b, joined)
-      (layers_enough n (cut n g) left (few_left (has_joined without) n))
+      (layers_enough n (cut n g) left (omega (arith, number, length-range_with_len 0 n)))
 
   pub turns_cut : others n (turns (settled c rules with) with) ≡ turns (settled d fewer_rules without) without
   turns_cut = turns_of (settled c rules with) (settled d fewer_rules without) settled_is.0 settled_is.1

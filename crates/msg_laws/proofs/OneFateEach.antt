@@ -1,13 +1,13 @@
 -- Entries that tell each number of a range once: each message meets one fate, at one entry.
-use Rattle.std.proofs.Common.{All, Contains, IfSome, List, None, Option, Some, [], ap, arith, cond, drop, flat_map, get_or, inl, inr, is_some, length, length-append, map, nat_lt, refl, suc, unwrap_or, zero, ℕ, ◌++◌, ◌+◌, ◌-◌, ◌<◌, ◌∷◌, ◌≡◌, ◌≤◌, ◌⊎◌}
-use Rattle.std.proofs.lemmas.{Bool.cases_Bool, Bool.cases_lt, Bool.Decides.nat_tests, List.map-append, List.Elements.All-head, List.Elements.All-tail, List.Elements.All-weaker, List.FromFn.length-range_with_len}
-use Rattle.std.specs.List.{Sorted.IsStrictlyIncreasing, range_with_len}
+use Rattle.std.proofs.Common.{All, AllPairs, Contains, IfSome, List, None, Option, Some, [], ap, arith, cond, drop, flat_map, get_or, inl, inr, is_some, length, length-append, map, nat_lt, refl, suc, sym, unwrap_or, zero, ℕ, ◌++◌, ◌+◌, ◌-◌, ◌<◌, ◌∷◌, ◌≡◌, ◌≤◌}
+use Rattle.std.proofs.lemmas.{Bool.cases_Bool, Bool.cases_lt, Bool.le-ltb, Bool.lt-ltb, Bool.Decides.nat_tests, List.map-append, List.Elements.All-head, List.Elements.All-tail, List.Elements.All-weaker, List.FromFn.get_or-range_with_len, List.FromFn.length-range_with_len, Option.slice_get_read}
+use Rattle.std.specs.List.{range_with_len}
 use Rattle.msg_buffer.specs.Prelude.{History}
 use Rattle.msg_world.specs.{Prelude.Values, declared.record.Record.Record}
 use Rattle.msg_frames.proofs.EntriesAddUp.{all_told}
-use Rattle.msg_frames.specs.Prelude.{IsTrueEntry, Moment, ReadEntry, entries_in_run, found_at, message_numbered, moments, numbers_missed, numbers_passed, numbers_told, reader_place, run}
-use Rattle.msg_laws.specs.Prelude.{EachMeetsOneFate, Fate, Meets, MeetsOneFate, cleared, given, messages_given, missed, numbers_at, numbers_of}
-use Rattle.msg_order.proofs.Elements.{Contains-range, range-Contains}
+use Rattle.msg_frames.specs.Prelude.{IsTrueEntry, Moment, ReadEntry, entries_in_run, found_at, message_numbered, moments, numbers_given, numbers_missed, numbers_passed, numbers_told, reader_place, run}
+use Rattle.msg_laws.specs.Prelude.{EachMeetsOneFate, Fate, Meets, cleared, given, messages_given, missed, numbers_at, numbers_of}
+use Rattle.msg_order.proofs.{Elements.Contains-range, Elements.flat_map-Contains, Elements.range-Contains, TurnOrders.pairs_append}
 
 -- ---- a range, cut where lists meet
 
@@ -18,6 +18,12 @@ range_cut (x ∷ xs) ys a zero is = absurd (omega (arith, ap length is))
 range_cut (x ∷ xs) ys a (suc k) is =
     let first : x ≡ a = ap (λ (ns : List ℕ). get_or ns 0 0) is in
     grind (arith, first, range_cut xs ys (a + 1) k (ap (drop 1) is))
+
+-- what an entry gave, or nothing
+gave_is : {X : Type 0} (f : ℕ → Option X) (ns : List ℕ) (o : Option (List X))
+    → IfSome o (λ items. map f ns ≡ map Some items) → map f (cond (is_some o) ns []) ≡ map Some (unwrap_or o [])
+gave_is f ns None gave = refl
+gave_is f ns (Some items) gave = gave
 
 -- Entry e tells the numbers from a on.
 record TellsFrom {V : Type 0} (a : ℕ) (e : ReadEntry V) : Type 0 where
@@ -54,9 +60,8 @@ module _ {V : Type 0} where
         rest,
       )
 
--- ---- fates
+  -- ---- fates
 
-module _ {V : Type 0} where
   abbrev fate_at : ℕ → ReadEntry V → ℕ → Fate
   fate_at a e n = cond (nat_lt n (a + e.stretch.missed)) missed (cond (is_some e.given) given cleared)
 
@@ -75,87 +80,54 @@ module _ {V : Type 0} where
       let passed = Contains-range (a + e.stretch.missed) e.stretch.number n in
       grind (arith, before, cases_Bool (is_some e.given), nat_tests, passed, tells.missed_there, tells.passed_there)
 
-  -- what is met at the first entry, and what at a later one
-  at_either : (e : ReadEntry V) (es : List (ReadEntry V)) (n k : ℕ) (fate : Fate) → Meets (e ∷ es) n k fate
-      → ((k ≡ 0) × Contains (numbers_at fate e) n) ⊎ ((l : ℕ) × ((k ≡ suc l) × Meets es n l fate))
-  at_either e es n k fate met = grind arith
-
   tells_up : (a : ℕ) (es : List (ReadEntry V)) (b : ℕ) → TellOnce a es b → a ≤ b
   tells_up a [] b tell = grind arith
   tells_up a (e ∷ es) b tell = grind (arith, tells_up (past a e) es b tell.1)
 
-  lies_between : (a : ℕ) (es : List (ReadEntry V)) (b : ℕ) → TellOnce a es b → (n k : ℕ) (fate : Fate) → Meets es n k fate
-      → (a ≤ n) × (n < b)
-  lies_between a [] b tell n k fate met = absurd (cc)
-  lies_between a (e ∷ es) b tell n k fate met = elim (at_either e es n k fate met) [
-    | inl here ↦ grind (arith, tells_up (past a e) es b tell.1, fate_of fate e n a tell.0 here.1)
-    | inr later ↦ grind (arith, lies_between (past a e) es b tell.1 n later.0 fate later.1.1)
-  ]
+  -- at which entry a number met a fate, and which
+  abbrev met_by : ℕ → List (ReadEntry V) → ℕ → ℕ × Fate
+  met_by a [] n = (0, missed)
+  met_by a (e ∷ es) n = cond (nat_lt n (past a e)) (0, fate_at a e n)
+      (let rest = met_by (past a e) es n in (suc rest.0, rest.1))
 
-  meets_one_fate : (a : ℕ) (es : List (ReadEntry V)) (b : ℕ) → TellOnce a es b → (n : ℕ) → a ≤ n → n < b → MeetsOneFate es n
-  meets_one_fate a [] b tell n low high = let same : a ≡ b = tell in absurd (omega arith)
-  meets_one_fate a (e ∷ es) b tell n low high = elim (cases_lt n (past a e)) [
-    | inl before ↦ record {
-      entry = 0;
-      fate = fate_at a e n;
-      met = record { entry = e; is_entry = refl; among = has_fate e n a tell.0 low before };
-      only = λ k other met. elim (at_either e es n k other met) [
-        | inl here ↦ grind (arith, here, fate_of other e n a tell.0 here.1)
-        | inr later ↦ grind (arith, later, lies_between (past a e) es b tell.1 n later.0 other later.1.1)
-      ];
-    }
+  met_there : (a : ℕ) (es : List (ReadEntry V)) (b : ℕ) → TellOnce a es b → (n : ℕ) → a ≤ n → n < b
+      → Meets es n (met_by a es n).0 (met_by a es n).1
+  met_there a [] b tell n low high = let same : a ≡ b = tell in absurd (omega arith)
+  met_there a (e ∷ es) b tell n low high = elim (cases_lt n (past a e)) [
+    | inl before ↦
+        let among = has_fate e n a tell.0 low before in
+        rw (lt-ltb n (past a e) before) (record { entry = e; is_entry = refl; among = among })
     | inr further ↦
-        let rest = meets_one_fate (past a e) es b tell.1 n further high in
-        record {
-          entry = suc rest.entry;
-          fate = rest.fate;
-          met = grind (arith, rest.met);
-          only = λ k other met. elim (at_either e es n k other met) [
-            | inl here ↦ grind (arith, fate_of other e n a tell.0 here.1)
-            | inr later ↦ grind (arith, later, rest.only later.0 other later.1.1)
-          ];
-        }
+        let rest = met_there (past a e) es b tell.1 n further high in
+        rw (le-ltb n (past a e) further) (record { entry = rest.entry; is_entry = rest.is_entry; among = rest.among })
   ]
 
--- ---- in order of writing
+  met_there_only : (a : ℕ) (es : List (ReadEntry V)) (b : ℕ) → TellOnce a es b → (n k : ℕ) (fate : Fate)
+      → Meets es n k fate → (a ≤ n) × (n < b) × (met_by a es n ≡ (k, fate))
+  met_there_only a [] b tell n k fate met = absurd (cc)
+  met_there_only a (e ∷ es) b tell n zero fate met =
+      let among : Contains (numbers_at fate e) n = grind (arith, met.among, met.is_entry) in
+      grind (arith, fate_of fate e n a tell.0 among, nat_tests, tells_up (past a e) es b tell.1)
+  met_there_only a (e ∷ es) b tell n (suc k) fate met =
+      let later : Meets es n k fate = record { entry = met.entry; is_entry = met.is_entry; among = met.among } in
+      grind (arith, met_there_only (past a e) es b tell.1 n k fate later, nat_tests)
 
--- each number is above the one before it, and the first isn't below `low`
-abbrev pub Rising : ℕ → List ℕ → Type 0
-Rising low [] = Unit {0}
-Rising low (x ∷ xs) = (low ≤ x) × Rising (x + 1) xs
-
-pub rising_from : (low high : ℕ) (xs : List ℕ) → low ≤ high → Rising high xs → Rising low xs
-rising_from low high [] le rise = tt
-rising_from low high (x ∷ xs) le rise = (omega (arith, le, rise.0), rise.1)
-
-pub rising_range : (a n : ℕ) (rest : List ℕ) → Rising (a + n) rest → Rising a (range_with_len a n ++ rest)
-rising_range a zero rest rise = rising_from a (a + 0) rest (omega arith) rise
-rising_range a (suc n) rest rise = grind (arith, rising_range (a + 1) n rest)
-
-pub is_increasing : (low : ℕ) (xs : List ℕ) → Rising low xs → IsStrictlyIncreasing xs
-is_increasing low (x ∷ y ∷ ys) rise zero below = omega (arith, rise.1.0)
-is_increasing low (x ∷ y ∷ ys) rise (suc k) below = grind (arith, is_increasing (x + 1) (y ∷ ys) rise.1 k (omega arith))
-is_increasing low xs rise k below = absurd (omega arith)
-
-module _ {V : Type 0} where
-  given_rise : (a : ℕ) (es : List (ReadEntry V)) (b : ℕ) → TellOnce a es b → Rising a (numbers_of given es)
-  given_rise a [] b tell = tt
+  -- those that were given rise
+  given_rise : (a : ℕ) (es : List (ReadEntry V)) (b : ℕ) → TellOnce a es b
+      → AllPairs (λ x y. x < y) (numbers_of given es)
+  given_rise a [] b tell = λ i j d lt l. absurd (omega arith)
   given_rise a (e ∷ es) b tell =
+      let here : AllPairs (λ x y. x < y) (numbers_given e) =
+      λ i j d lt l. grind (arith, cases_Bool (is_some e.given), get_or-range_with_len, length-range_with_len) in
       let rest = given_rise (past a e) es b tell.1 in
-      let ranged = rising_range (a + e.stretch.missed) e.stretch.number (numbers_of given es) rest in
-      let further = rising_from a (a + e.stretch.missed) (range_with_len (a + e.stretch.missed) e.stretch.number ++ numbers_of given es)
-      (omega arith) ranged in
-      let later = rising_from a (past a e) (numbers_of given es) (omega arith) rest in
-      grind (arith, cases_Bool (is_some e.given), tell.0.passed_there, further, later)
+      pairs_append (λ x y. x < y) (numbers_given e) (numbers_of given es) here rest (λ x y at_x at_y.
+      let f = flat_map-Contains numbers_given es y at_y in
+      let is = slice_get_read es (length es) f.1.0.0 f.0 refl f.1.0.1 (sym f.1.0.2) in
+      let met : Meets es y f.1.0.0 given = record { entry = f.0; is_entry = is; among = f.1.1 } in
+      omega (arith, fate_of given e x a tell.0 at_x, met_there_only (past a e) es b tell.1 y f.1.0.0 given met))
 
--- ---- what was given is what was written
+  -- ---- what was given is what was written
 
-gave_is : {X : Type 0} (f : ℕ → Option X) (ns : List ℕ) (o : Option (List X))
-    → IfSome o (λ items. map f ns ≡ map Some items) → map f (cond (is_some o) ns []) ≡ map Some (unwrap_or o [])
-gave_is f ns None gave = refl
-gave_is f ns (Some items) gave = gave
-
-module _ {V : Type 0} where
   all_as_written : (last : History (Record V)) (ms : List (Moment V)) → All (IsTrueEntry last) ms →
       let es = map (λ m. m.entry) ms in
       map (message_numbered last) (numbers_of given es) ≡ map Some (messages_given es)
@@ -177,9 +149,14 @@ module _ {V : Type 0} {values : Values V} where
       let tell = tell_once es from to served.forward served.once in
       let number = length-range_with_len from (to - from) in
       record {
-        each = meets_one_fate from es to tell;
-        no_other = lies_between from es to tell;
-        in_order = is_increasing from (numbers_of given es) (given_rise from es to tell);
+        each = λ n low high. record {
+          entry = (met_by from es n).0;
+          fate = (met_by from es n).1;
+          met = met_there from es to tell n low high;
+          only = λ k other met. rw ((met_there_only from es to tell n k other met).2) (refl, refl);
+        };
+        no_other = λ n k fate met. let only = met_there_only from es to tell n k fate met in (only.0, only.1);
+        in_order = λ k lt. given_rise from es to tell k (k + 1) 0 (omega arith) lt;
         as_written = all_as_written _ (moments i t frames s) served.true;
         dropped = All-weaker (IsTrueEntry _) _ (λ m true. true.missed) (moments i t frames s) served.true;
         adds_up = omega (arith, served.forward, ap length served.once, number, all_told es);

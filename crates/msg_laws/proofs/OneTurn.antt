@@ -12,6 +12,19 @@ use Rattle.msg_frames.proofs.ReaderOverTurns.{Reads, turns_moments, turns_read, 
 use Rattle.msg_frames.proofs.StatesStaySound.{has_one_turn, prepared_sound}
 use Rattle.msg_frames.specs.{Frames.turn_order, Prelude.AfterTurns, Prelude.IsSoundState, Prelude.State, Prelude.after_turn_of, Prelude.after_turns_of, Prelude.before_turns, Prelude.frame, Prelude.logged_turn, Prelude.reader_place, declared.frame.Frame.Frame, declared.log.Turn.Turn}
 
+module _ {V : Type 0} {values : Values V} where
+  -- what a reader goes past in turns of a frame
+  pub frame_reads : (posts : List (ℕ × V)) (s : State values) → IsSoundState s
+      → (order : List ℕ) (i t : ℕ) → t < s.types →
+      let b : State values = before_turns posts s in
+      Reads i t b (turns_moments i t order b) (after_turns_of order b).state
+  frame_reads posts s sound order i t below =
+      let b : State values = before_turns posts s in
+      let prep : Prepares s b = prepares posts s in
+      let ready : IsSoundState b = prepared_sound s b sound prep in
+      let under : t < b.types = rw (prep.same.types) below in
+      turns_read i t order b (ready.histories t under) (ready.places i t under)
+
 module _ {V : Type 0} {values : Values V} (f : Frame V) (s : State values) (i : ℕ) (earlier later : List ℕ)
     (is : turn_order (before_turns f.posts s) ≡ earlier ++ i ∷ later) where
   abbrev begun : State values
@@ -50,17 +63,14 @@ module _ {V : Type 0} {values : Values V} (f : Frame V) (s : State values) (i : 
   job_left = grind (arith, left_is, turns_skip i 0 later (after_turn_of i found) not_later, eqb_tells)
 
   module _ (t : ℕ) (sound : IsSoundState s) (below : t < s.types) where
-    prep : Prepares s begun
-    prep = prepares f.posts s
-
     others : Reads i t begun (turns_moments i t earlier begun) found
-    others =
-        let ready : IsSoundState begun = prepared_sound s begun sound prep in
-        let under : t < begun.types = rw (prep.same.types) below in
-        turns_read i t earlier begun (ready.histories t under) (ready.places i t under)
+    others = frame_reads f.posts s sound earlier i t below
+
+    pub others_go_on : GoesOn (begun.world.histories t) (found.world.histories t)
+    others_go_on = others.passes.goes_on
 
     pub goes_to_turn : GoesOn (s.world.histories t) (found.world.histories t)
-    goes_to_turn = goes_further _ _ _ (prep.world t (sound.histories t below)) others.passes.goes_on
+    goes_to_turn = goes_further _ _ _ ((prepares f.posts s).world t (sound.histories t below)) others_go_on
 
     pub within_turn : reader_place found i t ≤ count (found.world.histories t)
     within_turn = others.passes.within

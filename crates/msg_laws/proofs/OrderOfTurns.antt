@@ -4,7 +4,8 @@ use Rattle.msg_frames.specs.{Frames.parts, Frames.settled_order, Frames.turn_ord
 use Rattle.msg_laws.specs.Prelude.{FramesRunByBatches, TurnsAreInOrder}
 use Rattle.msg_order.proofs.{Functions.batches_are, Functions.settled_orders, TurnOrders.in_lawful_order}
 use Rattle.msg_order.specs.Prelude.{NoneConflict, Path, batches, has_joined}
-use Rattle.msg_system.specs.Prelude.{JobFootprint, Needs, needs_any}
+use Rattle.msg_system.proofs.FootprintsHold.{job_footprint}
+use Rattle.msg_system.specs.Prelude.{Needs, needs_any}
 use Rattle.msg_world.specs.{Prelude.Values, declared.part.Part.Part}
 use Rattle.std.proofs.Common.{All, Bool, IsTrue, List, [], ap, arith, get_or-append-add, inl, inr, length, length-append, refl, ℕ, ◌&&◌, ◌++◌, ◌+◌, ◌<◌, ◌∷◌, ◌≡◌, ◌≢◌, ◌⊎◌}
 use Rattle.std.proofs.Math.Bool.{or_comm}
@@ -49,14 +50,15 @@ module _ {X : Type 0} where
   all_right P xs ys h k d lt = grind (arith, get_or-append-add xs ys k d, length-append xs ys, h (length xs + k) d)
 
 module _ {V : Type 0} {values : Values V} where
-  pub batch_by_batch : JobFootprint values → FramesRunByBatches values
-  batch_by_batch foot s accesses [] are below once apart = refl
-  batch_by_batch foot s accesses (batch ∷ batches) are below once apart =
-      let first = side_by_side foot s accesses batch are (all_left (λ i. i < s.systems) batch (concat batches) below)
+  pub batch_by_batch : FramesRunByBatches values
+  batch_by_batch s accesses [] are below once apart = refl
+  batch_by_batch s accesses (batch ∷ batches) are below once apart =
+      let now = all_left (λ i. i < s.systems) batch (concat batches) below in
+      let first = side_by_side job_footprint s accesses batch are now
       (pairs_left (λ i j. i ≢ j) batch (concat batches) once) (apart 0 batch (omega arith)) in
       let left : State values = (after_turns_of batch s).state in
       let kept : SameSystems s left = turns_keep_systems batch s in
-      let rest = batch_by_batch foot left accesses batches (accesses_stay s left accesses kept are)
+      let rest = batch_by_batch left accesses batches (accesses_stay s left accesses kept are)
       (rw (kept.systems) (all_right (λ i. i < s.systems) batch (concat batches) below))
       (pairs_right (λ i j. i ≢ j) batch (concat batches) once) (All-tail (NoneConflict accesses) batch batches apart) in
       grind (arith, first, rest, turns_then_more batch (concat batches) s)

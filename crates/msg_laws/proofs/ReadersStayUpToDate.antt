@@ -1,24 +1,24 @@
 -- A reader that reads all in each frame is up to date, and so it misses nothing.
-use Rattle.std.proofs.Common.{All, Contains, IsTrue, List, [], arith, get_or, inl, inr, map, refl, suc, ℕ, ◌++◌, ◌<◌, ◌∷◌, ◌≡◌, ◌≢◌, ◌≤◌}
+use Rattle.std.proofs.Common.{All, Contains, IsTrue, List, [], arith, inl, inr, map, refl, suc, ℕ, ◌++◌, ◌<◌, ◌∷◌, ◌≡◌, ◌≢◌, ◌≤◌}
 use Rattle.msg_order.specs.Prelude.{has_joined}
-use Rattle.std.proofs.lemmas.{Bool.Decides.nat_tests, List.append-nil}
+use Rattle.std.proofs.lemmas.{Bool.Decides.nat_tests, List.map-append}
 use Rattle.std.proofs.lemmas.Bool.{cases_Bool, cases_eq, false≢true}
 use Rattle.std.proofs.lemmas.List.Elements.{All-append, All-cons, All-head, All-map, All-nil, All-tail}
 use Rattle.std.proofs.lemmas.Option.{same_Some, slice_get_cases, slice_get_within}
 use Rattle.msg_buffer.specs.Prelude.{Fits, GoesOn, History, IsPresent, Stretch, Tile, count, next_place, update}
 use Rattle.msg_world.specs.{Prelude.Values, Prelude.after_update, declared.record.Record.Record}
 use Rattle.msg_frames.proofs.ReaderOverRun.{run_further}
-use Rattle.msg_frames.proofs.BeforeTurns.{Prepares, prepares}
+use Rattle.msg_frames.proofs.BeforeTurns.{prepares}
 use Rattle.msg_frames.proofs.ElementsAndPairs.{Cut, cut}
-use Rattle.msg_frames.proofs.HistoriesGrow.{Grows, counts_more, frame_goes_on, grown, posts_change, stays, turns_change}
+use Rattle.msg_frames.proofs.HistoriesGrow.{counts_more, frame_goes_on, grown, posts_change, stays, turns_change}
 use Rattle.msg_frames.proofs.ReaderOverJob.{IsWritten, tile_of}
-use Rattle.msg_frames.proofs.ReaderOverTurns.{turns_moments, turns_read}
-use Rattle.msg_frames.proofs.StatesStaySound.{joined_alike, frame_sound, has_no_turn, prepared_sound}
+use Rattle.msg_frames.proofs.ReaderOverTurns.{turns_moments}
+use Rattle.msg_frames.proofs.StatesStaySound.{joined_alike, frame_sound, has_no_turn}
 use Rattle.msg_frames.proofs.SystemsStay.{frame_keeps, joining_world, turns_keep}
 use Rattle.msg_frames.specs.{Frames.turn_order, declared.frame.Frame.Frame, declared.log.Outcome.TheVariants.Skipped}
 use Rattle.msg_frames.specs.Prelude.{IsSoundState, Moment, State, after_joining, after_turns_of, before_turns, frame, join_flags, moments, reader_place, run}
-use Rattle.msg_laws.proofs.{OneTurn.goes_to_turn, OneTurn.in_log, OneTurn.job_left, OneTurn.within_turn, ReadersTakeAll.job_takes, StampsStayRecent.AreRecent, StampsStayRecent.StaysRecent, StampsStayRecent.earlier_recent, StampsStayRecent.stays_recent}
-use Rattle.msg_laws.specs.Prelude.{IsUpToDate, ListsOnlyGrow, NothingDrained, ReadsAll, ReadsAllInEach, WhoIsUpToDateMissesNothing, WhoReadsEachFrameMissesNothing}
+use Rattle.msg_laws.proofs.{OneTurn.frame_reads, OneTurn.goes_to_turn, OneTurn.in_log, OneTurn.job_left, OneTurn.within_turn, ReadersTakeAll.job_takes, StampsStayRecent.AreRecent, StampsStayRecent.StaysRecent, StampsStayRecent.earlier_recent, StampsStayRecent.stays_recent}
+use Rattle.msg_laws.specs.Prelude.{IsUpToDate, ListsOnlyGrow, MissesNothing, NothingDrained, ReadsAll, WhoIsUpToDateMissesNothing, WhoReadsEachFrameMissesNothing}
 
 module _ {V : Type 0} where
   -- a message that was written at most one update ago, and stands at the floor or above
@@ -34,16 +34,10 @@ module _ {V : Type 0} where
       → ((n : ℕ) → place ≤ n → n < count h → IsPresent h n) → s.missed ≡ 0
   none_missed h place s fits within all = grind (arith, cases_eq)
 
-  -- the entries of these moments miss nothing
-  abbrev pub NoneMissed : List (Moment V) → Type 0
-  NoneMissed ms = All (λ m. m.entry.stretch.missed ≡ 0) ms
-
-  -- all that stands from p on is present at each of these moments
-  abbrev pub AllPresent : ℕ → List (Moment V) → Type 0
-  AllPresent p ms = All (λ m. (n : ℕ) → p ≤ n → n < count m.history → IsPresent m.history n) ms
-
-  pub tile_misses_none : (p place : ℕ) (ms : List (Moment V)) (to : ℕ) → Tile place (map tile_of ms) to → All IsWritten ms
-      → AllPresent p ms → p ≤ place → NoneMissed ms
+  -- moments at each of which all that stands from p on is present miss nothing
+  tile_misses_none : (p place : ℕ) (ms : List (Moment V)) (to : ℕ) → Tile place (map tile_of ms) to → All IsWritten ms
+      → All (λ m. (n : ℕ) → p ≤ n → n < count m.history → IsPresent m.history n) ms → p ≤ place
+      → All (λ m. m.entry.stretch.missed ≡ 0) ms
   tile_misses_none p place [] to tile written there above = All-nil (λ m. m.entry.stretch.missed ≡ 0)
   tile_misses_none p place (m ∷ ms) to tile written there above =
       let rest = tile_misses_none p (next_place m.entry.stretch) ms to tile.1 (All-tail IsWritten m ms written) in
@@ -68,15 +62,6 @@ module _ {V : Type 0} {values : Values V} where
     abbrev u : State values
     u = (frame f s).state
 
-    prep : Prepares s b
-    prep = prepares f.posts s
-
-    ready : IsSoundState b
-    ready = prepared_sound s b sound prep
-
-    under : t < b.types
-    under = rw (prep.same.types) below
-
     pub caught_up : ReadsAll i t f s → (earlier later : List ℕ) → turn_order b ≡ earlier ++ i ∷ later
         → count ((after_turns_of earlier b).state.world.histories t) ≤ reader_place u i t
     caught_up reads earlier later is =
@@ -89,9 +74,8 @@ module _ {V : Type 0} {values : Values V} where
     pub has_frame_before : ReadsAll i t f s → count (s.world.histories t) ≤ reader_place u i t
     has_frame_before reads =
         let parts : Cut order i = cut _ _ reads.has_turn in
-        let first = counts_more _ _ (prep.world t (sound.histories t below)) in
-        let more = counts_more _ _ (turns_change Grows grown parts.before b t (ready.histories t under)) in
-        omega (arith, caught_up reads _ _ parts.is, first, more)
+        let more = counts_more _ _ (goes_to_turn f s i parts.before parts.rest parts.is t sound below) in
+        omega (arith, caught_up reads _ _ parts.is, more)
 
     -- a frame keeps recent what its update leaves recent
     pub frame_recent : (k p : ℕ) → AreRecent k p ((after_update s.world).histories t) → AreRecent k p (u.world.histories t)
@@ -124,16 +108,17 @@ module _ {V : Type 0} {values : Values V} where
         is_there p h n (earlier_recent 1 p _ _ goes recent) above
         (grind (arith, drained, nat_tests, up n above, (sound.histories t below).floor, goes.floor)) within
 
-    present_at : (ms : List (Moment V)) → IsUpToDate s i t → NothingDrained t s u
-        → All (λ m. GoesOn m.history (u.world.histories t)) ms → AllPresent (reader_place s i t) ms
-    present_at ms up drained goes k d lt = all_there (get_or ms k d).history up drained (goes k d lt)
-
-    pub frame_misses_none : IsTrue (has_joined (join_flags s) i) → IsUpToDate s i t → NothingDrained t s u
-        → NoneMissed (turns_moments i t order b)
-    frame_misses_none has up drained =
-        let reads = turns_read i t order b (ready.histories t under) (ready.places i t under) in
-        tile_misses_none (reader_place s i t) _ _ _ reads.passes.tile reads.passes.written
-        (present_at _ up drained reads.passes.earlier) (grind (arith, false≢true, prep.arrival i))
+    -- so it misses nothing in the frame
+    pub misses_none : IsTrue (has_joined (join_flags s) i) → IsUpToDate s i t → NothingDrained t s u
+        → (fs : List (Frame V)) → MissesNothing i t fs u → MissesNothing i t (f ∷ fs) s
+    misses_none has up drained fs rest =
+        let passes = (frame_reads f.posts s sound order i t below).passes in
+        let none = tile_misses_none (reader_place s i t) _ _ _ passes.tile passes.written
+        (λ k d lt. all_there _ up drained (passes.earlier k d lt))
+        (grind (arith, false≢true, (prepares f.posts s).arrival i)) in
+        let joins = map-append (λ (m : Moment V). m.entry) (turns_moments i t order b) (moments i t fs u) in
+        rw (run_further i t f fs s, joins)
+        (All-append (λ e. e.stretch.missed ≡ 0) _ _ (All-map (λ e. e.stretch.missed ≡ 0) _ _ none) rest)
 
     -- who has a turn has joined
     pub joined_by_turn : Contains order i → IsTrue (has_joined (join_flags u) i)
@@ -161,26 +146,16 @@ module _ {V : Type 0} {values : Values V} where
       let later = runs_go_on frames (frame f s).state t in
       grind (arith, frame_sound f s sound, goes, types, later, drained)
 
-  -- who reads all in a frame misses nothing in the frames after it, in each of which it reads all
-  missed_after : (f : Frame V) (frames : List (Frame V)) (s : State values) (i t : ℕ) → IsSoundState s → t < s.types
-      → ReadsAllInEach i t (f ∷ frames) s → NothingDrained t s (run (f ∷ frames) s).state
-      → NoneMissed (moments i t frames (frame f s).state)
-  missed_after f [] s i t sound below each drained = All-nil (λ m. m.entry.stretch.missed ≡ 0)
-  missed_after f (g ∷ gs) s i t sound below each drained =
+  pub misses_nothing : WhoIsUpToDateMissesNothing values
+  misses_nothing f s i t sound below has up drained =
+      misses_none f s i t sound below has up drained [] (All-nil (λ e. e.stretch.missed ≡ 0))
+
+  pub never_misses : WhoReadsEachFrameMissesNothing values
+  never_misses f [] s i t sound below each drained = All-nil (λ e. e.stretch.missed ≡ 0)
+  never_misses f (g ∷ gs) s i t sound below each drained =
       let m : State values = (frame f s).state in
       let mid : Between t s m (run (g ∷ gs) m).state = between f (g ∷ gs) s t sound below drained in
       let next : Between t m (frame g m).state (run (g ∷ gs) m).state = between g gs m t mid.sound mid.below mid.rest in
-      let now = now_up_to_date f s i t sound below each.0 mid.first in
-      rw (run_further i t g gs m) (All-append (λ x. x.entry.stretch.missed ≡ 0) _ _
-      (frame_misses_none g m i t mid.sound mid.below (joined_by_turn f s i t sound below each.0.has_turn) now next.first)
-      (missed_after g gs m i t mid.sound mid.below each.1 mid.rest))
-
-  pub misses_nothing : WhoIsUpToDateMissesNothing values
-  misses_nothing f s i t sound below has up drained =
-      let none = frame_misses_none f s i t sound below has up drained in
-      rw (run_further i t f [] s, append-nil (turns_moments i t (turn_order (before_turns f.posts s)) (before_turns f.posts s)))
-      (All-map (λ e. e.stretch.missed ≡ 0) _ _ none)
-
-  pub never_misses : WhoReadsEachFrameMissesNothing values
-  never_misses f frames s i t sound below each drained =
-      All-map (λ e. e.stretch.missed ≡ 0) _ _ (missed_after f frames s i t sound below each drained)
+      let rest = never_misses g gs m i t mid.sound mid.below each.1 mid.rest in
+      misses_none g m i t mid.sound mid.below (joined_by_turn f s i t sound below each.0.has_turn)
+      (now_up_to_date f s i t sound below each.0 mid.first) next.first gs rest

@@ -4,77 +4,55 @@ use Rattle.msg_frames.specs.{Frames.turn_order, declared.frame.Frame.Frame, decl
 use Rattle.msg_frames.specs.Prelude.{State, after_posts, after_turn_of, after_turns_of, before_turns, frame, outcome_of, post_replies, post_steps, replies_of, turns_steps}
 use Rattle.msg_laws.specs.Prelude.{AreAnswered, done_in}
 use Rattle.msg_system.proofs.WholeTurns.{op_is_done}
-use Rattle.msg_system.specs.{Prelude.AfterProgram, Prelude.Job, Prelude.Meaning, Prelude.Step, Prelude.after_at_most, Prelude.after_job, Prelude.is_cut, Prelude.next_op, Prelude.one_more, Prelude.refusal, Prelude.turn, declared.limits.TheConstants.MAX_OPS, declared.op.Op.Op, declared.reply.Reply.Reply, declared.reply.Reply.TheVariants.Full, declared.reply.Reply.TheVariants.Outside}
+use Rattle.msg_system.specs.{Prelude.AfterProgram, Prelude.Job, Prelude.Meaning, Prelude.Step, Prelude.after_at_most, Prelude.after_job, Prelude.next_op, Prelude.one_more, Prelude.refusal, Prelude.turn, declared.limits.TheConstants.MAX_OPS, declared.op.Op.Op, declared.reply.Reply.Reply}
 use Rattle.msg_world.specs.{Prelude.Values, Prelude.WorldState, Prelude.after_update, declared.record.TheConstants.HOST}
-use Rattle.std.proofs.Common.{Bool, List, None, Option, Some, [], append_assoc, arith, false, filter, flat_map, if◌then◌else◌, length, map, nat_lt, option_map, option_to_list, refl, suc, true, zero, ℕ, ◌++◌, ◌∷◌, ◌≡◌}
+use Rattle.std.proofs.Common.{List, None, Option, Some, [], append_assoc, arith, flat_map, length, map, nat_lt, option_map, option_to_list, refl, suc, zero, ℕ, ◌++◌, ◌∷◌, ◌≡◌}
 use Rattle.std.proofs.lemmas.{Bool.cases_Bool, List.Elements.filter-append, List.append-nil, List.map-append}
-
-module _ {V : Type 0} {values : Values V} where
-  abbrev answer_to : ℕ × Step values → ℕ × Reply V
-  answer_to x = (x.0, x.1.reply)
-
-module _ {V : Type 0} {values : Values V} where
-  one_is_done : (o : Option (Op V)) (w : ℕ) (far : AfterProgram values) → done_in far.replies ≡ far.replies
-      → done_in (one_more o w far).replies ≡ (one_more o w far).replies
-  one_is_done None w far so = so
-  one_is_done (Some op) w far so = rw (filter-append, so, op_is_done op w far.places far.state) refl
-
-  -- all replies are to ops that were done
-  all_are_done : (n : ℕ) (next : List (Reply V) → Option (Op V)) (w : ℕ) (ps : ℕ → ℕ) (s : WorldState values) →
-      let far = after_at_most n next w ps s in
-      done_in far.replies ≡ far.replies
-  all_are_done zero next w ps s = refl
-  all_are_done (suc n) next w ps s =
-      let far : AfterProgram values = after_at_most n next w ps s in
-      one_is_done (next far.replies) w far (all_are_done n next w ps s)
-
-module _ {V : Type 0} where
-  full_or_outside : (room : Bool) (op : Op V) → is_cut (if room then Outside op else Full op) ≡ true
-  full_or_outside true op = refl
-  full_or_outside false op = refl
-
-  -- but for that of a cut
-  cut_is_not_done : (left : Option (Op V)) (rs : List (Reply V)) → done_in rs ≡ rs
-      → done_in (rs ++ option_to_list (option_map (refusal rs) left)) ≡ rs
-  cut_is_not_done None rs all = rw (filter-append, all, append-nil) refl
-  cut_is_not_done (Some op) rs all =
-      rw (filter-append, all, full_or_outside (nat_lt (length rs) MAX_OPS) op, append-nil) refl
 
 module _ {V : Type 0} where
   abbrev answers_by : ℕ → List (Reply V) → List (ℕ × Reply V)
   answers_by i rs = map (λ r. (i, r)) rs
 
+  abbrev told_in : Turn V → List (ℕ × Reply V)
+  told_in turn = flat_map (λ replies. answers_by turn.system (done_in replies)) (replies_of turn.outcome)
+
+  -- of replies to ops that were done a cut leaves all
+  cut_is_not_done : (left : Option (Op V)) (rs : List (Reply V)) → done_in rs ≡ rs
+      → done_in (rs ++ option_to_list (option_map (refusal rs) left)) ≡ rs
+  cut_is_not_done None rs all = rw (filter-append, all, append-nil) refl
+  cut_is_not_done (Some op) rs all =
+      grind (arith, all, append-nil, cases_Bool (nat_lt (length rs) MAX_OPS), filter-append)
+
 module _ {V : Type 0} {values : Values V} where
-  -- each step has its reply
-  abbrev Answers : ℕ → List (Step values) → List (Reply V) → Type 0
-  Answers i xs rs = map answer_to (by_system i xs) ≡ answers_by i rs
+  abbrev answer_to : ℕ × Step values → ℕ × Reply V
+  answer_to x = (x.0, x.1.reply)
 
-  one_answered : (i : ℕ) (o : Option (Op V)) (writer : ℕ) (far : AfterProgram values) → Answers i far.steps far.replies
-      → Answers i (one_more o writer far).steps (one_more o writer far).replies
+  -- each step has its reply, and all replies are to ops that were done
+  abbrev Answers : ℕ → AfterProgram values → Type 0
+  Answers i far = (map answer_to (by_system i far.steps) ≡ answers_by i far.replies)
+      × (done_in far.replies ≡ far.replies)
+
+  one_answered : (i : ℕ) (o : Option (Op V)) (writer : ℕ) (far : AfterProgram values) → Answers i far
+      → Answers i (one_more o writer far)
   one_answered i None writer far so = so
-  one_answered i (Some op) writer far so = grind (arith, map-append, so)
+  one_answered i (Some op) writer far so =
+      (grind (arith, map-append, so.0), rw (filter-append, so.1, op_is_done op writer far.places far.state) refl)
 
-  first_answered : (i n : ℕ) (m : Meaning V) (w : WorldState values) →
-      let far = after_at_most n (next_op m) m.writer m.places w in
-      Answers i far.steps far.replies
-  first_answered i zero m w = refl
+  first_answered : (i n : ℕ) (m : Meaning V) (w : WorldState values)
+      → Answers i (after_at_most n (next_op m) m.writer m.places w)
+  first_answered i zero m w = (refl, refl)
   first_answered i (suc n) m w =
       let far : AfterProgram values = after_at_most n (next_op m) m.writer m.places w in
       one_answered i (next_op m far.replies) m.writer far (first_answered i n m w)
 
-module _ {V : Type 0} where
-  abbrev told_in : Turn V → List (ℕ × Reply V)
-  told_in turn = flat_map (λ replies. answers_by turn.system (done_in replies)) (replies_of turn.outcome)
-
-module _ {V : Type 0} {values : Values V} where
   job_answered : (i : ℕ) (j : Job V) (w : WorldState values) → map answer_to (by_system i (after_job j w).steps)
       ≡ told_in (record { system = i; outcome = outcome_of (after_job j w).replies })
   unfolding turn
   job_answered i j w =
       let m = j.system in
-      let all = all_are_done MAX_OPS (next_op m) m.writer m.places w in
-      let cut = cut_is_not_done (m.rule [] (after_at_most MAX_OPS (next_op m) m.writer m.places w).replies) _ all in
-      grind (arith, append-nil, cases_Bool, first_answered i MAX_OPS m w, cut)
+      let all = first_answered i MAX_OPS m w in
+      let cut = cut_is_not_done (m.rule [] (after_at_most MAX_OPS (next_op m) m.writer m.places w).replies) _ all.1 in
+      grind (arith, all, append-nil, cases_Bool, cut)
 
   turns_answered : (is : List ℕ) (s : State values) → map answer_to (turns_steps is s)
       ≡ flat_map told_in (after_turns_of is s).turns

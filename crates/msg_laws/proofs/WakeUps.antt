@@ -1,19 +1,19 @@
 -- Who is woken by a message and then reads all misses nothing.
 use Rattle.std.proofs.Common.{IsTrue, List, [], arith, inl, inr, length, refl, ℕ, ◌++◌, ◌<◌, ◌∙◌, ◌∷◌, ◌≡◌, ◌≢◌, ◌≤◌, ◌⊎◌}
 use Rattle.msg_order.specs.Prelude.{has_joined}
-use Rattle.std.proofs.lemmas.{Bool.cases_Bool, Bool.cases_lt, Bool.false≢true, Bool.Decides.nat_tests, List.get_or_append_left, List.Elements.All-append, List.Elements.All-map, List.Elements.All-nil, List.Elements.Contains-append_right, Option.get_or_from_slice_get, Option.slice_get_cases}
+use Rattle.std.proofs.lemmas.{Bool.cases_Bool, Bool.cases_lt, Bool.false≢true, Bool.Decides.nat_tests, List.get_or_append_left, List.Elements.All-nil, List.Elements.Contains-append_right, Option.get_or_from_slice_get, Option.slice_get_cases}
 use Rattle.std.specs.List.{list_any}
 use Rattle.msg_buffer.specs.Prelude.{GoesOn, History, IsPresent, IsSound, count, unread}
 use Rattle.msg_buffer.proofs.{Presence.not_present, Unread.length-unread}
 use Rattle.msg_world.specs.{Prelude.Values, Prelude.WorldState, declared.record.Record.Record}
 use Rattle.msg_system.specs.{Prelude.Asked, Prelude.Job, Prelude.after_job, Prelude.all_hold, declared.condition.Probe.TheVariants.OnMessage}
-use Rattle.msg_frames.proofs.{BeforeTurns.prepares, ElementsAndPairs.Cut, ElementsAndPairs.cut, HistoriesGrow.counts_more, ReaderOverRun.run_further, SystemsStay.no_cycle_stays}
+use Rattle.msg_frames.proofs.{BeforeTurns.prepares, ElementsAndPairs.Cut, ElementsAndPairs.cut, HistoriesGrow.counts_more, SystemsStay.no_cycle_stays}
 use Rattle.msg_frames.specs.{Frames.turn_order, declared.frame.Frame.Frame, declared.log.Outcome.TheVariants.Skipped}
-use Rattle.msg_frames.specs.Prelude.{IsSoundState, State, after_turns_of, before_turns, frame, join_flags, moments, outcome_of, reader_place, run}
+use Rattle.msg_frames.specs.Prelude.{IsSoundState, State, after_turns_of, before_turns, frame, join_flags, outcome_of, reader_place, run}
 use Rattle.msg_laws.proofs.{ProgramsReadAll.has_turn, ReadersTakeAll.job_takes}
 use Rattle.msg_laws.proofs.OneTurn.{goes_from_turn, goes_to_turn, in_log, job_left, member_found, within_turn}
-use Rattle.msg_laws.proofs.ReadersStayUpToDate.{Between, NoneMissed, all_there, between, frame_misses_none, joined_by_turn, past_frame}
-use Rattle.msg_laws.specs.Prelude.{IsSkipped, IsUpToDate, IsWokenBy, NoWakeUpIsLost, NothingDrained, NothingUnread, ReadsAllIfWoken, ReadsAllWhenWoken, WhoIsWokenStaysSo, WhoSleepsHasNothingUnread, reads_all}
+use Rattle.msg_laws.proofs.ReadersStayUpToDate.{Between, all_there, between, joined_by_turn, misses_none, past_frame}
+use Rattle.msg_laws.specs.Prelude.{IsSkipped, IsUpToDate, IsWokenBy, NoWakeUpIsLost, NothingDrained, NothingUnread, ReadsAllIfWoken, WhoIsWokenStaysSo, WhoSleepsHasNothingUnread, reads_all}
 use Rattle.msg_order.proofs.Elements.{Contains-head}
 
 -- ---- what is gone stays gone
@@ -35,29 +35,23 @@ module _ {V : Type 0} where
   still_gone p c a b goes within gone n above lt there =
       gone n above lt (was_present a b n goes (omega (arith, within, lt)) there)
 
-  -- if nothing is unread from c on, nothing is present there
-  none_unread : (c : ℕ) (h : History (Record V)) → IsSound h → length (unread h c) ≡ 0 → Gone c (count h) h
-  none_unread c h sound none n above lt = not_present h n sound (omega (arith, length-unread h c, none, above, lt))
+  -- ---- a job that waits for a message
 
--- ---- a job that waits for a message
-
-module _ {V : Type 0} where
   -- the one condition that a message of the type came
   abbrev message_came : ℕ → ℕ → List (Asked V)
   message_came t place = record { condition = record { nots = 0; probe = OnMessage t }; place = place } ∷ []
 
 module _ {V : Type 0} {values : Values V} (t : ℕ) where
   module _ (j : Job V) (w : WorldState values) (c : ℕ) (is : j.conditions ≡ message_came t c) where
-    asked : (after_job j w).job.conditions ≡ message_came t (count (w.histories t))
-    asked = grind (arith, cases_Bool, is)
-
     slept : IsSound (w.histories t) → Gone (j.system.places t) c (w.histories t) → outcome_of (after_job j w).replies ≡ Skipped
         → Gone (j.system.places t) (count (w.histories t)) (w.histories t)
     slept sound gone skipped n above lt =
         let none : length (unread (w.histories t) c) ≡ 0 = grind (arith, cases_Bool, nat_tests, is, skipped) in
         elim (cases_lt n c) [
           | inl before ↦ gone n above before
-          | inr after ↦ none_unread c (w.histories t) sound none n after lt
+          | inr after ↦
+              let unread_too = length-unread (w.histories t) c in
+              not_present (w.histories t) n sound (omega (arith, unread_too, none, after, lt))
         ]
 
     -- it goes past all that there is, or it was skipped since nothing was unread
@@ -118,7 +112,7 @@ module _ {V : Type 0} {values : Values V} (f : Frame V) (s : State values) (i t 
     stays_woken : IsWokenBy t i u
     stays_woken = record {
       place = count (found.world.histories t);
-      condition = rw (job_left f s i earlier later is) (asked t (found.members i).job found.world woken.place waits);
+      condition = rw (job_left f s i earlier later is) (grind (arith, cases_Bool, waits));
       within = counts_more _ _ from_turn;
       behind = λ n above lt there. elim took_or_slept [
         | inl took ↦ absurd (omega (arith, took, above, lt))
@@ -157,34 +151,14 @@ module _ {V : Type 0} {values : Values V} where
       let c = turn_cut f s i sound has in
       stays_woken f s i t sound below has woken c.before c.rest c.is reads
 
-  -- what is so after the run, and that the moments of the run miss nothing
-  record Kept (frames : List (Frame V)) (s : State values) (i t : ℕ) : Type 0 where
-    none : NoneMissed (moments i t frames s)
-    woken : IsWokenBy t i (run frames s).state
-    up : IsUpToDate (run frames s).state i t
-
-  runs_keep : (frames : List (Frame V)) (s : State values) (i t : ℕ) → IsSoundState s → t < s.types
-      → IsTrue (has_joined (join_flags s) i) → IsWokenBy t i s → IsUpToDate s i t → ReadsAllWhenWoken i t frames s
-      → NothingDrained t s (run frames s).state → Kept frames s i t
-  runs_keep [] s i t sound below has woken up reads drained =
-      record { none = All-nil (λ m. m.entry.stretch.missed ≡ 0); woken = woken; up = up }
-  runs_keep (f ∷ fs) s i t sound below has woken up reads drained =
+  pub no_wake_up : NoWakeUpIsLost values
+  no_wake_up [] s i t sound below has woken up reads drained = (All-nil (λ e. e.stretch.missed ≡ 0), woken, up)
+  no_wake_up (f ∷ fs) s i t sound below has woken up reads drained =
       let m : State values = (frame f s).state in
       let c = turn_cut f s i sound has in
       let mid : Between t s m (run fs m).state = between f fs s t sound below drained in
-      let order : List ℕ = turn_order (before_turns f.posts s) in
-      let joined = joined_by_turn f s i t sound below (rw (c.is) (Contains-append_right c.before (i ∷ c.rest) i (Contains-head i c.rest))) in
-      let rest = runs_keep fs m i t mid.sound mid.below joined
+      let at = Contains-append_right c.before (i ∷ c.rest) i (Contains-head i c.rest) in
+      let rest = no_wake_up fs m i t mid.sound mid.below (joined_by_turn f s i t sound below (rw (c.is) at))
       (stays_woken f s i t sound below has woken c.before c.rest c.is reads.0)
       (stays_up_to_date f s i t sound below has woken c.before c.rest c.is reads.0 up mid.first) reads.1 mid.rest in
-      record {
-        none = rw (run_further i t f fs s) (All-append (λ x. x.entry.stretch.missed ≡ 0) _ _
-            (frame_misses_none f s i t sound below has up mid.first) rest.none);
-        woken = rest.woken;
-        up = rest.up;
-      }
-
-  pub no_wake_up : NoWakeUpIsLost values
-  no_wake_up frames s i t sound below has woken up reads drained =
-      let kept = runs_keep frames s i t sound below has woken up reads drained in
-      (All-map (λ e. e.stretch.missed ≡ 0) _ _ kept.none, kept.woken, kept.up)
+      (misses_none f s i t sound below has up mid.first fs rest.0, rest.1, rest.2)

@@ -39,6 +39,14 @@ module _ {V : Type 0} where
   abbrev pub numbers_of : Fate → List (ReadEntry V) → List ℕ
   numbers_of fate es = flat_map (numbers_at fate) es
 
+  -- what a reader was given, message by message, in the order of its reads
+  abbrev pub messages_given : List (ReadEntry V) → List (Record V)
+  messages_given es = flat_map (λ e. unwrap_or e.given []) es
+
+  -- and each message with its number
+  abbrev pub numbered_given : List (ReadEntry V) → List (ℕ × Record V)
+  numbered_given es = flat_map (λ e. enumerate_from e.stretch.first (unwrap_or e.given [])) es
+
 -- Message number n met this fate at entry k.
 pub record Meets {V : Type 0} (es : List (ReadEntry V)) (n k : ℕ) (fate : Fate) : Type 0 where
   pub entry : ReadEntry V
@@ -53,11 +61,6 @@ pub record MeetsOneFate {V : Type 0} (es : List (ReadEntry V)) (n : ℕ) : Type 
   pub only : (k : ℕ) (other : Fate) → Meets es n k other → (k ≡ entry) × (other ≡ fate)
 
 -- ---- what was given
-
-module _ {V : Type 0} where
-  -- what a reader was given, message by message, in the order of its reads
-  abbrev pub messages_given : List (ReadEntry V) → List (Record V)
-  messages_given es = flat_map (λ e. unwrap_or e.given []) es
 
 -- What the entries of these moments say of the messages from one place to another; `last` is the
 -- type's list as the run ends.
@@ -87,11 +90,6 @@ EachMeetsOneFate {V} values = (i t : ℕ) (frames : List (Frame V)) (s : State v
     ((run frames s).state.world.histories t)
 
 -- ---- writer by writer
-
-module _ {V : Type 0} where
-  -- what a reader was given, each message with its number
-  abbrev pub numbered_given : List (ReadEntry V) → List (ℕ × Record V)
-  numbered_given es = flat_map (λ e. enumerate_from e.stretch.first (unwrap_or e.given [])) es
 
 module _ {V : Type 0} {values : Values V} where
   -- what this writer was told that it wrote to type t

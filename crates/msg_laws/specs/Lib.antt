@@ -6,4 +6,3 @@ pub mod UpToDate
 pub mod WakeUps
 pub mod Latency
 pub mod Observers
-pub mod Rows

@@ -1,5 +1,5 @@
 //! What follows from the model of frames, and no engine needs: laws for programs that prove more of
-//! their own runs, and worked runs.
+//! their own runs.
 #![tactic(auto)]
 
 pub mod reader_laws;

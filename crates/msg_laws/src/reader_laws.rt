@@ -1,7 +1,6 @@
 //! Laws of readers: facts that hold of every run of frames.
 ghost use Rattle.msg_laws.specs.Prelude as Spec;
 
-use msg_system::a_program_is_its_ops_in_order;
 use msg_world::Value;
 
 /// The replies of a run's steps are those of its logs.
@@ -48,6 +47,7 @@ pub fn late_readers_start<V: Value>()
 /// these frames, unless a system drains the type. At the end of its turn it was given, or went
 /// past, all that had been written when the turn began; so what is written in one frame it has by
 /// the end of the next.
+#[tactic(auto, using(crate::proofs::ReadersStayUpToDate::caught_up, crate::proofs::ReadersStayUpToDate::has_frame_before, crate::proofs::ReadersStayUpToDate::misses_nothing, crate::proofs::ReadersStayUpToDate::never_misses))]
 pub fn who_reads_each_frame_misses_nothing<V: Value>()
     ensures catches_up { Spec.WhoReadsAllCatchesUp V.values }
     ensures frame_before { Spec.WhoReadsAllHasTheFrameBefore V.values }
@@ -82,6 +82,4 @@ pub fn what_is_written_is_read_in_time<V: Value>()
 pub fn programs_read_all<V: Value>()
     ensures law { Spec.WhoseProgramReadsAll V.values }
     ensures woken { Spec.WhoseProgramReadsAllWhenWoken V.values }
-{
-    a_program_is_its_ops_in_order::<V>();
-}
+{}

@@ -4,7 +4,6 @@ ghost use Rattle.msg_frames.specs.Prelude.{FramesKeepSystems};
 ghost use Rattle.msg_laws.specs.Prelude.{DrainsTakeAll, FramesRunByBatches, LawfulOrdersAgree, ListsOnlyGrow, ObserversDisturbNobody, ObserversMayBeAdded, OrderIsSettled, RunsCompose, SameSystemsHaveSameAccesses, TurnsAreInOrder, TurnsKeepSystems, TurnsOfOthersCommute};
 
 use msg_buffer::laws::histories_only_grow;
-use msg_system::nothing_else_is_used;
 use msg_world::{Record, Value};
 
 /// Turns keep the systems: what they need, where they start, their conditions, and the rules of
@@ -37,6 +36,7 @@ pub fn turns_of_others_commute<V: Value>()
 {}
 
 /// Batch after batch, each side by side, gives what one turn after the other gives.
+#[tactic(auto, using(crate::proofs::OrderOfTurns::batch_by_batch))]
 pub fn frames_run_by_batches<V: Value>()
     ensures law { FramesRunByBatches V.values }
 {}
@@ -75,6 +75,4 @@ pub fn runs_compose<V: Value>()
 pub fn observers_disturb_nobody<V: Value>()
     ensures added { ObserversMayBeAdded V.values }
     ensures law { ObserversDisturbNobody V.values }
-{
-    nothing_else_is_used::<V>();
-}
+{}

@@ -3,7 +3,7 @@ use Rattle.std.proofs.Common.{◌≡◌, ℕ, ◌+◌, ◌<◌, ◌≤◌, List,
 use Rattle.std.specs.List.{enumerate_from}
 use Rattle.std.proofs.lemmas.{Grind.common_steps, List.get_or_default, List.take_all, List.FromFn.length-enumerate_from, Slice.Zip.get_or-zip, Slice.Zip.length-zip}
 use Rattle.msg_log_json.specs.Prelude.{comma_before, list_item, numbered}
-use Rattle.msg_reports.proofs.TextsByPieces.{numbered_more}
+use Rattle.msg_json.proofs.NumberedPieces.{numbered_more}
 
 module _ {X : Type 0} (f : ℕ × X → List ℕ) (xs : List X) where
   -- the first k elements

@@ -10,10 +10,9 @@ use Rattle.msg_system.specs.declared.reply.Reply.TheVariants as reply
 use Rattle.msg_frames.specs.{Prelude.State, Prelude.backlog_of, declared.account.Account.Account, declared.backlog.Backlog.Backlog, declared.frame.Frame.Frame, declared.log.Log.Log, declared.log.Turn.Turn}
 use Rattle.msg_frames.specs.declared.log.Outcome.{Outcome}
 use Rattle.msg_frames.specs.declared.log.Outcome.TheVariants.{Ran, Skipped}
-use Rattle.msg_text.specs.Prelude.{Text}
-use Rattle.msg_scenario_data.specs.Prelude.{resource_name, system_name, type_name}
-use Rattle.msg_scenario_data.specs.{declared.scenario.Scenario.Scenario, declared.scenario.SystemSpec.SystemSpec}
-use Rattle.msg_reports.specs.Prelude.{writer_name}
+use Rattle.msg_json.specs.Prelude.{Text}
+use Rattle.msg_reading.specs.Prelude.{resource_name, system_name, type_name, writer_name}
+use Rattle.msg_reading.specs.{declared.scenario.Scenario.Scenario, declared.scenario.SystemSpec.SystemSpec}
 
 -- ---- lists
 

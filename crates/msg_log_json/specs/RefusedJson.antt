@@ -3,7 +3,7 @@ use Rattle.std.specs.Prelude.{ℕ, [], ◌++◌, Option, Some, None, codes, deci
 use Rattle.msg_json.specs.Faults.{reason_refusal}
 use Rattle.msg_json.specs.{declared.fault.Fault.Fault, declared.location.Location.Location, declared.refusal.Refusal.Refusal}
 use Rattle.msg_json.specs.declared.refusal.Refusal.TheVariants as refusal
-use Rattle.msg_text.specs.Prelude.{Text}
+use Rattle.msg_json.specs.Prelude.{Text}
 
 -- how the line of a refusal begins: its number and its name
 unfoldable pub refused_head : Refusal → Text

@@ -9,9 +9,9 @@ ghost use Rattle.msg_log_json.specs.inner.KeptJson.{account_kept, accounts_kept,
 use crate::list::add_comma;
 use msg_buffer::NoMemory;
 use msg_frames::Account;
-use msg_scenario_data::Scenario;
-use msg_scenario_data::names::{add_system_name, add_type};
-use msg_text::numerals::add_count;
+use msg_json::numerals::add_count;
+use msg_reading::Scenario;
+use msg_reading::names::{add_system_name, add_type};
 use msg_world::{TypeNo, World};
 
 /// The line of the readers, with what each type of the world has for them.

@@ -10,10 +10,10 @@ use crate::turn::add_turns;
 use crate::world::{add_resources, add_types};
 use msg_buffer::NoMemory;
 use msg_frames::{Frame, Log};
-use msg_scenario_data::Scenario;
-use msg_scenario_data::names::add_type;
+use msg_json::numerals::add_count;
+use msg_reading::Scenario;
+use msg_reading::names::add_type;
 use msg_system::Reply;
-use msg_text::numerals::add_count;
 use msg_world::{MAX_RESOURCES, MAX_TYPES, TypeNo, World};
 
 /// The line of a frame that had this log, and left this world.

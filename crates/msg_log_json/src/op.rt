@@ -3,8 +3,8 @@ ghost use Rattle.std.specs.Prelude.{◌≡◌, ◌++◌, OnOk};
 ghost use Rattle.msg_log_json.specs.Prelude.{of_resource, of_type, op_json};
 
 use msg_buffer::NoMemory;
-use msg_scenario_data::Scenario;
-use msg_scenario_data::names::{add_resource, add_type};
+use msg_reading::Scenario;
+use msg_reading::names::{add_resource, add_type};
 use msg_system::Op;
 use msg_world::{ResNo, TypeNo};
 

@@ -2,12 +2,13 @@
 ghost use Rattle.std.specs.Prelude.{◌≡◌, ◌++◌, OnOk};
 ghost use Rattle.msg_log_json.specs.Prelude as Spec;
 ghost use Rattle.msg_log_json.specs.RefusedJson.{number_step};
-ghost use Rattle.msg_text.specs.Prelude.{Text};
+ghost use Rattle.msg_json.specs.Prelude.{Text};
 
+use msg_advice::{Names, why};
 use msg_buffer::NoMemory;
-use msg_json::{Fault, Location, Names, Refusal, why};
-use msg_scenario_data::Scenario;
-use msg_text::numerals::add_count;
+use msg_json::numerals::add_count;
+use msg_json::{Fault, Location, Refusal};
+use msg_reading::Scenario;
 use serde_json::Value;
 use std::alloc::Global;
 

@@ -2,15 +2,14 @@
 ghost use Rattle.std.specs.Prelude.{◌≡◌, ◌+◌, ◌++◌, [], IsOk, OnOk, codes, decimal};
 ghost use Rattle.std.specs.Fmt.{signed_decimal};
 ghost use Rattle.msg_log_json.specs.Prelude as Spec;
-ghost use Rattle.msg_reports.specs.Prelude.{writer_name};
 
 use crate::list::add_comma;
 use msg_buffer::{NoMemory, Written};
-use msg_scenario_data::Scenario;
-use msg_scenario_data::names::add_system_name;
+use msg_json::numerals::{add_count, add_value};
+use msg_reading::Scenario;
+use msg_reading::names::add_writer;
 use msg_system::{Reply, Took};
-use msg_text::numerals::{add_count, add_value};
-use msg_world::{HOST, Record};
+use msg_world::Record;
 
 /// What an op was answered, each member with a comma in front.
 pub fn add_reply(text: &mut Vec<u8>, scenario: &Scenario, reply: &Reply) -> Result<(), NoMemory>
@@ -143,15 +142,4 @@ fn add_message(text: &mut Vec<u8>, scenario: &Scenario, item: &Record) -> Result
     text.extend_from_slice(b",\"")?;
     add_writer(text, scenario, item.writer)?;
     text.extend_from_slice(b"\"]")
-}
-
-/// The name of a message's writer.
-fn add_writer(text: &mut Vec<u8>, scenario: &Scenario, writer: u32) -> Result<(), NoMemory>
-    ensures { OnOk result (text.new.items ≡ text.old.items ++ writer_name scenario.now writer) }
-{
-    if writer == HOST {
-        text.extend_from_slice(b"host")
-    } else {
-        add_system_name(text, scenario, writer)
-    }
 }

@@ -1,15 +1,15 @@
 // The turns of a frame as objects.
 ghost use Rattle.std.specs.Prelude.{◌≡◌, ◌++◌, OnOk, codes, zip};
 ghost use Rattle.msg_log_json.specs.Prelude as Spec;
-ghost use Rattle.msg_scenario_data.specs.Prelude.{system_name};
+ghost use Rattle.msg_reading.specs.Prelude.{system_name};
 
 use crate::list::add_comma;
 use crate::op::add_op;
 use crate::reply::add_reply;
 use msg_buffer::NoMemory;
 use msg_frames::{Outcome, Turn};
-use msg_scenario_data::names::add_system_name;
-use msg_scenario_data::{Scenario, SystemSpec};
+use msg_reading::names::add_system_name;
+use msg_reading::{Scenario, SystemSpec};
 use msg_system::{Op, Reply};
 
 /// The turns of a frame.

@@ -6,9 +6,9 @@ ghost use Rattle.msg_log_json.specs.inner.KeptJson as Spec;
 
 use crate::list::add_comma;
 use msg_buffer::NoMemory;
-use msg_scenario_data::names::add_name;
-use msg_scenario_data::{Name, Scenario};
-use msg_text::numerals::{add_count, add_value};
+use msg_json::numerals::{add_count, add_value};
+use msg_reading::names::add_name;
+use msg_reading::{Name, Scenario};
 use msg_world::{MAX_RESOURCES, MAX_TYPES, ResNo, TypeNo, World};
 
 /// Of each type the oldest message that is kept, and how many were written.

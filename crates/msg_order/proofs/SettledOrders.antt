@@ -1,14 +1,14 @@
 -- The settled order: where it leads, whom it orders, and that any test of conflicts makes the same.
-use Rattle.std.proofs.Common.{Bool, IsTrue, List, ap, arith, false, inl, inr, length, ℕ, ◌&&◌, ◌<◌, ◌↔◌, ◌≡◌, ◌⊎◌}
-use Rattle.std.proofs.lemmas.{Bool.and_from, Bool.and_parts, Bool.cases_Bool, Bool.cases_order, Bool.Decides.eqb_tells}
+use Rattle.std.proofs.Common.{Bool, IsTrue, List, ap, arith, false, inl, inr, le_refl, length, replicate, take, true, ℕ, ◌∙◌, ◌&&◌, ◌<◌, ◌↔◌, ◌≡◌, ◌⊎◌}
+use Rattle.std.proofs.lemmas.{Bool.and_from, Bool.and_parts, Bool.cases_Bool, Bool.cases_lt, Bool.cases_order, Bool.Decides.eqb_tells, Bool.false≢true, List.get_or-replicate, List.get_or-take, List.get_or_past}
 use Rattle.msg_world.specs.{Prelude.Conflict, declared.access.Access.Access}
 use Rattle.msg_world.proofs.{Bits.share_bit-and, Conflicts.collides, Conflicts.conflicts_lem}
 use Rattle.msg_order.specs.inner.Paths.{conflict_among}
-use Rattle.msg_order.specs.Prelude.{ConflictingSystemsAreOrdered, FewerSystemsMakeNoCycle, IsAcyclic, IsAmong, Path, Rule, TellsConflicts, access_of, edges_of, has_joined, pairs, path, rules_among, settle, settled}
+use Rattle.msg_order.specs.Prelude.{ConflictingSystemsAreOrdered, FewerSystemsMakeNoCycle, IsAcyclic, IsAmong, NameSystemsBelow, Path, Rule, TellsConflicts, access_of, edges_of, has_joined, pairs, path, rules_among, settle, settled}
 use Rattle.msg_order.proofs.Chains.{path_grows}
 use Rattle.msg_order.proofs.Elements.{Contains-cases, Contains-filter, filter-Contains}
 use Rattle.msg_order.proofs.PathTest.{no_Path, no_path, path_trans, same_test, to_Path}
-use Rattle.msg_order.proofs.SetPaths.{joined_in, tells_among}
+use Rattle.msg_order.proofs.SetPaths.{all_rules, joined_in, tells_among}
 use Rattle.msg_order.proofs.SettledPairs.{Contains-pairs, pairs-Contains, settle_covers, settle_keeps}
 
 module _ (rules : List Rule) (joined : List Bool) (conflict : ℕ → ℕ → Bool) where
@@ -47,6 +47,16 @@ fewer_make_none rules joined fewer among free i p =
     let in_ = Contains-filter (both joined) (edges_of rules) in
     free i (path_grows (rules_among fewer rules) (rules_among joined rules)
     (λ a b e. grind (arith, out (a, b) e, in_ (a, b), and_parts, and_from, among)) i i p)
+
+-- if rules make no cycle, they make none among those that have joined
+pub none_more : (n : ℕ) (rules : List Rule) → NameSystemsBelow n rules → IsAcyclic (edges_of rules) → (joined : List Bool)
+    → length joined ≡ n → IsAcyclic (rules_among joined rules)
+none_more n rules below none joined size =
+    fewer_make_none rules (take n (replicate n true)) joined
+    (λ i has.
+    let lt : i < n = grind (arith, cases_lt, false≢true, get_or_past) in
+    get_or-take n (replicate n true) i false lt ∙ get_or-replicate n i true false lt)
+    (rw (all_rules n n rules (le_refl n) below) none)
 
 -- ---- tests of conflicts
 

@@ -1,4 +1,4 @@
-ghost use Rattle.std.specs.Prelude.{◌≡◌, ◌<◌, ◌≤◌, [], length, map, Err, IfErr, IfOk, OnErr, OnOk};
+ghost use Rattle.std.specs.Prelude.{◌≡◌, ◌<◌, ◌≤◌, [], length, map, nat_le, Bool, List, Err, IfErr, IfOk, OnErr, OnOk};
 ghost use Rattle.msg_order.specs.{declared.plan_refusal.PlanRefusal.TheVariants.NoMemory, Graph.IsAcyclic, Order.NameSystemsBelow, Settled.rules_among, Plan.IsPlanOf, Plan.PlanView, Plan.RefusesPlan, inner.Paths.AreKept, inner.Paths.ArePaths, inner.Paths.IsSetOf, inner.Paths.view_of};
 
 use crate::levels::batches_of;
@@ -32,6 +32,17 @@ impl<A: Allocator> Model for Plan<A> {
         (map (λ batch. batch.items) p.batches.items) };
 
     ghost invariant = { λ p. AreKept p.before.items p.joined };
+}
+
+/// Of each system, whether it has joined by this frame.
+fn joined_by(alloc: Global, joins: &[u32], frame: u32) -> Result<Vec<bool>, AllocError>
+    ensures joined { IfOk result (λ joined. joined.items ≡ map (λ j. nat_le j frame) joins.now) }
+{
+    let mut joined = Vec::new(alloc);
+    for join in joins {
+        joined.push(*join <= frame)?;
+    }
+    Ok(joined)
 }
 
 fn set_of(joined: &[bool]) -> SystemSet
@@ -129,6 +140,37 @@ impl<A: Allocator + Copy> Plan<A> {
             rules,
             joined,
         )
+    }
+}
+
+impl Plan {
+    /// The plan of the systems that have joined by this frame, each with the frame in `joins`, if
+    /// the rules make no cycle.
+    ///
+    /// # Errors
+    ///
+    /// Want of memory.
+    pub fn of_frame(
+        alloc: Global,
+        accesses: &[Access],
+        rules: &[Rule],
+        joins: &[u32],
+        frame: u32,
+    ) -> Result<Plan, AllocError>
+        requires few { length accesses.now ≤ MAX_SYSTEMS }
+        requires one_each { length joins.now ≡ length accesses.now }
+        requires in_range { NameSystemsBelow (length accesses.now) rules.now }
+        requires no_cycle { (joined : List Bool) → length joined ≡ length accesses.now
+            → IsAcyclic (rules_among joined rules.now) }
+        ensures plan { IfOk result
+            (IsPlanOf accesses.now rules.now (map (λ j. nat_le j frame) joins.now)) }
+    {
+        let joined = joined_by(alloc, joins, frame)?;
+        match Plan::build(alloc, accesses, rules, &joined) {
+            Ok(plan) => Ok(plan),
+            Err(PlanRefusal::Cycle(_)) => unreachable!(),
+            Err(PlanRefusal::NoMemory) => Err(AllocError),
+        }
     }
 }
 

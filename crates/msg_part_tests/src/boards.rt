@@ -71,16 +71,6 @@ fn run_jobs<R: Threads + Sync, W: Runs + Send>(
     }
 }
 
-/// The first of the numbers from 1 on that doesn't stand at its place, if one doesn't.
-fn first_wrong(numbers: &[u64]) -> Option<u64> {
-    for (number, want) in numbers.iter().zip(1..) {
-        if *number != want {
-            return Some(want);
-        }
-    }
-    None
-}
-
 /// Each row has how many jobs there are and how many threads. The results are the successors of
 /// the jobs' numbers, in the order of the jobs.
 #[test]
@@ -90,9 +80,9 @@ fn threads_draw_jobs(rt: HostRuntime) {
         let jobs: Vec<u32> = (0..n).collect(rt.alloc()).have(rt);
         assert!(rt; jobs.len() <= MAX_JOBS);
         let results = run_jobs::<HostRuntime, AddOne>(rt, rt.alloc(), jobs, passes).have(rt);
-        let came = (results.len(), first_wrong(results.as_slice()));
-        expect_eq(rt, came, (n as usize, None));
-        drop(results);
+        let want: Vec<u64> = (1..=u64::from(n)).collect(rt.alloc()).have(rt);
+        expect_eq(rt, results.as_slice(), want.as_slice());
+        drop((results, want));
     }
 }
 

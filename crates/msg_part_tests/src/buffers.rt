@@ -70,7 +70,7 @@ fn numbers(rt: &(impl Abort + AllocGlobal), end: i64) -> Vec<i64> {
 /// A buffer with more than a million messages, written one by one.
 fn after_a_million(rt: &(impl Abort + AllocGlobal)) -> Messages<i64> {
     let mut buffer = Messages::new(rt.alloc(), u64::MAX);
-    for number in 0..1_000_001 {
+    for number in 0..1_100_000 {
         buffer.write(number).have(rt);
     }
     buffer
@@ -82,16 +82,16 @@ fn more_than_a_million_messages(rt: HostRuntime) {
     let rt = &rt;
     let mut buffer = after_a_million(rt);
     let wrote = buffer.write_batch(numbers(rt, 4_097)).ok();
-    expect_eq(rt, wrote, written(1_000_001, 4_097));
+    expect_eq(rt, wrote, written(1_100_000, 4_097));
     let wrote = buffer.write_batch(numbers(rt, 1)).ok();
-    expect_eq(rt, wrote, written(1_004_098, 1));
+    expect_eq(rt, wrote, written(1_104_097, 1));
     let items = numbers(rt, 100_001);
     let same = |value: &i64| -> i64 { *value };
     let wrote = buffer.write_each(&items, &same).ok();
-    expect_eq(rt, wrote, written(1_004_099, 100_001));
+    expect_eq(rt, wrote, written(1_104_098, 100_001));
     drop(items);
     let all = buffer.drain().have(rt);
     drop(buffer);
-    expect_eq(rt, all.len(), 1_104_100);
+    expect_eq(rt, all.len(), 1_204_099);
     drop(all);
 }

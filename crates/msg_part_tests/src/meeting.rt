@@ -25,9 +25,9 @@ impl<'a, C: Clock> Meeting<'a, C> {
         }
     }
 
-    /// One more came.
-    pub fn come(&self) {
-        self.came.fetch_add(1, Ordering::SeqCst);
+    /// One more came. Gives how many came before.
+    pub fn come(&self) -> u64 {
+        self.came.fetch_add(1, Ordering::SeqCst)
     }
 
     /// Waits until all that are awaited came.

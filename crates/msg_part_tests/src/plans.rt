@@ -44,25 +44,16 @@ fn expect_precedes(rt: &impl Abort, plan: &Plan, one: u32, other: u32, want: boo
 }
 
 #[test]
-fn no_systems(rt: HostRuntime) {
+fn batches_of_worked_plans(rt: HostRuntime) {
     let rt = &rt;
     let plan = plan_with(rt, &[], &[], &[], &[]);
     expect_eq(rt, plan.accepts(&[]), true);
     drop(plan);
-}
-
-#[test]
-fn readers_run_side_by_side(rt: HostRuntime) {
-    let rt = &rt;
-    let accesses = [uses(0, 1), uses(1, 0), uses(1, 0), uses(0, 1)];
-    drop(plan_with(rt, &accesses, &[], &[true; 4], &[&[0], &[1, 2], &[3]]));
-}
-
-#[test]
-fn a_settled_pair_leaves_the_next_no_choice(rt: HostRuntime) {
-    let rt = &rt;
-    let (accesses, rules) = ([uses(0, 1); 3], [Rule::before(2, 0)]);
-    drop(plan_with(rt, &accesses, &rules, &[true; 3], &[&[2], &[0], &[1]]));
+    let readers = [uses(0, 1), uses(1, 0), uses(1, 0), uses(0, 1)];
+    drop(plan_with(rt, &readers, &[], &[true; 4], &[&[0], &[1, 2], &[3]]));
+    // A settled pair leaves the next no choice.
+    let (writers, rules) = ([uses(0, 1); 3], [Rule::before(2, 0)]);
+    drop(plan_with(rt, &writers, &rules, &[true; 3], &[&[2], &[0], &[1]]));
 }
 
 /// The plan of two writers and their readers, where each reader runs before the other's writer.

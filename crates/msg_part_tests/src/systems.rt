@@ -48,21 +48,17 @@ fn boxed<S>(rt: &(impl Abort + AllocGlobal), system: S) -> Box<S> {
     Box::new(rt.alloc(), system).have(rt)
 }
 
-fn add(rt: &impl Abort, boxes: &mut Vec<Box<dyn System>>, system: Box<dyn System>) {
-    boxes.push(system).have(rt);
-}
-
 /// A script, a relay and a tally.
 #[test]
 fn a_list_of_three_boxes(rt: HostRuntime) {
     let rt = &rt;
     let (t, u, r) = (type_no(0), type_no(1), res_no(0));
-    let mut boxes = Vec::new(rt.alloc());
-    add(rt, &mut boxes, boxed(rt, writer(rt, t)));
+    let mut boxes: Vec<Box<dyn System>> = Vec::new(rt.alloc());
+    boxes.push(boxed(rt, writer(rt, t))).have(rt);
     let relay = Relay::new(t, u, Start::Zero, 1);
-    add(rt, &mut boxes, boxed(rt, relay));
+    boxes.push(boxed(rt, relay)).have(rt);
     let tally = Tally::new(u, r, Start::Zero, 2);
-    add(rt, &mut boxes, boxed(rt, tally));
+    boxes.push(boxed(rt, tally)).have(rt);
     let mut world = World::new(rt.alloc(), &[9, 9], &[7]).have(rt);
     let mut replies = Vec::new(rt.alloc());
     for system in boxes.as_mut_slice() {

@@ -1,14 +1,32 @@
-// What a loan shows, a world with nothing in it, and a post that finds no number.
+// Accesses, what a loan shows, a world with nothing in it, and a post that finds no number.
 ghost use Rattle.msg_world.specs.Prelude.{IsLoanOf, LendsOut, SameShape};
 
 mod out_of_memory;
 
 use crate::equal::{Have, expect_eq};
-use crate::numbers::{res_no, type_no};
+use crate::numbers::{of_types, res_no, type_no};
 use msg_buffer::{MessageId, WriteRefusal};
 use msg_world::laws::lent_parts_are_a_loan;
-use msg_world::{Access, HOST, Lent, Record, Taken, TypeNo, World};
+use msg_world::{Access, HOST, Items, Lent, Record, Taken, TypeNo, World};
 use std::process::Abort;
+
+#[test]
+fn accesses_of_a_writer_and_a_reader(rt: HostRuntime) {
+    let rt = &rt;
+    let (writer, reader) = (of_types(0, 1), of_types(1, 0));
+    let signals = Access::none().with_registry();
+    for (one, other, want) in [
+        (writer, reader, true),
+        (reader, reader, false),
+        (signals, signals, true),
+    ] {
+        let found = (one.conflicts(&other), other.conflicts(&one));
+        expect_eq(rt, found, (want, want));
+    }
+    expect_eq(rt, writer.union(&reader), writer);
+    expect_eq(rt, of_types(1, 1).is_clash(), true);
+    expect_eq(rt, (reader.fits(1, 0), reader.fits(0, 0)), (true, false));
+}
 
 /// Lends out what this access uses, which is home.
 pub fn lend(rt: &impl Abort, world: &mut World, access: &Access) -> Taken
@@ -85,4 +103,17 @@ fn a_post_without_a_number(rt: HostRuntime) {
     let back = spent(post(rt, &mut world, type_no(0), 5));
     expect_eq(rt, back, Some(record));
     drop(world);
+}
+
+/// A copy of items takes room for what they are, however much room there is where they were made.
+#[test]
+fn a_copy_takes_room_for_its_items_alone(rt: HostRuntime) {
+    let rt = &rt;
+    let mut values: Vec<i64> = Vec::with_capacity(rt.alloc(), 100).have(rt);
+    values.resize(9, 5).have(rt);
+    let items = Items::from_vec(values);
+    let copied = items.copy(rt.alloc()).have(rt).into_vec();
+    drop(items);
+    expect_eq(rt, (copied.len(), copied.capacity()), (9, 9));
+    drop(copied);
 }

@@ -4,7 +4,7 @@ use Rattle.serde_json.specs.Data.{Data}
 use Rattle.msg_order.specs.Prelude.{IsLowestOnCycle, edges_of}
 use Rattle.msg_json.specs.declared.fault.Fault.{Fault}
 use Rattle.msg_json.specs.declared.reason.Reason.TheVariants as reason
-use Rattle.msg_scenario_data.specs.declared.scenario.Scenario.{Scenario}
+use Rattle.msg_reading.specs.declared.scenario.Scenario.{Scenario}
 use Rattle.msg_reading.specs.Prelude.{HasFault, NoneClash, scenario_of, unfit}
 
 -- rules that make a cycle are the fault of a scenario in which no program clashes

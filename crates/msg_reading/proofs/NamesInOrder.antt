@@ -3,7 +3,7 @@ use Rattle.std.proofs.lemmas.{List.map_push, Grind.common_steps, List.length-map
 use Rattle.std.proofs.Common.{◌≡◌, ◌+◌, List, [], ◌∷◌, ◌++◌, length, refl, sym, ap, ◌∙◌, None, Bool, false, not, map, nat_lt, string_bytes, String, arith, cond, position}
 use Rattle.std.specs.{List.list_any, List.position_or_len, Str.bytes_eq, declared.alloc.Global.Global}
 use Rattle.indexmap.specs.IndexSet.{insert_key}
-use Rattle.msg_text.specs.Prelude.{Text}
+use Rattle.msg_json.specs.Prelude.{Text}
 use Rattle.msg_reading.specs.Prelude.{position_of}
 
 module _ {A B : Type 0} (p : B → Bool) (f : A → B) where

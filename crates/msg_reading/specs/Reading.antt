@@ -9,7 +9,7 @@ use Rattle.msg_json.specs.declared.location.Key.TheVariants as key
 use Rattle.msg_json.specs.declared.reason.Reason.{Reason}
 use Rattle.msg_json.specs.declared.reason.Reason.TheVariants as reason
 use Rattle.msg_reading.specs.ScenarioFormat.{scenario_of}
-use Rattle.msg_scenario_data.specs.{declared.scenario.Scenario.Scenario, declared.scenario.SystemSpec.SystemSpec}
+use Rattle.msg_reading.specs.{declared.scenario.Scenario.Scenario, declared.scenario.SystemSpec.SystemSpec}
 
 -- no program of these systems reads and writes one type
 abbrev pub NoneClash : List SystemSpec → Type 0

@@ -9,8 +9,7 @@ use Rattle.msg_system.specs.declared.condition.Probe.TheVariants as probe
 use Rattle.msg_system.specs.declared.start.Start.TheVariants as start
 use Rattle.msg_frames.specs.{declared.frame.Frame.Frame}
 use Rattle.msg_order.specs.declared.rule.Rule.{Rule}
-use Rattle.msg_json.specs.Prelude.{Reading, at_key, batch_of, elements, fails, found, headed, in_element, in_item, in_key, in_nots, in_part, in_section, key_text, known_keys, limit, list_up_to, not_negative, number_of, numbers_of, only_below, text_in, wanted, whole, ◌>>=◌}
-use Rattle.msg_text.specs.Prelude.{Text}
+use Rattle.msg_json.specs.Prelude.{Reading, at_key, batch_of, elements, fails, found, headed, in_element, in_item, in_key, in_nots, in_part, in_section, key_text, known_keys, limit, list_up_to, not_negative, number_of, numbers_of, only_below, text_in, wanted, whole, ◌>>=◌, Text}
 use Rattle.msg_frames.specs.declared.limits.TheConstants.{LAST_JOIN}
 use Rattle.msg_system.specs.declared.limits.TheConstants.{MAX_OPS}
 use Rattle.msg_world.specs.declared.limits.TheConstants.{MAX_RESOURCES, MAX_SYSTEMS, MAX_TYPES}
@@ -19,9 +18,9 @@ use Rattle.msg_json.specs.declared.location.Key.{Key}
 use Rattle.msg_json.specs.declared.location.Key.TheVariants as key
 use Rattle.msg_json.specs.declared.location.TheConstants.{SCENARIO_KEYS, SYSTEM_KEYS}
 use Rattle.msg_json.specs.declared.reason.Reason.TheVariants as reason
-use Rattle.msg_scenario_data.specs.{Prelude.fits_kind, Prelude.is_name, declared.kind.Kind.Kind, declared.scenario.Scenario.Scenario, declared.scenario.SystemSpec.SystemSpec}
-use Rattle.msg_scenario_data.specs.declared.kind.Kind.TheVariants as kind
-use Rattle.msg_reading.specs.Names.{Declared, position_of, resource_number, system_number, type_number}
+use Rattle.msg_reading.specs.{Names.is_name, Runnable.fits_kind, declared.kind.Kind.Kind, declared.scenario.Scenario.Scenario, declared.scenario.SystemSpec.SystemSpec}
+use Rattle.msg_reading.specs.declared.kind.Kind.TheVariants as kind
+use Rattle.msg_reading.specs.Declarations.{Declared, position_of, resource_number, system_number, type_number}
 
 -- ---- lists
 

@@ -1,4 +1,7 @@
-// The limits of scenario files, beside those of scenarios.
+// The limits of scenarios, beside those of engines, and of scenario files.
+
+/// How many bytes a name may have.
+pub(crate) const MAX_NAME: usize = 32;
 
 /// How many conditions a system may have.
 pub(crate) const MAX_CONDITIONS: usize = 8;

@@ -3,8 +3,7 @@ ghost use Rattle.std.specs.Prelude.{◌≡◌, ◌≢◌, ◌⊎◌, Err, IfOk, 
 ghost use Rattle.serde_json.specs.{Data.Data, View.view};
 ghost use Rattle.msg_json.specs.Prelude.{IsFaultOf, IsJsonOf, IsNotJson, IsRefusedFor};
 ghost use Rattle.msg_json.specs.declared.reason.Reason.TheVariants.{NoMemory as NoRoom};
-ghost use Rattle.msg_reading.specs.Prelude.{HasFault, IsReadAs};
-ghost use Rattle.msg_scenario_data.specs.Prelude.{IsRunnable};
+ghost use Rattle.msg_reading.specs.Prelude.{HasFault, IsReadAs, IsRunnable};
 
 use crate::{Fault, FileFault, Refusal, Scenario};
 use msg_json::json::parse;

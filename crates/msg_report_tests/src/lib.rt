@@ -7,8 +7,7 @@ mod calls;
 mod command;
 #[cfg(test)]
 mod equal;
-#[cfg(test)]
-mod from_bytes;
+pub mod from_bytes;
 #[cfg(test)]
 mod names;
 #[cfg(test)]

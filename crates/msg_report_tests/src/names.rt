@@ -1,6 +1,6 @@
 // What an engine tells, with names, and its plan beside that of the scenario that it was made of.
 ghost use Rattle.std.specs.Prelude.{◌<◌};
-ghost use Rattle.msg_scenario_data.specs.Prelude.{IsRunnable};
+ghost use Rattle.msg_reading.specs.Prelude.{IsRunnable};
 ghost use Rattle.msg_exec.specs.Prelude.{IsEngine};
 ghost use Rattle.msg_world.specs.Prelude.{i64_values};
 
@@ -60,16 +60,7 @@ fn an_engine_has_the_plan_of_its_scenario(rt: HostRuntime) {
     let like = scenario_of_engine(rt.alloc(), &arrangement, &NAMES).have(rt);
     expect_same_plans(rt, &scenario, &like, 1);
     expect_same_plans(rt, &scenario, &like, 2);
-    drop(engine);
-}
-
-/// What has no name is told by its number.
-#[test]
-fn an_engine_without_names_has_a_plan(rt: HostRuntime) {
-    let rt = &rt;
-    let scenario = accepted(rt, SCENARIO);
-    let engine = sparing_engine(rt.alloc(), &scenario, 0).have(rt);
-    let arrangement = engine.arrangement().have(rt);
+    // What has no name is told by its number.
     let like = scenario_of_engine(rt.alloc(), &arrangement, &NO_NAMES).have(rt);
     let mut text = MemorySink::new();
     put_plan(rt.alloc(), &like, 1, Form::Lines, &mut text).have(rt);

@@ -2,10 +2,10 @@
 use crate::equal::{Have, expect_eq};
 use crate::narrow::Narrow;
 use crate::scenario_files::accepted;
-use crate::sparing::{sparing_engine, sparing_systems, workers};
+use crate::sparing::{sparing_engine, workers};
 use msg_exec::{Gate, NoGate, RunFault};
 use msg_part_tests::meeting::Meeting;
-use msg_scenario::{MemorySink, ReportFault, Sink, report, run_scenario};
+use msg_scenario::{MemorySink, ReportFault, Sink, report};
 use std::process::Abort;
 use std::thread::Threads;
 use std::time::Clock;
@@ -136,19 +136,5 @@ fn readers_run_side_by_side(rt: HostRuntime) {
     let came = report_by_engine(rt, TWO_READERS, 2, 2, &gate, &mut sink);
     expect_eq(rt, came, (Ok(()), 2, false));
     gate.expect_met(rt);
-    drop(sink);
-}
-
-#[test]
-fn readers_of_a_scenario_run_side_by_side(rt: HostRuntime) {
-    let rt = &rt;
-    let gate = HoldGate::new(rt);
-    let scenario = accepted(rt, TWO_READERS);
-    let systems = sparing_systems(rt.alloc(), &scenario, 2).have(rt);
-    let mut sink = MemorySink::new();
-    let put = run_scenario(rt, &scenario, systems, workers(rt, 2), &gate, &mut sink);
-    expect_eq(rt, put.have(rt), Ok(()));
-    gate.expect_met(rt);
-    drop(scenario);
     drop(sink);
 }

@@ -1,5 +1,5 @@
 // Scenario files that are accepted, and that are refused.
-ghost use Rattle.msg_scenario_data.specs.Prelude.{IsRunnable};
+ghost use Rattle.msg_reading.specs.Prelude.{IsRunnable};
 
 use crate::equal::{Have, expect_eq};
 use crate::reports::LAG;

@@ -2,13 +2,13 @@
 ghost use Rattle.std.specs.Prelude.{◌≡◌, ◌≤◌, IfOk, length};
 ghost use Rattle.msg_system.specs.Prelude.{new_system};
 ghost use Rattle.msg_exec.specs.Prelude.{EachIs, EngineStands};
-ghost use Rattle.msg_reports.specs.Prelude.{IsSystemAt};
-ghost use Rattle.msg_scenario_data.specs.Prelude.{IsRunnable, state_of};
+ghost use Rattle.msg_scenario.specs.Prelude.{IsSystemAt};
+ghost use Rattle.msg_reading.specs.Prelude.{IsRunnable, state_of};
 
 use crate::equal::Have;
 use msg_exec::{EngineOf, Workers};
 use msg_part_tests::prefaced::{Before, Prefaced};
-use msg_scenario::{Scenario, SystemSpec, add_system, engine_of};
+use msg_scenario::{Scenario, SystemSpec, engine_of};
 use msg_system::{NoMemory, Scripted, SystemOf};
 use std::alloc::Global;
 use std::process::Abort;
@@ -29,11 +29,7 @@ fn sparing(spec: &SystemSpec, alloc: Global, writer: u32, runs: u32) -> Result<P
 }
 
 /// The systems of the scenario; each of them has memory for `runs` runs.
-pub fn sparing_systems(
-    alloc: Global,
-    scenario: &Scenario,
-    runs: u32,
-) -> Result<Vec<Prefaced>, NoMemory>
+fn sparing_systems(alloc: Global, scenario: &Scenario, runs: u32) -> Result<Vec<Prefaced>, NoMemory>
     requires runnable { IsRunnable scenario.now }
     ensures as_many { IfOk result (λ v. length v.items ≡ length scenario.now.systems) }
     ensures each { IfOk result (λ v.
@@ -43,8 +39,7 @@ pub fn sparing_systems(
     let specs = scenario.systems.as_slice();
     for spec in specs {
         let writer = systems.len() as u32;
-        let system = sparing(spec, alloc, writer, runs)?;
-        add_system(specs, spec, &mut systems, system)?;
+        systems.push(sparing(spec, alloc, writer, runs)?)?;
     }
     Ok(systems)
 }

@@ -2,16 +2,15 @@
 -- no clause says more of it than that the sink takes it.
 use Rattle.std.specs.Prelude.{◌≡◌, ◌⊎◌, ℕ, true, false, List, [], Ok, Err, Option}
 use Rattle.serde_json.specs.Data.{Data}
-use Rattle.msg_json.specs.Prelude.{IsJsonOf, IsNotJson, is_calls_file, reason_refusal}
-use Rattle.msg_text.specs.Prelude.{AppendsAtLeast, one_failure_more}
-use Rattle.msg_text.specs.declared.report_fault.ReportFault.TheVariants as report_fault
-use Rattle.msg_files.specs.Prelude.{file_of}
-use Rattle.msg_files.specs.Cursors.{CallsFile}
+use Rattle.msg_json.specs.Prelude.{IsJsonOf, IsNotJson, is_calls_file, reason_refusal, AppendsAtLeast, one_failure_more}
+use Rattle.msg_json.specs.declared.report_fault.ReportFault.TheVariants as report_fault
+use Rattle.msg_calls.specs.Prelude.{file_of}
+use Rattle.msg_calls.specs.Cursors.{CallsFile}
 use Rattle.msg_json.specs.declared.fault.Fault.{Fault}
 use Rattle.msg_json.specs.declared.refusal.Refusal.{Refusal}
 use Rattle.msg_json.specs.declared.refusal.Refusal.TheVariants as refusal
 use Rattle.msg_reading.specs.Prelude.{HasFault, IsReadAs}
-use Rattle.msg_scenario_data.specs.declared.scenario.Scenario.{Scenario}
+use Rattle.msg_reading.specs.declared.scenario.Scenario.{Scenario}
 use Rattle.msg_scenario.specs.declared.check_fault.CheckFault.{CheckFault}
 use Rattle.msg_scenario.specs.declared.check_fault.CheckFault.TheVariants as check_fault
 

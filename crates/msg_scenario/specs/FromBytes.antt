@@ -1,27 +1,17 @@
 -- From the bytes of a file to what is answered.
 use Rattle.std.specs.Prelude.{◌≡◌, ◌≢◌, ◌⊎◌, ℕ, List, Ok, Option, Some}
 use Rattle.serde_json.specs.Data.{Data}
-use Rattle.msg_json.specs.Prelude.{IsJsonOf, IsNotJson, IsRefusedFor}
+use Rattle.msg_json.specs.Prelude.{IsJsonOf, IsNotJson, IsRefusedFor, AppendsPrefix, Text, one_failure_more}
 use Rattle.msg_json.specs.declared.fault.Fault.{Fault}
 use Rattle.msg_json.specs.declared.refusal.Refusal.{Refusal}
 use Rattle.msg_json.specs.declared.refusal.Refusal.TheVariants as refusal
-use Rattle.msg_text.specs.Prelude.{AppendsPrefix, Text, one_failure_more}
-use Rattle.msg_text.specs.declared.report_fault.ReportFault.{ReportFault}
-use Rattle.msg_text.specs.declared.report_fault.ReportFault.TheVariants as report_fault
-use Rattle.msg_files.specs.Prelude.{file_of}
-use Rattle.msg_files.specs.declared.calls.Calls.{Calls}
+use Rattle.msg_json.specs.declared.report_fault.ReportFault.{ReportFault}
+use Rattle.msg_json.specs.declared.report_fault.ReportFault.TheVariants as report_fault
+use Rattle.msg_calls.specs.Prelude.{file_of}
+use Rattle.msg_calls.specs.declared.calls.Calls.{Calls}
 use Rattle.msg_reading.specs.Prelude.{IsReadAs}
-use Rattle.msg_reports.specs.Prelude.{IsReported}
-use Rattle.msg_scenario_data.specs.declared.scenario.Scenario.{Scenario}
-use Rattle.msg_serve.specs.declared.serve_fault.ServeFault.{ServeFault}
-use Rattle.msg_serve.specs.declared.serve_fault.ServeFault.TheVariants as serve_fault
-use Rattle.msg_scenario.specs.declared.answer_fault.AnswerFault.{AnswerFault}
-use Rattle.msg_scenario.specs.declared.answer_fault.AnswerFault.TheVariants as answer
-
--- why a file wasn't answered to the end, by what its serving came to
-abbrev pub served_fault : ServeFault → AnswerFault
-served_fault serve_fault.Input = answer.Input
-served_fault (serve_fault.Report fault) = answer.Report fault
+use Rattle.msg_scenario.specs.Prelude.{IsReported}
+use Rattle.msg_reading.specs.declared.scenario.Scenario.{Scenario}
 
 -- The bytes are a scenario file, and this holds of its scenario.
 pub record IsOfScenario (bytes : List ℕ) (Holds : Scenario → Type 0) : Type 0 where

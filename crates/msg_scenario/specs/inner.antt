@@ -1,1 +1,4 @@
+pub mod LastRead
+pub mod LineStarts
+pub mod SoFar
 pub mod Checking

@@ -1,8 +1,6 @@
 ghost use Rattle.std.specs.Prelude.{◌≡◌};
 
-use msg_json::Refusal;
-use msg_serve::ServeFault;
-use msg_text::ReportFault;
+use msg_json::{Refusal, ReportFault};
 use msg_world::NoMemory;
 use thiserror::Error;
 
@@ -18,7 +16,7 @@ pub enum AnswerFault {
     /// The answers or the report weren't put to their end.
     #[error("{0}")]
     Report(ReportFault),
-    /// The input of lines failed.
+    /// The input of lines failed: of `serve_bytes` of `msg_serve` alone.
     #[error("cannot read input")]
     Input,
 }
@@ -50,18 +48,5 @@ impl From<ReportFault> for AnswerFault {
 
     fn from(came: ReportFault) -> Self {
         AnswerFault::Report(came)
-    }
-}
-
-impl From<ServeFault> for AnswerFault {
-    ghost use Rattle.msg_scenario.specs.FromBytes.{served_fault};
-
-    ghost from_gives = { λ came fault. fault ≡ served_fault came };
-
-    fn from(came: ServeFault) -> Self {
-        match came {
-            ServeFault::Input => AnswerFault::Input,
-            ServeFault::Report(fault) => AnswerFault::Report(fault),
-        }
     }
 }

@@ -1,24 +1,20 @@
 // From the bytes of a file to what a sink takes.
-ghost use Rattle.std.specs.Prelude.{◌≡◌, ◌<◌, ◌⊎◌, [], Err, IfOk, OnErr, OnOk};
+ghost use Rattle.std.specs.Prelude.{◌≡◌, ◌<◌, ◌⊎◌, [], Err, OnOk};
 ghost use Rattle.std.specs.Io.KnownBytes.{Appends};
-ghost use Rattle.msg_text.specs.Prelude.{AppendsAtLeast, one_failure_more};
-ghost use Rattle.msg_text.specs.declared.report_fault.ReportFault.{ReportFault as FaultView};
+ghost use Rattle.msg_json.specs.Prelude.{AppendsAtLeast, one_failure_more};
+ghost use Rattle.msg_json.specs.declared.report_fault.ReportFault.{ReportFault as FaultView};
 ghost use Rattle.msg_json.specs.declared.refusal.Refusal.{Refusal as RefusalView};
-ghost use Rattle.msg_files.specs.Prelude.{TakesFirstLines, calls_text, file_of};
+ghost use Rattle.msg_calls.specs.Prelude.{TakesFirstLines, calls_text, file_of};
 ghost use Rattle.msg_reading.specs.Prelude.{HasFault};
-ghost use Rattle.msg_reports.specs.Prelude.{IsReported, LeavesReport};
-ghost use Rattle.msg_scenario_data.specs.Prelude.{IsRunnable};
+ghost use Rattle.msg_scenario.specs.Prelude.{IsReported, LeavesReport};
 ghost use Rattle.msg_scenario.specs.FromBytes.{AreOfCalls, EndsText, IsOfScenario, IsRefusedFile};
 
-use crate::AnswerFault;
-use crate::scenario_system::systems_of;
-use msg_exec::{NoGate, NoMemory, Workers};
-use msg_files::{read_calls, run_calls};
-use msg_plans::{Form, put_plan};
+use crate::{AnswerFault, engine_of, report, systems_of};
+use msg_advice::{Form, put_plan};
+use msg_calls::{read_calls, run_calls};
+use msg_exec::{NoGate, Workers};
+use msg_json::{ReportFault, Sink};
 use msg_reading::read_scenario;
-use msg_reports::run_scenario;
-use msg_scenario_data::Scenario;
-use msg_text::{ReportFault, Sink};
 use std::alloc::Global;
 use std::thread::Threads;
 
@@ -49,27 +45,7 @@ pub fn answer_bytes<S: Sink>(alloc: Global, bytes: &[u8], sink: &mut S) -> Resul
     ensures no_engine { ¬ (result ≡ Err AnswerFault.NoMemory) }
 {
     let calls = read_calls(alloc, bytes)?;
-    let answered = run_calls(alloc, &calls, sink);
-    drop(calls);
-    Ok(answered?)
-}
-
-/// Makes the systems of a scenario, and runs the scenario by them.
-fn run_systems<R: Threads + Sync + AllocGlobal, S: Sink>(
-    rt: &R,
-    scenario: &Scenario,
-    workers: Workers,
-    sink: &mut S,
-) -> Result<Result<(), ReportFault>, NoMemory>
-    requires runnable { IsRunnable scenario.now }
-
-    // Whatever the workers: the text is that of one thread.
-    ensures leaves { IfOk result (λ came.
-        LeavesReport S.contents S.failures scenario.now came sink.old sink.new) }
-    ensures no_engine { OnErr result (sink.new ≡ sink.old) }
-{
-    let systems = systems_of(rt.alloc(), scenario)?;
-    run_scenario(rt, scenario, systems, workers, &NoGate, sink)
+    Ok(run_calls(alloc, &calls, sink)?)
 }
 
 /// Runs the scenario of a scenario file, and reports it. The text is a function of the bytes,
@@ -106,9 +82,9 @@ pub fn report_bytes<R: Threads + Sync + AllocGlobal, S: Sink>(
         → IsOfScenario bytes.now (λ scenario. sink.new ≡ sink.old) }
 {
     let scenario = read_scenario(rt.alloc(), bytes)?;
-    let came = run_systems(rt, &scenario, workers, sink);
-    drop(scenario);
-    Ok(came??)
+    let systems = systems_of(rt.alloc(), &scenario)?;
+    let mut engine = engine_of(rt.alloc(), &scenario, systems)?;
+    Ok(report(rt, &mut engine, &scenario, workers, &NoGate, sink)?)
 }
 
 /// Tells the plan of a frame of a scenario file, as lines or for Graphviz. Nothing is run. Frames
@@ -146,7 +122,5 @@ pub fn plan_bytes<S: Sink>(
     ensures no_engine { ¬ (result ≡ Err AnswerFault.NoMemory) }
 {
     let scenario = read_scenario(alloc, bytes)?;
-    let put = put_plan(alloc, &scenario, frame, form, sink);
-    drop(scenario);
-    Ok(put?)
+    Ok(put_plan(alloc, &scenario, frame, form, sink)?)
 }

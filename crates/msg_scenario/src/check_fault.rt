@@ -1,7 +1,6 @@
 ghost use Rattle.std.specs.Prelude.{◌≡◌};
 
-use msg_json::Refusal;
-use msg_text::ReportFault;
+use msg_json::{Refusal, ReportFault};
 use msg_world::NoMemory;
 use thiserror::Error;
 
@@ -18,7 +17,7 @@ pub enum CheckFault {
 
 impl From<NoMemory> for CheckFault {
     ghost use Rattle.msg_scenario.specs.declared.check_fault.CheckFault.TheVariants.{Report as NotTold};
-    ghost use Rattle.msg_text.specs.declared.report_fault.ReportFault.TheVariants.{NoMemory as NoRoom};
+    ghost use Rattle.msg_json.specs.declared.report_fault.ReportFault.TheVariants.{NoMemory as NoRoom};
 
     ghost from_gives = { λ _ fault. fault ≡ NotTold NoRoom };
 

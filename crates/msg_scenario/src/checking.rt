@@ -1,20 +1,18 @@
 // A file that is checked, and not run.
 ghost use Rattle.std.specs.Prelude.{◌≡◌, [], IfErr, OnOk};
 ghost use Rattle.serde_json.specs.View.{view};
-ghost use Rattle.msg_scenario_data.specs.Prelude.{IsRunnable};
-ghost use Rattle.msg_text.specs.Prelude.{AppendsAtLeast};
+ghost use Rattle.msg_reading.specs.Prelude.{IsRunnable};
+ghost use Rattle.msg_json.specs.Prelude.{AppendsAtLeast};
 ghost use Rattle.msg_scenario.specs.Checked.{EndsCheck, IsEither, Passes};
 ghost use Rattle.msg_scenario.specs.inner.Checking.{EndsFor, EndsForEither, EndsUntold};
 
 use crate::CheckFault;
-use msg_files::{Calls, read_file};
+use msg_advice::{fault_lines, remarks_of, unfit_lines};
+use msg_calls::{Calls, read_file};
 use msg_json::json::parse;
-use msg_json::{Fault, FileFault, Reason, Refusal, fault_lines, is_calls_file};
-use msg_plans::{remarks_of, unfit_lines};
-use msg_reading::{read_sections, read_value};
-use msg_scenario_data::Scenario;
-use msg_text::numerals::add_count;
-use msg_text::{ReportFault, Sink, put_text};
+use msg_json::numerals::add_count;
+use msg_json::{Fault, FileFault, Reason, Refusal, ReportFault, Sink, is_calls_file, put_text};
+use msg_reading::{Scenario, read_sections, read_value};
 use msg_world::NoMemory;
 use serde_json::Value;
 use std::alloc::Global;

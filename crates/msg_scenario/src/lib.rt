@@ -1,27 +1,32 @@
-//! All that a program calls to read scenario files and calls files and to print what comes of them.
-//! The parts are crates of their own: reading and reports need nothing of one another.
+//! All that a program calls to read scenario files and calls files and to print what comes of them,
+//! but for lines of JSON: the engine of a scenario, its frames and their text in a sink, and the
+//! calls that lead from a file's bytes to its text. What needs no engine stands in crates of its
+//! own, which this one hands on.
 #![tactic(auto)]
 
 mod answer_fault;
 mod answering;
+mod building;
 mod check_fault;
 mod checking;
 pub mod laws;
-mod scenario_system;
-mod serving;
+mod reports;
 
 pub use answer_fault::AnswerFault;
 pub use answering::{answer_bytes, plan_bytes, report_bytes};
+pub use building::{engine_of, systems_of};
 pub use check_fault::CheckFault;
 pub use checking::check_bytes;
-pub use msg_files::{Call, Calls, check_calls, read_calls, run_calls};
-pub use msg_json::{Fault, FileFault, Key, Location, Reason, Refusal, Step, fault_lines};
-pub use msg_plans::{
-    Clash, Form, Planned, clash_of, plan_frame, put_plan, round, scenario_of_engine, unfit_lines,
+pub use msg_advice::{
+    Clash, Form, Planned, clash_of, fault_lines, plan_frame, put_plan, round, scenario_of_engine,
+    unfit_lines,
 };
-pub use msg_reading::{check_scenario, read_scenario, read_sections};
-pub use msg_reports::{add_system, engine_of, report, run_scenario};
-pub use msg_scenario_data::{Kind, Name, Scenario, SystemSpec};
-pub use msg_serve::{MAX_LINE, ServeFault};
-pub use msg_text::{CAPACITY, MemorySink, PutFault, ReportFault, Sink, StdSink, put_all};
-pub use serving::{serve_bytes, trace_bytes};
+pub use msg_calls::{Call, Calls, check_calls, read_calls, run_calls};
+pub use msg_json::{
+    CAPACITY, Fault, FileFault, Key, Location, MemorySink, PutFault, Reason, Refusal, ReportFault,
+    Sink, StdSink, Step, put_all,
+};
+pub use msg_reading::{
+    Kind, Name, Scenario, SystemSpec, check_scenario, read_scenario, read_sections,
+};
+pub use reports::report;

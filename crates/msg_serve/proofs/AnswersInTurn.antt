@@ -7,9 +7,9 @@ use Rattle.std.proofs.KnownBytes.{Appends-nil, Appends-trans}
 use Rattle.std.proofs.lemmas.{Bool.cases_Bool, List.drop_more, List.length-map, List.map-append, List.take_more, Result.IfOk-weaker}
 use Rattle.serde_json.specs.Data.{Data}
 use Rattle.msg_serve.specs.declared.limits.TheConstants.{MAX_LINE}
-use Rattle.msg_json.specs.Prelude.{IsJsonOf, IsNotJson, Reading, ◌>>=◌}
+use Rattle.msg_json.specs.Prelude.{IsJsonOf, IsNotJson, Reading, ◌>>=◌, AppendsPrefix, Text, one_failure_more}
 use Rattle.msg_reading.specs.ScenarioFormat as Spec
-use Rattle.msg_reading.specs.Prelude.{Declared}
+use Rattle.msg_reading.specs.Prelude.{Declared, state_of}
 use Rattle.msg_reading.proofs.{ReadScenarioRuns.posts_fit, WhatIsUsedIsThere.HasNames}
 use Rattle.msg_system.specs.Prelude.{Meaning}
 use Rattle.msg_exec.specs.Prelude.{EngineStands, IsEngine, IsSpoiled}
@@ -20,8 +20,7 @@ use Rattle.msg_frames.specs.Prelude.{IsCompleteRun, SameSystems, State, run as r
 use Rattle.msg_frames.specs.declared.frame.Frame.{Frame}
 use Rattle.msg_frames.proofs.Functions.{run_keeps}
 use Rattle.msg_log_json.specs.Prelude.{not_json_line}
-use Rattle.msg_scenario_data.specs.Prelude.{state_of}
-use Rattle.msg_scenario_data.specs.declared.scenario.Scenario.{Scenario}
+use Rattle.msg_reading.specs.declared.scenario.Scenario.{Scenario}
 use Rattle.msg_serve.specs.Prelude.{AsksFor, AsksNext, EndsServing, EndsTrace, IsServed, IsTraced, Request, StopsAfter, lines_of, after_own, after_request, after_requests, answer_of, answers_of, frames_among, own_requests}
 use Rattle.msg_serve.specs.Requests.{frame_in, is_for_readers, names_of, readers, refused, request_of, run}
 use Rattle.msg_serve.specs.declared.server.Server.{Server}
@@ -32,9 +31,8 @@ use Rattle.msg_serve.specs.declared.input.Line.TheVariants as what
 use Rattle.msg_serve.specs.declared.serve_fault.ServeFault.{ServeFault}
 use Rattle.msg_serve.specs.declared.serve_fault.ServeFault.TheVariants as serve_fault
 use Rattle.msg_serve.proofs.{InputLines.lines_more, Requests.only_frames}
-use Rattle.msg_text.specs.Prelude.{AppendsPrefix, Text, one_failure_more}
-use Rattle.msg_text.specs.declared.report_fault.ReportFault.{ReportFault}
-use Rattle.msg_text.specs.declared.report_fault.ReportFault.TheVariants as report_fault
+use Rattle.msg_json.specs.declared.report_fault.ReportFault.{ReportFault}
+use Rattle.msg_json.specs.declared.report_fault.ReportFault.TheVariants as report_fault
 use Rattle.msg_world.specs.{Prelude.i64_values, declared.run_fault.RunFault.RunFault}
 use Rattle.msg_world.specs.declared.run_fault.RunFault.TheVariants as run_fault
 

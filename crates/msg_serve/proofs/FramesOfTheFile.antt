@@ -5,8 +5,8 @@ use Rattle.msg_frames.specs.Prelude.{State, accounts_of, frame as frame_of}
 use Rattle.msg_frames.specs.{declared.account.Account.Account, declared.log.Log.Log}
 use Rattle.msg_frames.specs.declared.frame.Frame.{Frame}
 use Rattle.msg_log_json.specs.Prelude.{frame_line, happened_json, numbered, of_resource, of_type, reader_json, readers_line}
-use Rattle.msg_scenario_data.specs.Prelude.{state_of}
-use Rattle.msg_scenario_data.specs.declared.scenario.Scenario.{Scenario}
+use Rattle.msg_reading.specs.Prelude.{state_of}
+use Rattle.msg_reading.specs.declared.scenario.Scenario.{Scenario}
 use Rattle.msg_serve.specs.Prelude.{Request, ServesAsRunsTell, after_request, answer_of, answers_of, number_of, own_requests, with_frames}
 use Rattle.msg_serve.specs.Requests.{readers, refused, run}
 use Rattle.msg_serve.proofs.AnswersInTurn.{after_frames, answers-append}

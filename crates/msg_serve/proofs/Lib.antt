@@ -1,7 +1,5 @@
 -- which requests change a state
 pub mod Requests
--- where a name stands
-mod Names
 -- the lines of an input
 mod InputLines
 -- requests that are answered one after another

@@ -1,6 +1,6 @@
 -- The lines of an input.
 use Rattle.std.specs.Prelude.{ℕ, ◌==◌, List, [], ◌∷◌, if◌then◌else◌}
-use Rattle.msg_text.specs.Prelude.{Text}
+use Rattle.msg_json.specs.Prelude.{Text}
 
 -- a byte in front of the first line
 abbrev pub in_front : ℕ → List Text → List Text

@@ -3,13 +3,12 @@ use Rattle.std.specs.Prelude.{◌≡◌, ◌⊎◌, ℕ, ◌<◌, ◌≤◌, ℤ
 use Rattle.std.specs.{Option.option_map_or, Str.bytes_eq}
 use Rattle.serde_json.specs.{Data.Data, Find.as_str}
 use Rattle.msg_frames.specs.declared.frame.Frame.{Frame}
-use Rattle.msg_json.specs.Prelude.{IsJsonOf, IsNotJson, Reading, ◌>>=◌}
+use Rattle.msg_json.specs.Prelude.{IsJsonOf, IsNotJson, Reading, ◌>>=◌, Text}
 use Rattle.msg_json.specs.declared.fault.Fault.{Fault}
 use Rattle.msg_log_json.specs.Prelude.{not_json_line, refused_line, too_long_line}
-use Rattle.msg_reading.specs.{Names.Declared, ScenarioFormat.frame_of}
-use Rattle.msg_scenario_data.specs.declared.scenario.Scenario.{Scenario}
+use Rattle.msg_reading.specs.{Declarations.Declared, ScenarioFormat.frame_of}
+use Rattle.msg_reading.specs.declared.scenario.Scenario.{Scenario}
 use Rattle.msg_serve.specs.declared.limits.TheConstants.{MAX_LINE}
-use Rattle.msg_text.specs.Prelude.{Text}
 
 -- what is asked for: a frame, or the accounts of the readers; or the line is refused by this text
 pub data Request : Type 0 where

@@ -5,15 +5,17 @@ use Rattle.std.specs.Io.KnownBytes.{Appends}
 use Rattle.msg_frames.specs.Prelude.{IsCompleteRun, State, accounts_of, frame as frame_of, run as run_of}
 use Rattle.msg_frames.specs.declared.frame.Frame.{Frame}
 use Rattle.msg_log_json.specs.Prelude.{frame_line, readers_line}
-use Rattle.msg_scenario_data.specs.Prelude.{state_of}
-use Rattle.msg_scenario_data.specs.declared.scenario.Scenario.{Scenario}
+use Rattle.msg_reading.specs.Prelude.{state_of}
+use Rattle.msg_reading.specs.declared.scenario.Scenario.{Scenario}
 use Rattle.msg_serve.specs.{Lines.lines_of, Requests.AsksFor, Requests.Request, Requests.readers, Requests.refused, Requests.run}
 use Rattle.msg_serve.specs.declared.serve_fault.ServeFault.{ServeFault}
 use Rattle.msg_serve.specs.declared.serve_fault.ServeFault.TheVariants as serve_fault
-use Rattle.msg_text.specs.Prelude.{Text, one_failure_more}
-use Rattle.msg_text.specs.declared.report_fault.ReportFault.{ReportFault}
-use Rattle.msg_text.specs.declared.report_fault.ReportFault.TheVariants as report_fault
+use Rattle.msg_json.specs.Prelude.{Text, one_failure_more}
+use Rattle.msg_json.specs.declared.report_fault.ReportFault.{ReportFault}
+use Rattle.msg_json.specs.declared.report_fault.ReportFault.TheVariants as report_fault
 use Rattle.msg_world.specs.Prelude.{i64_values}
+use Rattle.msg_scenario.specs.declared.answer_fault.AnswerFault.{AnswerFault}
+use Rattle.msg_scenario.specs.declared.answer_fault.AnswerFault.TheVariants as answer
 
 -- ---- requests and answers
 
@@ -135,3 +137,8 @@ ServesAsRunsTell = (s : Scenario) (more : List (Frame ℤ))
     → answers_of (with_frames s more) (own_requests (with_frames s more)) (state_of s)
     ≡ answers_of s (map run s.frames) (state_of s)
     ++ answers_of s (map run more ++ readers ∷ []) (after_own s)
+
+-- why a file wasn't answered to the end, by what its serving came to
+abbrev pub served_fault : ServeFault → AnswerFault
+served_fault serve_fault.Input = answer.Input
+served_fault (serve_fault.Report fault) = answer.Report fault

@@ -6,7 +6,7 @@ ghost use Rattle.msg_serve.specs.inner.Input.{IsPart, IsRead, IsSeen};
 
 use crate::ServeFault;
 use crate::limits::MAX_LINE;
-use msg_text::ReportFault;
+use msg_json::ReportFault;
 use std::io::BufRead;
 
 /// What the input has next.

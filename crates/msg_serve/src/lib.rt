@@ -2,6 +2,7 @@
 //! line of JSON.
 #![tactic(auto)]
 
+mod from_bytes;
 mod input;
 pub mod laws;
 mod limits;
@@ -11,6 +12,7 @@ mod server;
 mod serving;
 mod tracing;
 
+pub use from_bytes::{serve_bytes, trace_bytes};
 pub use input::{Line, read_line};
 pub use limits::MAX_LINE;
 pub use request::{Request, read_request};

@@ -4,7 +4,7 @@ ghost use Rattle.std.specs.Str.{bytes_eq};
 ghost use Rattle.serde_json.specs.View.{view};
 ghost use Rattle.msg_reading.specs.{ScenarioFormat.each_from, ScenarioFormat.post_at, ScenarioFormat.post_of, ScenarioFormat.two, ScenarioFormat.type_named, inner.Elements.ReadsWith, inner.PartsSeen.pair_seen};
 ghost use Rattle.msg_json.specs.Prelude.{Reads, elements};
-ghost use Rattle.msg_reading.specs.Names.{position_of};
+ghost use Rattle.msg_reading.specs.Declarations.{position_of};
 ghost use Rattle.msg_serve.specs.Requests.{frame_in, is_for_readers, names_of, request_of};
 ghost use Rattle.msg_serve.specs.inner.Answering.{request_seen};
 
@@ -14,7 +14,7 @@ use msg_json::fault::inside;
 use msg_json::json::{list, text};
 use msg_json::numbers::{number, whole_number};
 use msg_json::{Fault, Reason, Step};
-use msg_scenario_data::{Name, Scenario};
+use msg_reading::{Name, Scenario};
 use msg_world::{MAX_TYPES, TypeNo};
 use serde_json::Value;
 use std::alloc::Global;

@@ -1,6 +1,7 @@
 ghost use Rattle.std.specs.Prelude.{◌≡◌};
 
-use msg_text::ReportFault;
+use msg_json::ReportFault;
+use msg_scenario::AnswerFault;
 use msg_world::NoMemory;
 use thiserror::Error;
 
@@ -27,11 +28,24 @@ impl From<ReportFault> for ServeFault {
 
 impl From<NoMemory> for ServeFault {
     ghost use Rattle.msg_serve.specs.declared.serve_fault.ServeFault.TheVariants.{Report as NotPut};
-    ghost use Rattle.msg_text.specs.declared.report_fault.ReportFault.TheVariants.{NoMemory as NoRoom};
+    ghost use Rattle.msg_json.specs.declared.report_fault.ReportFault.TheVariants.{NoMemory as NoRoom};
 
     ghost from_gives = { λ _ fault. fault ≡ NotPut NoRoom };
 
     fn from(_error: NoMemory) -> Self {
         ServeFault::Report(ReportFault::NoMemory)
+    }
+}
+
+impl From<ServeFault> for AnswerFault {
+    ghost use Rattle.msg_serve.specs.Served.{served_fault};
+
+    ghost from_gives = { λ came fault. fault ≡ served_fault came };
+
+    fn from(came: ServeFault) -> Self {
+        match came {
+            ServeFault::Input => AnswerFault::Input,
+            ServeFault::Report(fault) => AnswerFault::Report(fault),
+        }
     }
 }

@@ -4,18 +4,17 @@ ghost use Rattle.msg_world.specs.Prelude.{i64_values};
 ghost use Rattle.msg_exec.specs.Prelude.{EngineStands, PostsFit};
 ghost use Rattle.msg_frames.specs.Prelude.{State};
 ghost use Rattle.msg_log_json.specs.Prelude.{frame_line, not_json_line, refused_line, too_long_line};
-ghost use Rattle.msg_text.specs.Prelude.{Text};
+ghost use Rattle.msg_json.specs.Prelude.{Text};
 ghost use Rattle.msg_serve.specs.{Served.after_request, Served.number_of, Requests.readers, Requests.run, inner.Answering.Answers, inner.Answering.IsPut, inner.Answering.IsWantOfMemory, inner.Answering.Serves};
 
 use crate::limits::MAX_LINE;
 use msg_exec::{EngineOf, Frame, Log, NoGate, Workers};
-use msg_json::{Fault, Reason};
+use msg_json::{Fault, Reason, ReportFault, Sink, put_text};
 use msg_log_json::{
     add_frame_line, add_not_json_line, add_readers_line, add_refused_line, add_too_long_line,
 };
-use msg_scenario_data::Scenario;
+use msg_reading::Scenario;
 use msg_system::SystemOf;
-use msg_text::{ReportFault, Sink, put_text};
 use serde_json::Value;
 use std::thread::Threads;
 

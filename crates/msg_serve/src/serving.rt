@@ -4,11 +4,11 @@ ghost use Rattle.std.specs.List.{AllZip};
 ghost use Rattle.std.specs.Io.BufRead.{DropsThrough};
 ghost use Rattle.serde_json.specs.View.{view};
 ghost use Rattle.msg_world.specs.declared.run_fault.RunFault.{RunFault as RunView};
-ghost use Rattle.msg_text.specs.declared.report_fault.ReportFault.{ReportFault as ReportView};
+ghost use Rattle.msg_json.specs.declared.report_fault.ReportFault.{ReportFault as ReportView};
 ghost use Rattle.msg_exec.specs.Prelude.{EachIs, EngineStands};
 ghost use Rattle.msg_serve.specs.declared.serve_fault.ServeFault.{ServeFault as FaultView};
-ghost use Rattle.msg_reports.specs.Prelude.{IsSystemAt};
-ghost use Rattle.msg_scenario_data.specs.Prelude.{IsRunnable, state_of};
+ghost use Rattle.msg_scenario.specs.Prelude.{IsSystemAt};
+ghost use Rattle.msg_reading.specs.Prelude.{IsRunnable, state_of};
 ghost use Rattle.msg_serve.specs.{Lines.lines_of, Requests.AsksFor, Requests.Request as RequestView, Served.EndsServing, Served.IsServed, Served.after_own};
 ghost use Rattle.msg_serve.specs.{inner.Answering.AnsweredSoFar, inner.Answering.Answers, inner.Answering.IsWantOfMemory, inner.Answering.Serves, inner.Answering.ValueAsksFor, inner.Input.IsRead, inner.Input.first_line};
 
@@ -21,12 +21,11 @@ use crate::server::{
     tell_too_long,
 };
 use msg_exec::Workers;
-use msg_json::FileFault;
 use msg_json::json::parse;
-use msg_reports::engine_of;
-use msg_scenario_data::Scenario;
+use msg_json::{FileFault, ReportFault, Sink};
+use msg_reading::Scenario;
+use msg_scenario::engine_of;
 use msg_system::SystemOf;
-use msg_text::{ReportFault, Sink};
 use msg_world::RunFault;
 use serde_json::Value;
 use std::io::BufRead;

@@ -7,8 +7,7 @@ use std::alloc::Global;
 ///
 /// `BehaviorSystem` makes a system of it. Whoever implements it says by its ghost equations what
 /// each call does, and proves nothing about loans, worlds or frames. `crates/duel/src/role.rt` has
-/// a longer example, with the `ghost use` lines that bring in the names of such equations, and
-/// `crates/tower/src/part.rt` one over values of its own.
+/// a longer example, with the `ghost use` lines that bring in the names of such equations.
 ///
 /// ```
 /// /// Answers each message of a type by one to another.

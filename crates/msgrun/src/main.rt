@@ -14,11 +14,11 @@ ghost use Rattle.msgrun.specs.Prelude.{main_fault, main_fault_of_check, status_a
 
 use msg_command::{Action, InputFault, MainFault, WordFault, parse_words, print_fault, read_all};
 use msg_exec::{MAX_WORKERS, Workers};
+use msg_json::{StdSink, put_all};
 use msg_scenario::{
     AnswerFault, CheckFault, Form, answer_bytes, check_bytes, plan_bytes, report_bytes,
-    serve_bytes, trace_bytes,
 };
-use msg_text::{StdSink, put_all};
+use msg_serve::{serve_bytes, trace_bytes};
 use std::env::Env;
 use std::fs::Files;
 use std::io::{BufReader, ErrorKind, Input, Print};

@@ -1,6 +1,6 @@
 // Creeps.
 ghost use Rattle.std.specs.Prelude.{◌≡◌};
-ghost use Rattle.tower.specs.Parts.{health_after, hurt};
+ghost use Rattle.tower.specs.Parts.{health_after};
 
 use crate::event::Event;
 use msg_function::{Function, Inbox, NoMemory, Outbox};
@@ -22,26 +22,19 @@ pub struct Creep {
     pub left: u32,
 }
 
-/// The health that an event leaves to a creep.
-fn hurt(creep: u32, health: u32, event: Event) -> u32
-    ensures left { result ≡ hurt creep health event }
-{
-    match event {
-        Event::Shot {
-            creep: shot,
-            amount,
-        } if shot == creep => health.saturating_sub(amount),
-        _ => health,
-    }
-}
-
 /// The health that these messages leave to a creep.
 fn health_after(creep: u32, health: u32, shots: &[Record<Event>]) -> u32
     ensures left { result ≡ health_after creep health shots.now }
 {
     let mut left = health;
     for shot in shots {
-        left = hurt(creep, left, shot.value);
+        match shot.value {
+            Event::Shot {
+                creep: target,
+                amount,
+            } if target == creep => left = left.saturating_sub(amount),
+            _ => {}
+        }
     }
     left
 }

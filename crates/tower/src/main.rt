@@ -37,7 +37,8 @@ type Part = Either<
     Either<FunctionSystem<Tower, 1, 1>, FunctionSystem<Gate, 2, 1>>,
 >;
 
-/// How many lanes lead to the keep. In each walk two creeps, and stand a tower and a gate.
+/// How many lanes lead to the keep. In each walk two creeps, an early and a late one, and stand a
+/// tower and a gate.
 const LANES: u32 = 3;
 
 /// How many steps a creep has to the keep.
@@ -58,18 +59,8 @@ const FRAMES: u32 = 10;
 /// What is printed of the parts of the lanes, and of what they tell.
 const NAMES: Names<'static> = Names {
     systems: &[
-        "creep 0.0",
-        "creep 0.1",
-        "tower 0",
-        "gate 0",
-        "creep 1.0",
-        "creep 1.1",
-        "tower 1",
-        "gate 1",
-        "creep 2.0",
-        "creep 2.1",
-        "tower 2",
-        "gate 2",
+        "early 0", "late 0", "tower 0", "gate 0", "early 1", "late 1", "tower 1", "gate 1",
+        "early 2", "late 2", "tower 2", "gate 2",
     ],
     types: &[
         "walks 0", "shots 0", "breaks 0", "walks 1", "shots 1", "breaks 1", "walks 2", "shots 2",
@@ -239,22 +230,14 @@ fn tell<R: Print>(rt: &R, engine: &EngineOf<Part, Event>) -> anyhow::Result<()> 
     Ok(())
 }
 
-/// Plays these frames on four workers, the first half as a list and the others one by one, and
+/// Plays on four workers, the first half of the frames as a list and the others one by one, and
 /// prints what came of them.
-fn play<R: Threads + AllocGlobal + Print + Sync>(
-    rt: &R,
-    frames: &[Frame<Event>],
-) -> anyhow::Result<()> {
-    let (alloc, workers) = (rt.alloc(), Workers::new(4).unwrap());
-    let parts = lanes(alloc)?;
+fn main(rt: HostRuntime) -> anyhow::Result<()> {
+    let (rt, alloc, workers) = (&rt, rt.alloc(), Workers::new(4).unwrap());
+    let frames = quiet_frames(alloc)?;
     let world = World::new(alloc, &[100; 9], &[Event::Lives(LIVES)])?;
     let (first, others) = frames.split_at(frames.len() / 2);
-    let (mut engine, mut logs) = defend(rt, alloc, parts, world, first, workers)?;
+    let (mut engine, mut logs) = defend(rt, alloc, lanes(alloc)?, world, first, workers)?;
     go_on(rt, &mut engine, others, workers, &mut logs)?;
     tell(rt, &engine)
-}
-
-fn main(rt: HostRuntime) -> anyhow::Result<()> {
-    let frames = quiet_frames(rt.alloc())?;
-    play(&rt, &frames)
 }

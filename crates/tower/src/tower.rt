@@ -1,6 +1,6 @@
 // Towers.
 ghost use Rattle.std.specs.Prelude.{◌≡◌};
-ghost use Rattle.tower.specs.Parts.{aimed, target_of};
+ghost use Rattle.tower.specs.Parts.{target_of};
 
 use crate::event::Event;
 use msg_function::{Function, Inbox, NoMemory, Outbox};
@@ -18,23 +18,16 @@ pub struct Tower {
     pub amount: u32,
 }
 
-/// Whom a tower of this reach aims at after an event.
-fn aimed(reach: u32, target: Option<u32>, event: Event) -> Option<u32>
-    ensures target { result ≡ aimed reach target event }
-{
-    match event {
-        Event::Walked { creep, left } if left <= reach => Some(creep),
-        _ => target,
-    }
-}
-
-/// Whom it aims at after these messages.
+/// Whom a tower of this reach aims at after these messages.
 fn target_of(reach: u32, walks: &[Record<Event>]) -> Option<u32>
     ensures target { result ≡ target_of reach walks.now }
 {
     let mut target = None;
     for walk in walks {
-        target = aimed(reach, target, walk.value);
+        match walk.value {
+            Event::Walked { creep, left } if left <= reach => target = Some(creep),
+            _ => {}
+        }
     }
     target
 }

@@ -1,12 +1,11 @@
 ghost use Rattle.std.specs.Prelude.{◌≡◌, ◌++◌, OnErr, OnOk};
 ghost use Rattle.std.specs.Io.KnownBytes.{Appends};
-ghost use Rattle.msg_text.specs.Prelude.{AppendsPrefix, TakesUnlessFailed, one_failure_more};
+ghost use Rattle.msg_json.specs.Prelude.{AppendsPrefix, TakesUnlessFailed, one_failure_more};
 ghost use Rattle.msg_command.specs.Prelude.{line_of, lines_of, refusal_line, status_of};
 
 use crate::fault::MainFault;
 use crate::{InputFault, WordFault};
-use msg_json::Refusal;
-use msg_text::{PutFault, ReportFault, Sink, put_all};
+use msg_json::{PutFault, Refusal, ReportFault, Sink, put_all};
 use msg_world::RunFault;
 
 /// Puts the fault's line into the sink, and the lines that tell of a checked file below it, and

@@ -1,18 +1,60 @@
 // What help tells at the end: what a file holds, with a small example; and in full, all that a file
 // may hold, and how the program ends.
 
-pub(crate) const PROGRAM: &str = "\
+/// What short help and help in full both begin with.
+macro_rules! front {
+    (program $more:literal) => {
+        concat!(
+            "\
 Without a command a calls file is read from standard input:
   echo '{\"limit\":10,\"calls\":[[\"write\",7],[\"read\",0]]}' | msgrun
 
-What the files hold: `msgrun help buffer`, `msgrun help run`; in full docs/FORMATS.md.";
+What the files hold: `msgrun help buffer`, `msgrun help run`; in full docs/FORMATS.md.",
+            $more
+        )
+    };
+    (buffer $more:literal) => {
+        concat!(
+            "\
+FILE is JSON: the limit of one message buffer, and calls of it and of its cursors.
+  {\"limit\":10,\"calls\":[[\"batch\",[7,8,9]],[\"read\",0,2],[\"update\"],[\"read\",0]]}
+Each call is answered by a line, an item as NUMBER=VALUE:
+  batch 0+3
+  read 0 missed 0: 0=7 1=8
+  update
+  read 0 missed 0: 2=9",
+            $more
+        )
+    };
+    (run $more:literal) => {
+        concat!(
+            "\
+FILE is JSON: message types with limits, systems with their ops, rules of order, and
+frames, each a list of what the host posts.
+  {\"types\":[[\"hit\",10]],
+   \"systems\":[{\"name\":\"r\",\"ops\":[[\"read\",\"hit\"]]},
+              {\"name\":\"w\",\"ops\":[[\"write\",\"hit\",5]]}],
+   \"rules\":[[\"r\",\"w\"]],
+   \"frames\":[[],[[\"hit\",6]]]}
+Each frame is told, and at the end what each reader got, missed and cleared:
+  frame 1
+  r read hit missed 0: none
+  w write hit 0+1
+  frame 2
+  host post hit 1+1
+  r read hit missed 0: 0=5@w 1=6@host
+  w write hit 2+1
+  reader r hit start 0 got 2 missed 0 cleared 0 place 2",
+            $more
+        )
+    };
+}
 
-pub(crate) const PROGRAM_IN_FULL: &str = "\
-Without a command a calls file is read from standard input:
-  echo '{\"limit\":10,\"calls\":[[\"write\",7],[\"read\",0]]}' | msgrun
+pub(crate) const PROGRAM: &str = front!(program "");
 
-What the files hold: `msgrun help buffer`, `msgrun help run`; in full docs/FORMATS.md.
-
+pub(crate) const PROGRAM_IN_FULL: &str = front!(
+    program
+    "\n\n\
 The exit status, and the line on standard error:
   0  all was done, or help was asked for
   1  cannot read input; write fault; want of memory; run fault 3 NoMemory
@@ -29,29 +71,19 @@ A file is refused as
    8 UnknownName  there is no type, resource or system of this name
    9 Clash        a system reads and writes one type
   10 Cycle        the rules go round in a circle
-`msgrun check FILE` says where and why.";
+`msgrun check FILE` says where and why."
+);
 
-pub(crate) const BUFFER: &str = "\
-FILE is JSON: the limit of one message buffer, and calls of it and of its cursors.
-  {\"limit\":10,\"calls\":[[\"batch\",[7,8,9]],[\"read\",0,2],[\"update\"],[\"read\",0]]}
-Each call is answered by a line, an item as NUMBER=VALUE:
-  batch 0+3
-  read 0 missed 0: 0=7 1=8
-  update
-  read 0 missed 0: 2=9
-
+pub(crate) const BUFFER: &str = front!(
+    buffer
+    "\n\n\
 The calls: write, batch, read, len, missed, clear, update, cursor, cursor_current, get,
-current, oldest, count, total, drain, clear_all. docs/FORMATS.md describes each.";
+current, oldest, count, total, drain, clear_all. docs/FORMATS.md describes each."
+);
 
-pub(crate) const BUFFER_IN_FULL: &str = "\
-FILE is JSON: the limit of one message buffer, and calls of it and of its cursors.
-  {\"limit\":10,\"calls\":[[\"batch\",[7,8,9]],[\"read\",0,2],[\"update\"],[\"read\",0]]}
-Each call is answered by a line, an item as NUMBER=VALUE:
-  batch 0+3
-  read 0 missed 0: 0=7 1=8
-  update
-  read 0 missed 0: 2=9
-
+pub(crate) const BUFFER_IN_FULL: &str = front!(
+    buffer
+    "\n\n\
 Keys: limit, how many messages can ever be written (0 to 1000000); calls, a list of at most
 10000. Cursor 0 is there from the beginning, at place 0; there are at most 64.
 
@@ -74,49 +106,21 @@ The calls, with c a cursor, v a whole number of 64 bits, and k a number up to 10
   [\"drain\"]           takes all messages out, the older ones first
   [\"clear_all\"]       drops all messages
 A write that finds no number left is answered by spent. docs/FORMATS.md has each line, and
-`msgrun --help` the refusals and the exit statuses.";
+`msgrun --help` the refusals and the exit statuses."
+);
 
-pub(crate) const RUN: &str = "\
-FILE is JSON: message types with limits, systems with their ops, rules of order, and
-frames, each a list of what the host posts.
-  {\"types\":[[\"hit\",10]],
-   \"systems\":[{\"name\":\"r\",\"ops\":[[\"read\",\"hit\"]]},
-              {\"name\":\"w\",\"ops\":[[\"write\",\"hit\",5]]}],
-   \"rules\":[[\"r\",\"w\"]],
-   \"frames\":[[],[[\"hit\",6]]]}
-Each frame is told, and at the end what each reader got, missed and cleared:
-  frame 1
-  r read hit missed 0: none
-  w write hit 0+1
-  frame 2
-  host post hit 1+1
-  r read hit missed 0: 0=5@w 1=6@host
-  w write hit 2+1
-  reader r hit start 0 got 2 missed 0 cleared 0 place 2
-
+pub(crate) const RUN: &str = front!(
+    run
+    "\n\n\
 A file may also have resources and held updates, and a system other ops, a kind, conditions
 (if), a frame to join with and a start. `msgrun help run` describes all of it.
 
-With --json each frame is one line of JSON, and so are the readers: `msgrun help serve`.";
+With --json each frame is one line of JSON, and so are the readers: `msgrun help serve`."
+);
 
-pub(crate) const RUN_IN_FULL: &str = "\
-FILE is JSON: message types with limits, systems with their ops, rules of order, and
-frames, each a list of what the host posts.
-  {\"types\":[[\"hit\",10]],
-   \"systems\":[{\"name\":\"r\",\"ops\":[[\"read\",\"hit\"]]},
-              {\"name\":\"w\",\"ops\":[[\"write\",\"hit\",5]]}],
-   \"rules\":[[\"r\",\"w\"]],
-   \"frames\":[[],[[\"hit\",6]]]}
-Each frame is told, and at the end what each reader got, missed and cleared:
-  frame 1
-  r read hit missed 0: none
-  w write hit 0+1
-  frame 2
-  host post hit 1+1
-  r read hit missed 0: 0=5@w 1=6@host
-  w write hit 2+1
-  reader r hit start 0 got 2 missed 0 cleared 0 place 2
-
+pub(crate) const RUN_IN_FULL: &str = front!(
+    run
+    "\n\n\
 Keys of the file; types, systems and frames are needed:
   types      at most 64 of [name,limit]; the limit, 0 to 1000000, is how many messages of it
              can ever be written
@@ -159,7 +163,8 @@ The conditions:
 
 With --json each frame is one line of JSON, and so are the readers: `msgrun help serve`.
 docs/FORMATS.md has each line of the report, and `msgrun --help` the refusals and the exit
-statuses.";
+statuses."
+);
 
 pub(crate) const CHECK: &str = "\
 FILE is read as `msgrun run` reads it; or, if its keys are those of a calls file, as `msgrun

@@ -3,8 +3,8 @@ use Rattle.std.specs.Prelude.{ℕ, ◌-◌, max, ℤ, List, [], ◌++◌, Option
 use Rattle.msg_buffer.specs.Prelude.{Kept, kept_count}
 use Rattle.msg_frames.specs.declared.account.Account.{Account}
 use Rattle.msg_world.specs.{Prelude.Parts, Prelude.slot, declared.part.Part.TheVariants.OfResource, declared.part.Part.TheVariants.OfType, declared.record.Record.Record}
-use Rattle.msg_scenario_data.specs.declared.scenario.Scenario.{Scenario}
-use Rattle.msg_text.specs.Prelude.{Text}
+use Rattle.msg_reading.specs.declared.scenario.Scenario.{Scenario}
+use Rattle.msg_json.specs.Prelude.{Text}
 use Rattle.msg_log_json.specs.LogJson.{kept_json, listed, numbered, past_json, reader_json, resource_json, standing_json}
 
 -- a type by its name, by what is kept of it

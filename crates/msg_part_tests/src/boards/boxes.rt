@@ -36,44 +36,24 @@ impl Tool for Constant {
     }
 }
 
-impl Tool for Box<dyn Tool> {
-    ghost gain = { λ b. (Tool-box b).gain b.value };
-
-    fn apply(&self, x: u64) -> u64 {
-        (**self).apply(x)
-    }
+/// The tools' work: each is applied to the number that it comes with.
+struct Tools<'a> {
+    marker: PhantomData<&'a u64>,
 }
 
-#[derive(Drop)]
-struct ToolJob<'a, T> {
-    tool: T,
-    base: &'a u64,
+impl<'a> Work for Tools<'a> {
+    type Job = (Box<dyn Tool>, &'a u64);
+
+    type Done = (Box<dyn Tool>, u64);
+
+    ghost lawful = { λ j d. d.1 ≡ (Tool-box j.0).gain j.0.value j.1.now };
 }
 
-#[derive(Drop)]
-struct ToolDone<T> {
-    tool: T,
-    value: u64,
-}
-
-/// The tools' work: each is applied to the number.
-struct Tools<'a, T> {
-    marker: PhantomData<(&'a u64, T)>,
-}
-
-impl<'a, T: Tool> Work for Tools<'a, T> {
-    type Job = ToolJob<'a, T>;
-
-    type Done = ToolDone<T>;
-
-    ghost lawful = { λ j d. d.value ≡ T.gain j.tool j.base.now };
-}
-
-impl<'a, T: Tool> Runs for Tools<'a, T> {
-    fn run(job: ToolJob<'a, T>) -> ToolDone<T> {
-        let ToolJob { tool, base } = job;
+impl<'a> Runs for Tools<'a> {
+    fn run(job: (Box<dyn Tool>, &'a u64)) -> (Box<dyn Tool>, u64) {
+        let (tool, base) = job;
         let value = tool.apply(*base);
-        ToolDone { tool, value }
+        (tool, value)
     }
 }
 
@@ -84,15 +64,12 @@ fn boxed<T: Drop>(rt: &(impl Abort + AllocGlobal), tool: T) -> Box<T> {
 /// Adds a job that applies this tool to the number.
 fn add<'a>(
     rt: &impl Abort,
-    jobs: &mut Vec<ToolJob<'a, Box<dyn Tool>>>,
+    jobs: &mut Vec<(Box<dyn Tool>, &'a u64)>,
     base: &'a u64,
     tool: Box<dyn Tool>,
 ) {
-    jobs.push(ToolJob { tool, base }).have(rt);
+    jobs.push((tool, base)).have(rt);
 }
-
-/// What the tools give of 20.
-const VALUES: [u64; 3] = [10, 7, 10];
 
 #[test]
 fn boxes_of_two_kinds(rt: HostRuntime) {
@@ -103,10 +80,8 @@ fn boxes_of_two_kinds(rt: HostRuntime) {
     add(rt, &mut jobs, &base, boxed(rt, Constant(7)));
     add(rt, &mut jobs, &base, boxed(rt, Half));
     assert!(rt; jobs.len() == 3);
-    let done = run_jobs::<HostRuntime, Tools<Box<dyn Tool>>>(rt, rt.alloc(), jobs, 2).have(rt);
-    expect_eq(rt, done.len(), 3);
-    for (done, value) in done.iter().zip(&VALUES) {
-        expect_eq(rt, done.value, *value);
-    }
+    let done = run_jobs::<HostRuntime, Tools>(rt, rt.alloc(), jobs, 2).have(rt);
+    assert!(rt; done.len() == 3);
+    expect_eq(rt, (done[0].1, done[1].1, done[2].1), (10, 7, 10));
     drop(done);
 }

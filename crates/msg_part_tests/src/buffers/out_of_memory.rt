@@ -86,7 +86,8 @@ impl Tried {
         let (before, capacity) = (self.look_at(), batch.capacity());
         let (back, is_spent) = match self.buffer.write_batch(batch) {
             Ok(written) => return Some(written),
-            Err(refusal) => handed_back(refusal),
+            Err(BatchRefusal::NumbersSpent(back)) => (back, true),
+            Err(BatchRefusal::NoMemory(back)) => (back, false),
         };
         expect_eq(rt, (back.as_slice(), back.capacity()), (values, capacity));
         self.expect_seen(rt, &before);
@@ -114,7 +115,7 @@ impl Tried {
         let drained = self.drain(rt);
         expect_eq(rt, drained.len(), want.len());
         for (instance, item) in drained.iter().zip(want) {
-            expect_message(rt, instance.id, instance.message, item);
+            expect_eq(rt, (instance.id.0, instance.message), *item);
         }
         drop(drained);
     }
@@ -138,14 +139,6 @@ impl Tried {
     }
 }
 
-/// The batch, and whether it was refused since too few numbers are left.
-fn handed_back(refusal: BatchRefusal<i64>) -> (Vec<i64>, bool) {
-    match refusal {
-        BatchRefusal::NumbersSpent(back) => (back, true),
-        BatchRefusal::NoMemory(back) => (back, false),
-    }
-}
-
 /// The next messages for this cursor have these numbers and values.
 fn expect_next(
     rt: &impl Abort,
@@ -156,13 +149,8 @@ fn expect_next(
     let mut unread = cursor.read(buffer);
     for item in want {
         let (id, value) = unread.next().have(rt);
-        expect_message(rt, id, *value, item);
+        expect_eq(rt, (id.0, *value), *item);
     }
-}
-
-/// A message has this number and this value.
-fn expect_message(rt: &impl Abort, id: MessageId, value: i64, want: &(u64, i64)) {
-    expect_eq(rt, (id.0, value), *want);
 }
 
 #[test]

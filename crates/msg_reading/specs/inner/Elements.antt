@@ -2,7 +2,7 @@
 use Rattle.std.specs.Prelude.{◌≡◌, ◌⊎◌, Ok, Err}
 use Rattle.msg_json.specs.Prelude.{Reading}
 use Rattle.msg_json.specs.declared.reason.Reason.TheVariants.{NoMemory}
-use Rattle.msg_reading.specs.Names.{Declared}
+use Rattle.msg_reading.specs.Declarations.{Declared}
 
 -- the answer of what declares names and may want memory, and the names after it
 abbrev pub ReadsWith : {A : Type 0} → Reading (A × Declared) → Declared → Reading A → Type 0

@@ -2,8 +2,7 @@
 use Rattle.std.specs.Prelude.{List, map, Result, Ok, Err}
 use Rattle.std.specs.Borrow.{Bor}
 use Rattle.serde_json.specs.{Data.Data, Data.Num, View.view, View.number_view, declared.value.Value.Value, declared.number.Number.Number}
-use Rattle.msg_json.specs.Prelude.{Reading}
-use Rattle.msg_text.specs.Prelude.{Text}
+use Rattle.msg_json.specs.Prelude.{Reading, Text}
 use Rattle.msg_json.specs.declared.fault.Fault.{Fault}
 
 -- two values

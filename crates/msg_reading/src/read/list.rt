@@ -1,7 +1,7 @@
 // Lists of a scenario file.
 ghost use Rattle.std.specs.Prelude.{◌≡◌, map, option_map, unwrap_or};
 ghost use Rattle.serde_json.specs.View.{view};
-ghost use Rattle.msg_reading.specs.{Names.Declared, ScenarioFormat.each_from, ScenarioFormat.each_of, ScenarioFormat.nothing, inner.Elements.ReadsWith};
+ghost use Rattle.msg_reading.specs.{Declarations.Declared, ScenarioFormat.each_from, ScenarioFormat.each_of, ScenarioFormat.nothing, inner.Elements.ReadsWith};
 
 use crate::Fault;
 use crate::read::names::Declarations;

@@ -1,6 +1,6 @@
 // The names that a file declares.
 ghost use Rattle.std.specs.Prelude.{◌≡◌, ◌≤◌, ◌∷◌, ◌++◌, [], OnOk, option_and_then};
-ghost use Rattle.msg_reading.specs.Names.{position_of};
+ghost use Rattle.msg_reading.specs.Declarations.{position_of};
 ghost use Rattle.msg_reading.specs.ScenarioFormat as Spec;
 ghost use Rattle.msg_json.specs.Prelude.{Reads, only_below};
 
@@ -30,7 +30,7 @@ pub struct NameSpace {
 
 impl Model for NameSpace {
     ghost use Rattle.std.specs.Prelude.{List, map, string_bytes};
-    ghost use Rattle.msg_text.specs.Prelude.{Text};
+    ghost use Rattle.msg_json.specs.Prelude.{Text};
 
     ghost Value = { List Text };
 
@@ -89,7 +89,7 @@ pub struct Declarations {
 }
 
 impl Model for Declarations {
-    ghost use Rattle.msg_reading.specs.Names.{Declared};
+    ghost use Rattle.msg_reading.specs.Declarations.{Declared};
 
     ghost Value = { Declared };
 

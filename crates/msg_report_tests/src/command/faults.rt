@@ -1,8 +1,8 @@
 // The texts of faults.
 use crate::equal::{Have, expect_text};
 use msg_command::{InputFault, MainFault, WordFault};
-use msg_json::Refusal;
-use msg_text::{PutFault, ReportFault};
+use msg_json::{PutFault, Refusal, ReportFault};
+use msg_scenario::AnswerFault;
 use msg_world::RunFault;
 use std::process::Abort;
 
@@ -80,4 +80,16 @@ fn expect_words(rt: &(impl Abort + AllocGlobal), fault: WordFault, text: &str) {
     let fault = MainFault::Words(fault);
     expect_text(rt, &fault, text);
     drop(fault);
+}
+
+#[test]
+fn answer_faults_say_why(rt: HostRuntime) {
+    const WHY: &[(AnswerFault, &str)] = &[
+        (AnswerFault::Refused(Refusal::NotJson), "refused 1 NotJson"),
+        (AnswerFault::NoMemory, "want of memory"),
+        (AnswerFault::Report(ReportFault::Write), "write fault"),
+    ];
+    for (fault, why) in WHY {
+        expect_text(&rt, fault, why);
+    }
 }

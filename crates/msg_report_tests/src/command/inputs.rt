@@ -46,10 +46,6 @@ fn whole_inputs(rt: HostRuntime) {
     expect_whole(rt, 0, 1);
     expect_whole(rt, 5, 2);
     expect_whole(rt, MAX_BYTES, 4096);
-    let text = b"{\"limit\":1}".as_slice();
-    let all = read_all(rt.alloc(), &mut b"{\"limit\":1}".as_slice()).have(rt);
-    expect_eq(rt, all.as_slice(), text);
-    drop(all);
 }
 
 fn expect_whole(rt: &(impl Abort + AllocGlobal), left: usize, at_once: usize) {

@@ -4,7 +4,7 @@ use Rattle.serde_json.specs.Data.{Data}
 use Rattle.msg_json.specs.Prelude.{reason_refusal}
 use Rattle.msg_json.specs.declared.fault.Fault.{Fault}
 use Rattle.msg_json.specs.declared.reason.Reason.TheVariants as reason
-use Rattle.msg_text.specs.declared.report_fault.ReportFault.TheVariants as report_fault
+use Rattle.msg_json.specs.declared.report_fault.ReportFault.TheVariants as report_fault
 use Rattle.msg_scenario.specs.declared.check_fault.CheckFault.{CheckFault}
 use Rattle.msg_scenario.specs.declared.check_fault.CheckFault.TheVariants as check_fault
 use Rattle.msg_scenario.specs.Checked.{FailsFor, IsFaultOfEither}

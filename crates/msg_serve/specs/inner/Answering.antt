@@ -6,20 +6,19 @@ use Rattle.serde_json.specs.Data.{Data}
 use Rattle.msg_exec.specs.Prelude.{EngineStands}
 use Rattle.msg_exec.specs.declared.engine.EngineOf.{EngineOf}
 use Rattle.msg_frames.specs.Prelude.{SameSystems, State}
-use Rattle.msg_json.specs.Prelude.{Reading}
+use Rattle.msg_json.specs.Prelude.{Reading, AppendsPrefix, Text, one_failure_more}
 use Rattle.msg_json.specs.declared.fault.Fault.{Fault}
 use Rattle.msg_log_json.specs.Prelude.{refused_line}
-use Rattle.msg_scenario_data.specs.Prelude.{IsRunnable, state_of}
-use Rattle.msg_scenario_data.specs.declared.scenario.Scenario.{Scenario}
+use Rattle.msg_reading.specs.Prelude.{IsRunnable, state_of}
+use Rattle.msg_reading.specs.declared.scenario.Scenario.{Scenario}
 use Rattle.msg_serve.specs.declared.server.Server.{Server}
 use Rattle.msg_serve.specs.declared.request.Request.{Request as Asked}
 use Rattle.msg_serve.specs.declared.request.Request.TheVariants as asked
 use Rattle.msg_serve.specs.{Lines.lines_of, Requests.AsksFor, Requests.Request, Requests.readers, Requests.refused, Requests.request_of, Requests.run}
 use Rattle.msg_serve.specs.Served.{after_request, after_requests, answer_of, answers_of}
 use Rattle.msg_system.specs.Prelude.{Meaning}
-use Rattle.msg_text.specs.Prelude.{AppendsPrefix, Text, one_failure_more}
-use Rattle.msg_text.specs.declared.report_fault.ReportFault.{ReportFault}
-use Rattle.msg_text.specs.declared.report_fault.ReportFault.TheVariants as report_fault
+use Rattle.msg_json.specs.declared.report_fault.ReportFault.{ReportFault}
+use Rattle.msg_json.specs.declared.report_fault.ReportFault.TheVariants as report_fault
 use Rattle.msg_world.specs.Prelude.{i64_values}
 use Rattle.msg_world.specs.declared.run_fault.RunFault.TheVariants as run_fault
 

@@ -6,7 +6,7 @@ use Rattle.msg_serve.specs.declared.input.Line.TheVariants as line
 use Rattle.msg_serve.specs.declared.input.Part.{Part}
 use Rattle.msg_serve.specs.declared.input.Part.TheVariants as part
 use Rattle.msg_serve.specs.declared.limits.TheConstants.{MAX_LINE}
-use Rattle.msg_text.specs.Prelude.{Text}
+use Rattle.msg_json.specs.Prelude.{Text}
 
 -- the bytes before the first line feed, which is byte 10, or all of them
 abbrev pub first_line : List ℕ → Text

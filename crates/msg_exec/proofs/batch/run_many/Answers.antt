@@ -26,25 +26,11 @@ loop-result-init g c s stands =
     c.in_ok-jobs.ensures.out (all_back g.S.SystemOf.meaning (is_batch g.S.SystemOf.meaning r.stands r.once r.apart stands)
     c.in_ok-jobs.ensures.out c.in_ok-results.ensures.run))
 
-pub take_back-requires-clause-systems : goal.take_back-requires-clause-systems
-take_back-requires-clause-systems g c =
+pub take_back-requires : goal.take_back-requires
+take_back-requires g c =
     let next = rw c.in_ok-done.was at c.in-Some.ensures.steps.0 in
-    (next_may_come g.S.SystemOf.meaning next (c.loop-result.invariant _ c.requires.stands.1.0)).systems
-
-pub take_back-requires-clause-totals : goal.take_back-requires-clause-totals
-take_back-requires-clause-totals g c =
-    let next = rw c.in_ok-done.was at c.in-Some.ensures.steps.0 in
-    (next_may_come g.S.SystemOf.meaning next (c.loop-result.invariant _ c.requires.stands.1.0)).totals
-
-pub take_back-requires-clause-apart : goal.take_back-requires-clause-apart
-take_back-requires-clause-apart g c =
-    let next = rw c.in_ok-done.was at c.in-Some.ensures.steps.0 in
-    (next_may_come g.S.SystemOf.meaning next (c.loop-result.invariant _ c.requires.stands.1.0)).apart
-
-pub take_back-requires-clause-few : goal.take_back-requires-clause-few
-take_back-requires-clause-few g c =
-    let next = rw c.in_ok-done.was at c.in-Some.ensures.steps.0 in
-    (next_may_come g.S.SystemOf.meaning next (c.loop-result.invariant _ c.requires.stands.1.0)).few
+    let may = next_may_come g.S.SystemOf.meaning next (c.loop-result.invariant _ c.requires.stands.1.0) in
+    record { systems = may.systems; totals = may.totals; apart = may.apart; few = may.few }
 
 pub loop-result-preserved : goal.loop-result-preserved
 loop-result-preserved g c s stands =

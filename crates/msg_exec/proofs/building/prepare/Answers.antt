@@ -1,9 +1,9 @@
 use Rattle.std.proofs.Common.{◌∙◌, ap, length}
-use Rattle.msg_exec.proofs.FirstEngineStands.{none_more}
+use Rattle.msg_order.proofs.SettledOrders.{none_more}
 use Rattle.msg_exec.proofs.building.prepare.Goals as goal
 
-pub plan_by-requires-clause-no_cycle : goal.plan_by-requires-clause-no_cycle
-plan_by-requires-clause-no_cycle g c joined size =
+pub of_frame-requires-clause-no_cycle : goal.of_frame-requires-clause-no_cycle
+of_frame-requires-clause-no_cycle g c joined size =
     none_more _ c.args.rules.now c.requires.in_range c.requires.no_cycle joined
     (size ∙ ap length c.deref.ensures.value ∙ c.in_ok-accesses.ensures.as_many)
 

@@ -6,8 +6,8 @@ use Rattle.msg_exec.proofs.{CoreRunsFrame.joined_by_frame, CoreRunsFrame.fixed_a
 use Rattle.msg_exec.specs.Prelude.{FixedParts}
 use Rattle.msg_exec.proofs.engine_core.next_plan.Goals as goal
 
-pub plan_by-requires-clause-no_cycle : goal.plan_by-requires-clause-no_cycle
-plan_by-requires-clause-no_cycle g c joined as_many =
+pub of_frame-requires-clause-no_cycle : goal.of_frame-requires-clause-no_cycle
+of_frame-requires-clause-no_cycle g c joined as_many =
     let core = c.requires.stands.1.0 in
     rw (c.deref-3.ensures.value, core.fixed.rules)
     (core.sound.no_cycle joined (as_many ∙ ap length c.deref-2.ensures.value ∙ core.lender.accesses))

@@ -1,7 +1,5 @@
-use Rattle.msg_laws.proofs.ProgramsReadAll as programs
+use Rattle.msg_laws.proofs.ProgramsReadAll.{programs_read_all, programs_when_woken}
 use Rattle.msg_laws.proofs.reader_laws.programs_read_all.Goals as goal
 
 pub returns : goal.returns
-returns g c =
-    let in_order = c.a_program_is_its_ops_in_order.ensures.law in
-    record { law = programs.programs_read_all in_order; woken = programs.programs_when_woken in_order }
+returns g c = record { law = programs_read_all; woken = programs_when_woken }

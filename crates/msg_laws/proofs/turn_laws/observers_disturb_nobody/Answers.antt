@@ -2,4 +2,4 @@ use Rattle.msg_laws.proofs.Observers.{observers_disturb_nobody, observers_may_be
 use Rattle.msg_laws.proofs.turn_laws.observers_disturb_nobody.Goals as goal
 
 pub returns : goal.returns
-returns g c = record { added = observers_may_be_added; law = observers_disturb_nobody c.nothing_else_is_used.ensures.jobs }
+returns g c = record { added = observers_may_be_added; law = observers_disturb_nobody }

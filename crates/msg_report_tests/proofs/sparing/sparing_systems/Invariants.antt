@@ -1,6 +1,6 @@
 use Rattle.std.proofs.Common.{◌≡◌, length}
 use Rattle.msg_exec.specs.Prelude.{EachIs}
-use Rattle.msg_reports.specs.Prelude.{IsSystemAt}
+use Rattle.msg_scenario.specs.Prelude.{IsSystemAt}
 use Rattle.msg_part_tests.specs.contracts.prefaced.PrefacedSystemOf.TheImpl.{meaning-value}
 use Rattle.msg_report_tests.proofs.sparing.sparing_systems.Given as goal
 

@@ -1,6 +1,6 @@
 use Rattle.std.proofs.Common.{sym, ◌∙◌}
 use Rattle.std.specs.Str.{bytes_eq}
-use Rattle.msg_serve.proofs.Names.{position-map}
+use Rattle.msg_reading.proofs.NamesInOrder.{position-map}
 use Rattle.msg_serve.proofs.request.place_of.Goals as goal
 
 pub returns : goal.returns

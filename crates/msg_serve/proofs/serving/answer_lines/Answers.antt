@@ -2,7 +2,7 @@ use Rattle.std.proofs.Common.{[], Err, Ok, ap, arith, refl, true, ◌∙◌, ◌
 use Rattle.std.proofs.lemmas.Result.{err_from_is_err_and}
 use Rattle.msg_serve.specs.Prelude.{after_own}
 use Rattle.msg_serve.specs.declared.serve_fault.ServeFault.TheVariants as serve_fault
-use Rattle.msg_text.specs.declared.report_fault.ReportFault.TheVariants as report_fault
+use Rattle.msg_json.specs.declared.report_fault.ReportFault.TheVariants as report_fault
 use Rattle.msg_serve.proofs.AnswersInTurn.{answered_more, answered_none, asked_more, asked_none, ends_before, ends_within, no_failed_put, own_keep, stopped, stopped_put}
 use Rattle.msg_serve.proofs.serving.answer_lines.Goals as goal
 

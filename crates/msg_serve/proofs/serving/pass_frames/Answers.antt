@@ -1,6 +1,6 @@
 use Rattle.std.proofs.Common.{ap, arith, length, map, take, ◌∙◌, ◌≡◌}
 use Rattle.msg_exec.proofs.EngineRunsFrames.{takes_posts}
-use Rattle.msg_scenario_data.specs.Prelude.{state_of}
+use Rattle.msg_reading.specs.Prelude.{state_of}
 use Rattle.msg_serve.specs.Requests.{run}
 use Rattle.msg_serve.proofs.AnswersInTurn.{after-append, frames_next, own_done, requests_keep}
 use Rattle.msg_serve.proofs.serving.pass_frames.Goals as goal

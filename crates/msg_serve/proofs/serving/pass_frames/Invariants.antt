@@ -1,6 +1,6 @@
 use Rattle.std.proofs.Common.{◌≡◌, map, take}
 use Rattle.msg_exec.specs.Prelude.{EngineStands}
-use Rattle.msg_scenario_data.specs.Prelude.{state_of}
+use Rattle.msg_reading.specs.Prelude.{state_of}
 use Rattle.msg_serve.specs.Prelude.{after_requests}
 use Rattle.msg_serve.specs.Requests.{run}
 use Rattle.msg_serve.proofs.serving.pass_frames.Given as goal

@@ -2,7 +2,7 @@ use Rattle.std.proofs.Common.{[], arith, ◌∙◌, ◌≡◌}
 use Rattle.std.proofs.lemmas.Result.{err_from_is_err_and}
 use Rattle.msg_exec.proofs.EngineRunsFrames.{is_sound}
 use Rattle.msg_frames.proofs.ReaderOverRun.{runs_are_complete}
-use Rattle.msg_scenario_data.specs.Prelude.{state_of}
+use Rattle.msg_reading.specs.Prelude.{state_of}
 use Rattle.msg_serve.specs.Prelude.{after_own}
 use Rattle.msg_serve.specs.Requests.{readers}
 use Rattle.msg_serve.specs.declared.serve_fault.ServeFault.TheVariants as serve_fault

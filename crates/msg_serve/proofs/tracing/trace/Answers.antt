@@ -2,7 +2,7 @@ use Rattle.std.proofs.Common.{ap, arith, length, map, take, ◌∙◌, ◌≡◌
 use Rattle.std.proofs.lemmas.Result.{err_from_is_err_and}
 use Rattle.msg_exec.proofs.EngineRunsFrames.{is_sound, takes_posts}
 use Rattle.msg_frames.proofs.ReaderOverRun.{runs_are_complete}
-use Rattle.msg_scenario_data.specs.Prelude.{state_of}
+use Rattle.msg_reading.specs.Prelude.{state_of}
 use Rattle.msg_serve.specs.Requests.{run}
 use Rattle.msg_serve.proofs.AnswersInTurn.{answered_more, frames_next, no_failed_put, requests_keep, trace_done, trace_ends, trace_unread}
 use Rattle.msg_serve.proofs.tracing.trace.Goals as goal

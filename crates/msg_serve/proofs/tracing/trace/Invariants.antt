@@ -1,5 +1,5 @@
 use Rattle.std.proofs.Common.{◌≡◌, map, take}
-use Rattle.msg_scenario_data.specs.Prelude.{state_of}
+use Rattle.msg_reading.specs.Prelude.{state_of}
 use Rattle.msg_serve.specs.Requests.{run}
 use Rattle.msg_serve.specs.inner.Answering.{AnsweredSoFar}
 use Rattle.msg_serve.proofs.tracing.trace.Given as goal

@@ -1,6 +1,6 @@
 use Rattle.std.proofs.Common.{arith, ◌≡◌}
 use Rattle.std.proofs.lemmas.Result.{err_from_is_err_and}
-use Rattle.msg_text.specs.declared.report_fault.ReportFault.TheVariants as report_fault
+use Rattle.msg_json.specs.declared.report_fault.ReportFault.TheVariants as report_fault
 use Rattle.msg_serve.proofs.AnswersInTurn.{trace_unbegun}
 use Rattle.msg_serve.proofs.tracing.trace_scenario.Goals as goal
 

@@ -1,7 +1,7 @@
 use Rattle.std.proofs.Common.{List, ℕ, Option, [], append_assoc, append-nil, sym, ◌++◌, refl}
 use Rattle.std.proofs.KnownBytes.{Appends-trans}
-use Rattle.msg_text.specs.Prelude.{AppendsPrefix}
-use Rattle.msg_text.proofs.Puts.{AppendsPrefix_after, on_err}
+use Rattle.msg_json.specs.Prelude.{AppendsPrefix}
+use Rattle.msg_json.proofs.Puts.{AppendsPrefix_after, on_err}
 use Rattle.msg_command.proofs.fault.print.put_both.Goals as goal
 
 -- a front of the first text is one of both

@@ -1,5 +1,5 @@
 use Rattle.std.proofs.Common.{All, IfSome, List, None, Option, Some, ap, arith, length, option_map, refl, ℕ, ◌<◌, ◌≡◌}
-use Rattle.std.proofs.lemmas.{Grind.common_steps, Option.same_Some}
+use Rattle.std.proofs.lemmas.{Option.same_Some}
 use Rattle.msg_exec.specs.Prelude.{Core}
 use Rattle.msg_exec.proofs.engine.EngineOf.fits.Goals as goal
 use Rattle.msg_world.specs.Prelude.{Parts}
@@ -10,9 +10,6 @@ in_world : {S V : Type 0} (core : Option (Core S V)) (w : Parts V) (posts : List
     → IfSome core (λ c. All (λ p. p.0 < length c.lender.world.types) posts)
 in_world None w posts is all = absurd cc
 in_world (Some c) w posts is all = rw (← same_Some _ _ is) all
-
-pub loop-post-preserved : goal.loop-post-preserved
-loop-post-preserved g c = grind (arith, common_steps)
 
 pub returns : goal.returns
 returns g c =

@@ -2,8 +2,9 @@ use Rattle.std.proofs.Common.{length, map, refl, arith, inr}
 use Rattle.std.proofs.lemmas.Result.{err_from_is_err_and}
 use Rattle.msg_exec.specs.Prelude.{Core, FixedParts}
 use Rattle.msg_frames.specs.Prelude.{State, before_joining, with_joining}
-use Rattle.msg_exec.proofs.{FirstEngineStands.are_new, FirstEngineStands.none_more, FirstEngineStands.parts_stand, FirstEngineStands.fixed_first, CoreRunsFrame.joined_by_frame, CoreRunsFrame.fixed_along, SinceThen.since_none}
+use Rattle.msg_exec.proofs.{FirstEngineStands.are_new, FirstEngineStands.parts_stand, FirstEngineStands.fixed_first, CoreRunsFrame.joined_by_frame, CoreRunsFrame.fixed_along, SinceThen.since_none}
 use Rattle.msg_frames.proofs.{FirstStatesAreSound.first_is_sound, SystemsStay.joining_on_keeps}
+use Rattle.msg_order.proofs.SettledOrders.{none_more}
 use Rattle.msg_exec.proofs.engine.EngineOf.new.Goals as goal
 
 pub returns-in_err-check_build-clause-refusal : goal.returns-in_err-check_build-clause-refusal

@@ -1,0 +1,30 @@
+//! What an author is told of a file that isn't run: where its first fault lies, what stands there,
+//! and why it is refused; of a scenario that can't be run the ops that clash or the rules round a
+//! cycle; what is remarked of one that can; and the order in which its systems take their turns in
+//! one frame, with the batches, why one system is before another, who writes and reads each type,
+//! and the longest chain.
+#![tactic(auto)]
+
+mod batches;
+mod clash;
+mod cycle;
+mod edges;
+mod engine_plan;
+pub mod laws;
+mod names;
+mod planned;
+mod put;
+mod remarks;
+mod told;
+mod unfit;
+mod users;
+mod uses;
+
+pub use clash::{Clash, clash_of};
+pub use cycle::round;
+pub use engine_plan::scenario_of_engine;
+pub use planned::{Planned, plan_frame};
+pub use put::{Form, put_plan};
+pub use remarks::remarks_of;
+pub use told::{Names, fault_lines, why};
+pub use unfit::unfit_lines;

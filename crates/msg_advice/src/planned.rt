@@ -1,0 +1,234 @@
+// The plan of one frame of a scenario, with what each system reads and writes.
+ghost use Rattle.std.specs.Prelude.{◌≡◌, ◌<◌, ◌&&◌, IfOk, find, length, map};
+ghost use Rattle.std.specs.List.{concat, list_any};
+ghost use Rattle.msg_system.specs.Prelude.{IsAccessOf};
+ghost use Rattle.msg_order.specs.Prelude.{IsPlanOf};
+ghost use Rattle.msg_reading.specs.Prelude.{IsRunnable};
+ghost use Rattle.msg_advice.specs.Prelude.{batches_in, chain, is_next, link, precedes, turns_in};
+ghost use Rattle.msg_advice.specs.inner.Tables.{AreAccesses, joined_by, spec_needs};
+
+use msg_order::Plan;
+use msg_reading::{Scenario, SystemSpec};
+use msg_system::job_access;
+use msg_world::{Access, NoMemory};
+use std::alloc::Global;
+use std::marker::Model;
+
+/// In which order the systems of a scenario take their turns in one frame. Nothing is run for it.
+/// Contracts see it as the scenario and the number of the frame.
+///
+/// ```
+/// let planned = plan_frame(alloc, &scenario, 1)?;
+/// for batch in planned.batches() {
+///     println!(rt; "{} side by side", batch.len())?;
+/// }
+/// ```
+#[derive(Drop)]
+pub struct Planned<'a> {
+    scenario: &'a Scenario,
+    frame: u32,
+    accesses: Vec<Access>,
+    plan: Plan,
+    turns: Vec<u32>,
+}
+
+impl<'a> Model for Planned<'a> {
+    ghost use Rattle.msg_advice.specs.Order.{FrameOf};
+
+    ghost Value = { FrameOf };
+
+    ghost use Rattle.msg_advice.specs.inner.Planned.{IsPlanned, frame_of};
+
+    ghost view = { frame_of };
+
+    ghost invariant = { IsPlanned };
+}
+
+fn access_of(system: &SystemSpec) -> Access
+    ensures needs { IsAccessOf (spec_needs system.now) result }
+{
+    job_access(&system.program.access(), system.place.conditions.as_slice())
+}
+
+#[tactic(auto, using(crate::proofs::Tables::accesses_more))]
+fn accesses_of(alloc: Global, systems: &[SystemSpec]) -> Result<Vec<Access>, NoMemory>
+    ensures accesses { IfOk result (λ v. AreAccesses systems.now v.items) }
+{
+    let mut accesses = Vec::new(alloc);
+    for system in systems {
+        accesses.push(access_of(system))?;
+    }
+    Ok(accesses)
+}
+
+fn joins_of(alloc: Global, systems: &[SystemSpec]) -> Result<Vec<u32>, NoMemory>
+    ensures joins { IfOk result (λ v. v.items ≡ map (λ x. x.place.join) systems.now) }
+{
+    let mut joins = Vec::new(alloc);
+    for system in systems {
+        joins.push(system.place.join)?;
+    }
+    Ok(joins)
+}
+
+/// The plan of a frame, if the systems have these accesses.
+fn plan_of(
+    alloc: Global,
+    scenario: &Scenario,
+    accesses: &[Access],
+    frame: u32,
+) -> Result<Plan, NoMemory>
+    requires runnable { IsRunnable scenario.now }
+    requires one_each { length accesses.now ≡ length scenario.now.systems }
+    ensures plan { IfOk result (IsPlanOf accesses.now scenario.now.rules
+        (joined_by scenario.now.systems frame)) }
+{
+    let joins = joins_of(alloc, scenario.systems.as_slice())?;
+    Plan::of_frame(alloc, accesses, scenario.rules.as_slice(), &joins, frame)
+}
+
+/// The systems batch by batch.
+fn turns_of(alloc: Global, plan: &Plan) -> Result<Vec<u32>, NoMemory>
+    ensures turns { IfOk result (λ v. v.items ≡ concat plan.now.batches) }
+{
+    let mut turns = Vec::new(alloc);
+    for batch in plan.batches() {
+        turns.extend_from_slice(batch.as_slice())?;
+    }
+    Ok(turns)
+}
+
+/// The plan of a frame of a scenario, from frame 1 on. One past the last of the file has the plan
+/// that it would have.
+pub fn plan_frame<'a>(
+    alloc: Global,
+    scenario: &'a Scenario,
+    frame: u32,
+) -> Result<Planned<'a>, NoMemory>
+    requires runnable { IsRunnable scenario.now }
+    requires some { 0 < frame }
+    ensures scenario { IfOk result (λ planned. planned.scenario ≡ scenario.now) }
+    ensures frame { IfOk result (λ planned. planned.number ≡ frame) }
+{
+    let accesses = accesses_of(alloc, scenario.systems.as_slice())?;
+    let plan = plan_of(alloc, scenario, &accesses, frame)?;
+    let turns = turns_of(alloc, &plan)?;
+    Ok(Planned {
+        scenario,
+        frame,
+        accesses,
+        plan,
+        turns,
+    })
+}
+
+impl<'a> Planned<'a> {
+    /// The scenario.
+    pub fn scenario(&self) -> &'a Scenario
+        ensures scenario { result.now ≡ self.now.scenario }
+    {
+        self.scenario
+    }
+
+    /// The number of the frame.
+    pub fn frame(&self) -> u32
+        ensures frame { result ≡ self.now.number }
+    {
+        self.frame
+    }
+
+    /// The systems that have joined batch by batch.
+    pub fn batches(&self) -> &[Vec<u32>]
+        ensures batches { map (λ batch. batch.items) result.now
+            ≡ batches_in self.now.scenario self.now.number }
+    {
+        self.plan.batches()
+    }
+
+    /// The same systems in the order of their turns.
+    pub fn turns(&self) -> &[u32]
+        ensures turns { result.now ≡ turns_in self.now.scenario self.now.number }
+    {
+        &self.turns
+    }
+
+    /// Whether system `i` has to run before system `j`.
+    pub fn precedes(&self, i: u32, j: u32) -> bool
+        ensures precedes { result ≡ precedes self.now.scenario self.now.number i j }
+    {
+        self.plan.precedes(i, j)
+    }
+
+    /// Whether system `i` has to run before system `j`, and no other stands between them.
+    pub fn is_next(&self, i: u32, j: u32) -> bool
+        ensures next { result ≡ is_next self.now.scenario self.now.number i j }
+    {
+        self.precedes(i, j) && !self.has_between(i, j)
+    }
+
+    fn has_between(&self, i: u32, j: u32) -> bool
+        ensures between { result ≡ list_any
+            (λ b. precedes self.now.scenario self.now.number i b
+            && precedes self.now.scenario self.now.number b j)
+            (turns_in self.now.scenario self.now.number) }
+    {
+        let mut turns = self.turns().iter();
+        turns.any(|b| self.precedes(i, *b) && self.precedes(*b, j))
+    }
+
+    /// A system of each batch, each of which has to run before the next: as many as the longest
+    /// chain has.
+    pub fn chain(&self, alloc: Global) -> Result<Vec<u32>, NoMemory>
+        ensures chain { IfOk result (λ v. v.items
+            ≡ chain self.now.scenario self.now.number
+            (batches_in self.now.scenario self.now.number)) }
+    {
+        self.chain_through(alloc, self.batches())
+    }
+
+    /// The chain through these batches.
+    fn chain_through(&self, alloc: Global, batches: &[Vec<u32>]) -> Result<Vec<u32>, NoMemory>
+        ensures chain { IfOk result (λ v. v.items
+            ≡ chain self.now.scenario self.now.number
+            (map (λ batch. batch.items) batches.now)) }
+    {
+        let [batch, later @ ..] = batches else {
+            return Ok(Vec::new(alloc));
+        };
+        let mut chain = self.chain_through(alloc, later)?;
+        if let Some(system) = self.link(batch, &chain) {
+            chain.insert(0, system)?;
+        }
+        Ok(chain)
+    }
+
+    /// The first system of a batch that has to run before the first of a chain.
+    fn link(&self, batch: &[u32], chain: &[u32]) -> Option<u32>
+        ensures link { result ≡ link self.now.scenario self.now.number batch.now chain.now }
+    {
+        match chain {
+            [next, ..] => self.first_before(batch, *next),
+            [] => batch.first().copied(),
+        }
+    }
+
+    /// The first system of a batch that has to run before another.
+    fn first_before(&self, batch: &[u32], system: u32) -> Option<u32>
+        ensures first { result
+            ≡ find (λ i. precedes self.now.scenario self.now.number i system) batch.now }
+    {
+        match batch {
+            [i, ..] if self.precedes(*i, system) => Some(*i),
+            [_, later @ ..] => self.first_before(later, system),
+            [] => None,
+        }
+    }
+
+    /// What a system reads and writes, its conditions too.
+    pub(crate) fn access(&self, system: u32) -> Access {
+        match self.accesses.get(system as usize) {
+            Some(access) => *access,
+            None => Access::none(),
+        }
+    }
+}

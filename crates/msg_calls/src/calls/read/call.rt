@@ -1,0 +1,106 @@
+// One call of a file, by its head and the number of parts that follow it.
+ghost use Rattle.std.specs.Prelude.{◌≡◌, ◌≤◌, ◌<◌, IfOk, MatchResult, map};
+ghost use Rattle.serde_json.specs.View.{view};
+ghost use Rattle.msg_calls.specs.CallsFormat as Spec;
+ghost use Rattle.msg_json.specs.{Faults.Reads, Faults.fault, Faults.in_element};
+ghost use Rattle.msg_calls.specs.inner.Cursors.{FitsCursors};
+
+use crate::call::Call;
+use crate::calls::read::part;
+use crate::limits::MAX_CURSORS;
+use msg_json::fault::inside;
+use msg_json::json::head_and_parts;
+use msg_json::{Fault, Reason, Step};
+use serde_json::Value;
+use std::alloc::Global;
+
+/// The call of this number, if so many cursors were made before.
+pub fn read_call(alloc: Global, made: u32, number: usize, value: &Value) -> Result<Call, Fault>
+    ensures call { Reads (in_element number (Spec.call_of made (view value.now))) result }
+    ensures fits { IfOk result (FitsCursors made) }
+{
+    inside(Step::Element(number), read_headed(alloc, made, value))
+}
+
+fn read_headed(alloc: Global, made: u32, value: &Value) -> Result<Call, Fault>
+    ensures call { Reads (Spec.call_of made (view value.now)) result }
+    ensures fits { IfOk result (FitsCursors made) }
+{
+    let (head, parts) = head_and_parts(value)?;
+    read_parts(alloc, made, head, parts)
+}
+
+fn read_parts(alloc: Global, made: u32, head: &str, parts: &[Value]) -> Result<Call, Fault>
+    ensures call { Reads (Spec.call_with made head.now (map view parts.now)) result }
+    ensures fits { IfOk result (FitsCursors made) }
+{
+    match parts {
+        [] => read_bare(made, head),
+        [part] => read_with_one(alloc, made, head, part),
+        [part, other] => read_with_two(made, head, part, other),
+        [_, _, _, ..] => Err(Fault::here(Reason::Parts)),
+    }
+}
+
+fn read_bare(made: u32, head: &str) -> Result<Call, Fault>
+    ensures call { result ≡ Spec.bare_call made head.now }
+    ensures fits { IfOk result (FitsCursors made) }
+{
+    match head {
+        "update" => Ok(Call::Update),
+        "cursor" => {
+            room_for_cursor(made)?;
+            Ok(Call::Cursor)
+        }
+        "cursor_current" => {
+            room_for_cursor(made)?;
+            Ok(Call::CursorCurrent)
+        }
+        "current" => Ok(Call::Current),
+        "oldest" => Ok(Call::Oldest),
+        "count" => Ok(Call::Count),
+        "total" => Ok(Call::Total),
+        "drain" => Ok(Call::Drain),
+        "clear_all" => Ok(Call::ClearAll),
+        _ => Err(Fault::here(Reason::Parts)),
+    }
+}
+
+/// Whether one cursor more may be made.
+fn room_for_cursor(made: u32) -> Result<(), Fault>
+    ensures room { MatchResult result (λ _. made < MAX_CURSORS)
+        (λ e. (e ≡ fault (Reason.AtMost MAX_CURSORS)) × (MAX_CURSORS ≤ made)) }
+{
+    if made < MAX_CURSORS {
+        Ok(())
+    } else {
+        Err(Fault::here(Reason::AtMost(MAX_CURSORS as usize)))
+    }
+}
+
+fn read_with_one(alloc: Global, made: u32, head: &str, part: &Value) -> Result<Call, Fault>
+    ensures call { Reads (Spec.call_with_one made head.now (view part.now)) result }
+    ensures fits { IfOk result (FitsCursors made) }
+{
+    match head {
+        "write" => Ok(Call::Write(part::value(part)?)),
+        "batch" => Ok(Call::Batch(part::values(alloc, part)?)),
+        "read" => Ok(Call::Read(part::cursor(made, part)?, None)),
+        "missed" => Ok(Call::Missed(part::cursor(made, part)?)),
+        "len" => Ok(Call::Len(part::cursor(made, part)?)),
+        "clear" => Ok(Call::Clear(part::cursor(made, part)?)),
+        "get" => Ok(Call::Get(part::message_number(part)?)),
+        _ => Err(Fault::here(Reason::Parts)),
+    }
+}
+
+fn read_with_two(made: u32, head: &str, part: &Value, other: &Value) -> Result<Call, Fault>
+    ensures call { result ≡ Spec.call_with_two made head.now (view part.now) (view other.now) }
+    ensures fits { IfOk result (FitsCursors made) }
+{
+    if head != "read" {
+        return Err(Fault::here(Reason::Parts));
+    }
+    let (cursor, limit) = part::cursor_and_limit(made, part, other)?;
+    Ok(Call::Read(cursor, Some(limit)))
+}

@@ -1,5 +1,0 @@
-use Rattle.std.proofs.Common.{rules}
-use Rattle.msg_exec.proofs.build_error.BuildErrorFromNoMemory.from.Goals as goal
-
-pub returns : goal.returns
-returns c = search rules

@@ -1,5 +1,0 @@
-use Rattle.std.proofs.Common.{◌≡◌, map, take, nat_le}
-use Rattle.msg_exec.proofs.engine_core.joined_by.Given as goal
-
-abbrev pub invariant-loop-join : goal.invariant-loop-join
-invariant-loop-join l = l.joined.items ≡ map (λ j. nat_le j l.frame) (take l.join-index l.joins)

@@ -1,5 +1,0 @@
-use Rattle.msg_plans.specs.Unfit.{Lead}
-use Rattle.msg_plans.proofs.cycle.way_round.Given as goal
-
-abbrev pub invariant-loop-level : goal.invariant-loop-level
-invariant-loop-level l = Lead l.rules l.way.items l.system l.at

@@ -1,5 +1,0 @@
--- Hands on the definitions cited elsewhere. The declared types serve this crate's proofs alone.
-pub use Rattle.msg_plans.specs.Laws.{FramesRunAsPlanned}
-pub use Rattle.msg_plans.specs.Order.{FrameOf, chain, is_next, link, state_in, turns_in}
-unfoldable pub use Rattle.msg_plans.specs.Order.{batches_in, precedes}
-pub use Rattle.msg_plans.specs.Unfit.{DoClash, Lead}

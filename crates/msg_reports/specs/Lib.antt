@@ -1,5 +1,0 @@
-pub mod Making
-pub mod Prelude
-pub mod ReportText
-pub mod Reported
-pub mod inner

@@ -1,4 +1,0 @@
--- Hands on the definitions cited elsewhere.
-pub use Rattle.msg_reports.specs.Making.{IsSystemAt}
-pub use Rattle.msg_reports.specs.ReportText.{account_line, accounts_text, answered_line, frame_text, frames_text, item_text, items_text, more_items, next_item, numbers_text, op_line, op_start, op_text, ops_text, outcome_text, post_line, posts_text, reply_text, report_text, standing_text, text_so_far, took_text, turn_text, writer_name, written_text}
-pub use Rattle.msg_reports.specs.Reported.{EndsInText, HasRunFirst, IsReported, LeavesEngine, LeavesReport}

@@ -1,3 +1,0 @@
-pub mod LastRead
-pub mod LineStarts
-pub mod SoFar

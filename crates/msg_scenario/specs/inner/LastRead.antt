@@ -1,0 +1,13 @@
+-- The read that a frame told last: the words of private functions.
+use Rattle.std.specs.Prelude.{◌≡◌, ◌++◌, ⊤, Option, Some, None, length}
+use Rattle.msg_system.specs.declared.reply.Reply.TheVariants as reply
+use Rattle.msg_json.specs.Prelude.{Text}
+use Rattle.msg_reading.specs.declared.scenario.Scenario.{Scenario}
+use Rattle.msg_scenario.specs.{declared.reports.told.Told.Told, ReportText.reply_text}
+
+-- what it took stands in the text, from where it says to where it says
+abbrev pub IsTold : Scenario → Option Told → Text → Type 0
+IsTold s None text = ⊤
+IsTold s (Some told) text =
+    (before : Text) × (after : Text) × (text ≡ before ++ reply_text s (reply.Read told.took.now) ++ after)
+    × (length before ≡ told.start) × (length (before ++ reply_text s (reply.Read told.took.now)) ≡ told.end)

@@ -1,0 +1,98 @@
+// The report of a scenario: frame by frame, and then the readers.
+ghost use Rattle.std.specs.Prelude.{◌+◌, ◌<◌, ℤ, All, OnErr, OnOk, length};
+ghost use Rattle.msg_exec.specs.declared.engine.EngineOf.{EngineOf as EngineView};
+ghost use Rattle.msg_exec.specs.Prelude.{EngineStands};
+ghost use Rattle.msg_scenario.specs.Prelude.{LeavesEngine, LeavesReport};
+ghost use Rattle.msg_reading.specs.Prelude.{PostsAreToTypes, state_of};
+ghost use Rattle.msg_scenario.specs.{inner.LineStarts.AreLines, inner.SoFar.IsAfter, inner.SoFar.ReportSoFar};
+
+use crate::reports::lines::make_lines;
+use crate::reports::put::{Reporter, put_accounts, put_frame};
+use msg_exec::{EngineOf, Gate, Workers};
+use msg_json::{ReportFault, Sink};
+use msg_reading::Scenario;
+use msg_system::SystemOf;
+use std::thread::Threads;
+
+/// Runs the next frame of a scenario, and puts its text.
+fn report_frame<R: Threads + Sync, X: SystemOf<Value = i64> + Send, S: Sink, G: Gate>(
+    rt: &R,
+    engine: &mut EngineOf<X>,
+    reporter: &mut Reporter,
+    workers: Workers,
+    gate: &G,
+    sink: &mut S,
+) -> Result<(), ReportFault>
+    requires so_far { (old : S) × (first : EngineView X ℤ) × ReportSoFar S.contents S.failures
+        X.meaning reporter.old.scenario.now first reporter.old.reported old sink.old engine.old }
+    requires lines { AreLines reporter.old.scenario.now reporter.old.lines.items }
+    requires next { reporter.old.reported < length reporter.old.scenario.now.frames }
+    requires posts { All (PostsAreToTypes reporter.old.scenario.now)
+        reporter.old.scenario.now.frames }
+    ensures goes_on { OnOk result
+        (IsAfter (reporter.old.reported + 1) reporter.old reporter.new) }
+    ensures ok { OnOk result ((old : S) (first : EngineView X ℤ)
+        → ReportSoFar S.contents S.failures
+        X.meaning reporter.old.scenario.now first reporter.old.reported old sink.old engine.old
+        → ReportSoFar S.contents S.failures
+        X.meaning reporter.old.scenario.now first (reporter.old.reported + 1) old sink.new
+        engine.new) }
+    ensures leaves { OnErr result ((old : S) (first : EngineView X ℤ)
+        → ReportSoFar S.contents S.failures
+        X.meaning reporter.old.scenario.now first reporter.old.reported old sink.old engine.old
+        → (left : LeavesReport S.contents S.failures reporter.old.scenario.now
+        result old sink.new)
+        × LeavesEngine X.meaning left first engine.new) }
+{
+    let scenario = reporter.scenario;
+    let frame = &scenario.frames.as_slice()[reporter.reported];
+    let log = match engine.run_frame(rt, frame, workers, gate) {
+        Ok(log) => log,
+        Err(fault) => return Err(ReportFault::Run(fault)),
+    };
+    let number = reporter.reported as u64 + 1;
+    put_frame(reporter, number, frame, &log, sink)?;
+    reporter.reported += 1;
+    engine.recycle(log);
+    Ok(())
+}
+
+/// Runs the frames of a scenario, and puts the text of each before it runs the next; and then a
+/// line for each reader. The engine is one of the scenario, which has run no frame.
+///
+/// # Errors
+///
+/// `Run` if a frame or the accounts had no memory, `Write` if the sink failed, and `NoMemory`
+/// if a text had none: that of a frame or of the readers, or what is made once for all frames.
+pub fn report<R: Threads + Sync + AllocGlobal, X: SystemOf<Value = i64> + Send, S: Sink, G: Gate>(
+    rt: &R,
+    engine: &mut EngineOf<X>,
+    scenario: &Scenario,
+    workers: Workers,
+    gate: &G,
+    sink: &mut S,
+) -> Result<(), ReportFault>
+    requires engine { EngineStands X.meaning engine.old (state_of scenario.now) }
+    requires posts { All (PostsAreToTypes scenario.now) scenario.now.frames }
+
+    // Whatever the workers and the gate: the text is that of one thread, and each reader was given
+    // every message once.
+    ensures leaves { (left : LeavesReport S.contents S.failures
+        scenario.now result sink.old sink.new)
+        × LeavesEngine X.meaning left engine.old engine.new }
+{
+    let lines = make_lines(rt.alloc(), scenario)?;
+    let mut reporter = Reporter {
+        scenario,
+        lines,
+        reported: 0,
+        text: Vec::new(rt.alloc()),
+    };
+    for _ in scenario.frames.as_slice() {
+        report_frame(rt, engine, &mut reporter, workers, gate, sink)?;
+    }
+    match engine.accounts() {
+        Ok(accounts) => put_accounts(&mut reporter, accounts.as_slice(), sink),
+        Err(fault) => Err(ReportFault::Run(fault)),
+    }
+}

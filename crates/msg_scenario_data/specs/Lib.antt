@@ -1,4 +1,0 @@
-pub mod Names
-pub mod NamesOf
-pub mod Prelude
-pub mod Runnable

@@ -1,5 +1,0 @@
-use Rattle.std.proofs.{Common.arith, lemmas.Grind.common_steps}
-use Rattle.msg_system.proofs.behavior_system.BehaviorSystem.new.Goals as goal
-
-pub returns : goal.returns
-returns g c = grind (arith, common_steps)

@@ -1,3 +1,0 @@
--- puts one after another, and the digits of numbers
-pub mod Puts
-pub mod Digits
