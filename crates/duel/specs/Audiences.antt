@@ -5,13 +5,13 @@ use Rattle.msg_frames.specs.{declared.frame.Frame.Frame, declared.log.Log.Log, d
 use Rattle.duel.specs.declared.audience.Audience.{Audience}
 
 -- what a sum came to; else 0
-abbrev pub sum_told : Option (Reply ℤ) → ℤ
-sum_told (Some (Summed took value)) = value
-sum_told _ = pos 0
+abbrev pub sum_of : Option (Reply ℤ) → ℤ
+sum_of (Some (Summed took value)) = value
+sum_of _ = pos 0
 
 -- what the first op of this outcome summed
 abbrev pub first_sum : Option (Outcome ℤ) → ℤ
-first_sum (Some (Ran replies)) = sum_told (slice_get replies 0)
+first_sum (Some (Ran replies)) = sum_of (slice_get replies 0)
 first_sum _ = pos 0
 
 -- how many falls the referee has counted, whose turn is a frame's first

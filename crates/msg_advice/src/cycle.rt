@@ -10,11 +10,11 @@ use std::alloc::Global;
 
 /// The rules that lead from a system back to it, as few as there are, by their places; none if it
 /// isn't on a cycle.
-pub fn round(alloc: Global, rules: &[Rule], system: u32) -> Result<Vec<usize>, NoMemory>
-    ensures round { IfOk result (λ v. Lead rules.now v.items system system) }
+pub fn shortest_cycle(alloc: Global, rules: &[Rule], system: u32) -> Result<Vec<usize>, NoMemory>
+    ensures leads_back { IfOk result (λ v. Lead rules.now v.items system system) }
 {
     let levels = levels_back(alloc, rules, system)?;
-    way_round(alloc, rules, system, &levels)
+    rules_along(alloc, rules, system, &levels)
 }
 
 /// The systems from which a rule leads to one of these.
@@ -54,13 +54,13 @@ fn first_rule(rules: &[Rule], system: u32, systems: &[u32]) -> Option<usize>
 }
 
 /// A way from a system through these levels, if it leads back to the system; else none.
-fn way_round(
+fn rules_along(
     alloc: Global,
     rules: &[Rule],
     system: u32,
     levels: &[Vec<u32>],
 ) -> Result<Vec<usize>, NoMemory>
-    ensures way { IfOk result (λ v. Lead rules.now v.items system system) }
+    ensures leads_back { IfOk result (λ v. Lead rules.now v.items system system) }
 {
     let mut way = Vec::new(alloc);
     let mut at = system;
@@ -79,14 +79,14 @@ fn way_round(
 }
 
 /// Adds a line for each rule round a cycle.
-pub(crate) fn add_round(
+pub(crate) fn add_cycle(
     text: &mut String,
     scenario: &Scenario,
     system: u32,
 ) -> Result<(), NoMemory> {
     let rules = scenario.rules.as_slice();
-    let round = round(*text.allocator(), rules, system)?;
-    for k in round.as_slice() {
+    let cycle = shortest_cycle(*text.allocator(), rules, system)?;
+    for k in cycle.as_slice() {
         if let Some(rule) = rules.get(*k) {
             let earlier = system_name(scenario, rule.earlier);
             let later = system_name(scenario, rule.later);

@@ -1,6 +1,6 @@
 // What is told of a scenario that can't be run.
 use crate::clash::add_clash;
-use crate::cycle::add_round;
+use crate::cycle::add_cycle;
 use msg_json::Reason;
 use msg_reading::Scenario;
 use msg_world::NoMemory;
@@ -12,7 +12,7 @@ pub fn unfit_lines(alloc: Global, scenario: &Scenario, why: Reason) -> Result<Ve
     let mut text = String::new(alloc);
     match why {
         Reason::Clash(system) => add_clash(&mut text, scenario, system)?,
-        Reason::Cycle(system) => add_round(&mut text, scenario, system)?,
+        Reason::Cycle(system) => add_cycle(&mut text, scenario, system)?,
         _ => (),
     }
     Ok(text.into_bytes())

@@ -8,6 +8,6 @@ mod limits;
 pub use call::Call;
 pub use calls::{Calls, check_calls, read_calls, read_file, run_calls};
 pub use msg_json::{
-    Fault, FileFault, Key, Location, MemorySink, NoMemory, PutFault, Reason, Refusal, ReportFault,
-    RunFault, Sink, StdSink, Step,
+    Fault, FileFault, Key, Location, MemorySink, NoMemory, PathStep, PutFault, Reason, Refusal,
+    ReportFault, RunFault, Sink, StdSink,
 };

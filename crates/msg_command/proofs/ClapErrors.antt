@@ -2,7 +2,7 @@
 use Rattle.std.proofs.Common.{◌≡◌, ◌⊎◌, inl, inr, refl, ap, subst, ◌∙◌, List, [], true, Result, Ok, Err, IfErr, IsErrAnd}
 use Rattle.clap.specs.{Words.App, Words.HasKind, Words.IsAmong, Words.Kinds, Words.Text, Words.fault_of, Words.is_simple_and_free, declared.error.Error.Error, declared.error.ErrorKind.ErrorKind}
 use Rattle.clap.proofs.OnLiterals.{clap_on_literals}
-use Rattle.msg_command.specs.Prelude.{IsShown, IsToldOf, WordFault, msgrun_app}
+use Rattle.msg_command.specs.Prelude.{IsShown, IsWordFaultOf, WordFault, msgrun_app}
 use Rattle.msg_command.specs.inner.Telling.{IsHelp}
 use Rattle.clap.specs.declared.error.ErrorKind.TheVariants as kind
 use Rattle.msg_command.specs.declared.words.WordFault.TheVariants as word
@@ -10,7 +10,7 @@ use Rattle.msg_command.specs.declared.words.WordFault.TheVariants as word
 -- an error of one of these kinds, or of want of memory, is told as such
 pub found_as : (k : ErrorKind) (kinds : Kinds) (fault : WordFault) → (k ≡ kind.OutOfMemory → fault ≡ word.NoMemory)
     → (IsHelp fault → IsShown k) → (fault ≡ word.Bad → ¬ IsShown k)
-    → (k ≡ kind.OutOfMemory) ⊎ IsAmong k kinds → IsToldOf kinds fault
+    → (k ≡ kind.OutOfMemory) ⊎ IsAmong k kinds → IsWordFaultOf kinds fault
 found_as k kinds word.NoMemory memory help bad found = tt
 found_as k kinds (word.Help text) memory help bad (inl none) = let no = memory none in cc
 found_as k kinds (word.Help text) memory help bad (inr among) = (k, among, help tt)

@@ -108,11 +108,11 @@ IsShown k = (k ≡ kind.DisplayHelp) ⊎ (k ≡ kind.DisplayVersion)
 -- The fault of words in which clap finds these kinds of errors. It is help only if one of them
 -- asks for that or for the version. It is bad words only if there is none, or one of another
 -- kind. It may always be want of memory.
-abbrev pub IsToldOf : Kinds → WordFault → Type 0
-IsToldOf kinds (word.Help text) = (k : ErrorKind) × IsAmong k kinds × IsShown k
-IsToldOf kinds word.Bad = (kinds ≡ [])
+abbrev pub IsWordFaultOf : Kinds → WordFault → Type 0
+IsWordFaultOf kinds (word.Help text) = (k : ErrorKind) × IsAmong k kinds × IsShown k
+IsWordFaultOf kinds word.Bad = (kinds ≡ [])
     ⊎ ((k : ErrorKind) × IsAmong k kinds × ¬ IsShown k)
-IsToldOf kinds word.NoMemory = Unit {0}
+IsWordFaultOf kinds word.NoMemory = Unit {0}
 
 -- a run is on 1 to `MAX_WORKERS` workers, a plan of a frame from 1 to `LAST_FRAME`
 abbrev pub IsInRange : Action → Type 0

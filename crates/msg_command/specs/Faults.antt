@@ -1,7 +1,7 @@
 -- The line that each fault of the program prints, and the status that it ends with.
 use Rattle.std.specs.Prelude.{ℕ, List, [], ◌++◌, codes}
 use Rattle.msg_command.specs.declared.fault.MainFault.{MainFault}
-use Rattle.msg_command.specs.declared.fault.MainFault.TheVariants.{Words, Input, Refused, Told, Built, Report}
+use Rattle.msg_command.specs.declared.fault.MainFault.TheVariants.{Words, Input, Refused, CheckFailed, Built, Report}
 use Rattle.msg_command.specs.declared.words.WordFault.TheVariants as word
 use Rattle.msg_command.specs.declared.input.InputFault.TheVariants as input
 use Rattle.msg_json.specs.declared.refusal.Refusal.{Refusal}
@@ -33,7 +33,7 @@ line_of (Input input.Failed) = codes "msgrun: cannot read input\n"
 line_of (Input input.TooLarge) = codes "msgrun: input too large\n"
 line_of (Input input.NoMemory) = codes "msgrun: want of memory\n"
 line_of (Refused refused) = refusal_line refused
-line_of (Told why lines) = refusal_line why
+line_of (CheckFailed why lines) = refusal_line why
 line_of Built = codes "msgrun: want of memory\n"
 line_of (Report (report.Run run.Spoiled)) = codes "msgrun: run fault 1 Spoiled\n"
 line_of (Report (report.Run run.BadOrder)) = codes "msgrun: run fault 2 BadOrder\n"
@@ -43,7 +43,7 @@ line_of (Report report.NoMemory) = codes "msgrun: want of memory\n"
 
 -- what is printed of a fault: its line, and below it the lines that tell of a checked file
 abbrev pub lines_of : MainFault → List ℕ
-lines_of (Told why lines) = refusal_line why ++ lines.items
+lines_of (CheckFailed why lines) = refusal_line why ++ lines.items
 lines_of fault = line_of fault
 
 -- the status that the program ends with: 0 for help; 2 for a bad command line, too large an input
@@ -54,5 +54,5 @@ status_of (Words word.Bad) = 2
 status_of (Input input.TooLarge) = 2
 status_of (Refused refusal.NoMemory) = 1
 status_of (Refused refused) = 2
-status_of (Told why lines) = 2
+status_of (CheckFailed why lines) = 2
 status_of _ = 1

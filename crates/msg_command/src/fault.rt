@@ -20,7 +20,7 @@ pub enum MainFault {
     Refused(#[from] Refusal),
     /// The file that was to be checked was refused, and these lines tell where and why.
     #[error("refused {0}")]
-    Told(Refusal, Vec<u8>),
+    CheckFailed(Refusal, Vec<u8>),
     /// Memory was refused while an engine was made of a scenario.
     #[error("want of memory")]
     Built,

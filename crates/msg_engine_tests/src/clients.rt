@@ -1,9 +1,9 @@
 //! What a client shows by the engine's clauses alone.
 ghost use Rattle.std.specs.Prelude.{◌≡◌, ◌<◌, ◌∷◌, [], ℕ, ℤ, All, Contains, IfOk, IsTrue, flat_map};
 ghost use Rattle.msg_exec.specs.Prelude.{IsEngine, PostsFit, EngineStands};
-ghost use Rattle.msg_frames.specs.Prelude.{State, before_turns, join_flags, numbers_told};
+ghost use Rattle.msg_frames.specs.Prelude.{State, before_turns, join_flags, entry_numbers};
 ghost use Rattle.msg_frames.specs.Frames.{frame as frame_of, settled_order};
-ghost use Rattle.msg_laws.specs.Prelude.{Meets, ReadsAll, given, log_entries, told_to};
+ghost use Rattle.msg_laws.specs.Prelude.{Meets, ReadsAll, given, log_entries, written_by};
 ghost use Rattle.msg_order.specs.Prelude.{Path, has_joined};
 ghost use Rattle.msg_world.specs.{declared.record.Record.Record as RecordView, Prelude.i64_values};
 
@@ -51,8 +51,8 @@ pub fn run_in_time<R: Threads + Sync, S: SystemOf<Value = i64> + Send>(
         (λ log. (s : State i64_values) → EngineStands S.meaning engine.old s
         → (i j t n : ℕ) (m : RecordView ℤ) → t < s.types
         → Path (settled_order (before_turns frame.now.posts s)) i j → ReadsAll j t frame.now s
-        → Contains (told_to i t (frame_of frame.now s).steps) (n, m)
-        → Contains (flat_map numbers_told
+        → Contains (written_by i t (frame_of frame.now s).steps) (n, m)
+        → Contains (flat_map entry_numbers
         (log_entries j t (s.members j).job.system (log ∷ []))) n) }
 {
     engines_stand::<S>();

@@ -86,7 +86,7 @@ module _ {S V : Type 0} {values : Values V} (meaning : S → Meaning V) where
         let order : List ℕ = turn_order bt in
         let same = turns_keep_systems order bt in
         record {
-          told = told;
+          holds = told;
           stands = record {
             lender = lender;
             fixed = fixed_along refl refl same has.fixed;

@@ -21,9 +21,9 @@ pub record JobView (S V : Type 0) : Type 0 where
   pub outcome : Outcome V
 
 -- what came of a turn, if the system ran and if not
-abbrev pub came : {V : Type 0} → Bool → List (Reply V) → Outcome V
-came true replies = Ran replies
-came false replies = Skipped
+abbrev pub outcome_if : {V : Type 0} → Bool → List (Reply V) → Outcome V
+outcome_if true replies = Ran replies
+outcome_if false replies = Skipped
 
 module _ {S V : Type 0} (meaning : S → Meaning V) where
   -- a system and its conditions, as the job that they mean

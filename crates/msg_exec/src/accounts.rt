@@ -13,8 +13,8 @@ use msg_world::{TypeNo, Value, World};
 use std::alloc::Global;
 
 /// A law: no type has more messages than its count can tell.
-fn count_is_told<V: Value>(world: &World<V>, t: TypeNo)
-    ensures told { IfSome (slot (OfType t) world.now)
+fn count_is_known<V: Value>(world: &World<V>, t: TypeNo)
+    ensures known { IfSome (slot (OfType t) world.now)
         (λ k. (h : History (Record V)) → BufferStandsFor k h → count h < 2 ^ 64) }
 {
     if let Some(messages) = world.messages(t) {
@@ -33,7 +33,7 @@ fn account<V: Value, S: SystemOf<Value = V>>(
         → totals.now ≡ capped_totals ((s.members system).totals of_type)
         → result ≡ account_of s system of_type }
 {
-    count_is_told(&core.lender.world, of_type);
+    count_is_known(&core.lender.world, of_type);
     let Totals {
         start,
         got,

@@ -9,7 +9,7 @@ ghost use Rattle.msg_exec.specs.inner.SystemsOut.{AreOut};
 
 use crate::job::Job;
 use crate::lender::{Lender, run_turn};
-use crate::side_by_side::{Crew, run_side_by_side};
+use crate::side_by_side::{RunContext, run_side_by_side};
 use crate::spares::Spares;
 use crate::{Gate, NoMemory, Turn};
 use msg_system::SystemOf;
@@ -38,8 +38,13 @@ fn lend_out_all<V: Value, S: SystemOf<Value = V>>(
 }
 
 /// Runs the jobs of a batch over the workers, and appends their turns, by order of addition.
-fn run_many<R: Threads + Sync, V: Value + Send + Sync, S: SystemOf<Value = V> + Send, G: Gate>(
-    crew: &Crew<R, G>,
+fn run_over_workers<
+    R: Threads + Sync,
+    V: Value + Send + Sync,
+    S: SystemOf<Value = V> + Send,
+    G: Gate,
+>(
+    context: &RunContext<R, G>,
     lender: &mut Lender<S, V>,
     batch: &[u32],
     spares: &mut Spares<V>,
@@ -55,11 +60,11 @@ fn run_many<R: Threads + Sync, V: Value + Send + Sync, S: SystemOf<Value = V> + 
     ensures turns { OnOk result ((s : State V.values) → LenderStands S.meaning lender.old s
         → turns.new.items ≡ turns.old.items ++ (after_turns_of batch.now s).turns) }
     ensures accesses { OnOk result (lender.new.accesses.items ≡ lender.old.accesses.items) }
-    ensures gate_passed { OnOk result (EachPassedGate (G.passed crew.now.gate.now) crew.now.workers
-        batch.now) }
+    ensures gate_passed { OnOk result (EachPassedGate (G.passed context.now.gate.now)
+        context.now.workers batch.now) }
 {
-    let jobs = lend_out_all(crew.alloc, lender, batch, spares)?;
-    let results = run_side_by_side(crew, &lender.world, jobs, spares.habits.habit())?;
+    let jobs = lend_out_all(context.alloc, lender, batch, spares)?;
+    let results = run_side_by_side(context, &lender.world, jobs, spares.habits.habit())?;
     for result in results {
         let done = result?;
         turns.push(lender.take_back(done, spares))?;
@@ -95,7 +100,7 @@ pub(crate) fn run_turns<V: Value, S: SystemOf<Value = V>, G: Gate>(
 /// Runs the jobs of one batch over workers, or in place, and appends their turns, by order of
 /// addition.
 fn run_batch<R: Threads + Sync, V: Value + Send + Sync, S: SystemOf<Value = V> + Send, G: Gate>(
-    crew: &Crew<R, G>,
+    context: &RunContext<R, G>,
     lender: &mut Lender<S, V>,
     batch: &[u32],
     spares: &mut Spares<V>,
@@ -111,14 +116,14 @@ fn run_batch<R: Threads + Sync, V: Value + Send + Sync, S: SystemOf<Value = V> +
     ensures turns { OnOk result ((s : State V.values) → LenderStands S.meaning lender.old s
         → turns.new.items ≡ turns.old.items ++ (after_turns_of batch.now s).turns) }
     ensures accesses { OnOk result (lender.new.accesses.items ≡ lender.old.accesses.items) }
-    ensures gate_passed { OnOk result (EachPassedGate (G.passed crew.now.gate.now) crew.now.workers
-        batch.now) }
+    ensures gate_passed { OnOk result (EachPassedGate (G.passed context.now.gate.now)
+        context.now.workers batch.now) }
 {
-    let workers = crew.workers.number();
+    let workers = context.workers.number();
     if spares.habits.goes_over_workers(workers, batch.len()) {
-        run_many(crew, lender, batch, spares, turns)
+        run_over_workers(context, lender, batch, spares, turns)
     } else {
-        run_turns(crew.alloc, lender, batch, crew.gate, spares, turns)
+        run_turns(context.alloc, lender, batch, context.gate, spares, turns)
     }
 }
 
@@ -129,7 +134,7 @@ pub(crate) fn run_batches<
     S: SystemOf<Value = V> + Send,
     G: Gate,
 >(
-    crew: &Crew<R, G>,
+    context: &RunContext<R, G>,
     lender: &mut Lender<S, V>,
     batches: &[Vec<u32>],
     spares: &mut Spares<V>,
@@ -147,14 +152,15 @@ pub(crate) fn run_batches<
         → turns.items
         ≡ (after_turns_of (concat (map (λ batch. batch.items) batches.now)) s).turns) }
     ensures accesses { OnOk result (lender.new.accesses.items ≡ lender.old.accesses.items) }
-    ensures gate_passed { OnOk result (EachPassedGate (G.passed crew.now.gate.now) crew.now.workers
+    ensures gate_passed { OnOk result (EachPassedGate (G.passed context.now.gate.now)
+        context.now.workers
         (concat (map (λ batch. batch.items) batches.now))) }
 {
-    let mut turns = spares.turns(crew.alloc, lender.accesses.len())?;
+    let mut turns = spares.turns(context.alloc, lender.accesses.len())?;
     spares.habits.begin_frame();
     for batch in batches {
         let first = turns.len();
-        run_batch(crew, lender, batch, spares, &mut turns)?;
+        run_batch(context, lender, batch, spares, &mut turns)?;
         spares.end_batch(turns.as_slice(), first);
     }
     Ok(turns)

@@ -1,9 +1,9 @@
 use crate::building::{Prepared, check_build, guarded_systems, prepare};
-use crate::engine_core::{Core, run_one};
+use crate::engine_core::{Core, run_core_frame};
 use crate::joining::join_those;
 use crate::lender::Lender;
 use crate::replay::{accepts_next, replay_one};
-use crate::side_by_side::Crew;
+use crate::side_by_side::RunContext;
 use crate::spares::Spares;
 use crate::{BuildRefusal, Frame, Gate, Log, Place, RunFault, Workers};
 use msg_order::Rule;
@@ -334,13 +334,13 @@ impl<V: Value + Send + Sync, S: SystemOf<Value = V> + Send> EngineOf<S, V> {
         let Some(core) = &mut self.core else {
             return Err(RunFault::Spoiled);
         };
-        let crew = Crew {
+        let context = RunContext {
             rt,
             alloc: self.alloc,
             workers,
             gate,
         };
-        let Ok(log) = run_one(&crew, core, self.frames, frame, &mut self.spares) else {
+        let Ok(log) = run_core_frame(&context, core, self.frames, frame, &mut self.spares) else {
             self.spoil();
             return Err(RunFault::NoMemory);
         };

@@ -9,7 +9,7 @@ use crate::batch::run_batches;
 use crate::joining::join_those;
 use crate::lender::Lender;
 use crate::posts::post_all;
-use crate::side_by_side::Crew;
+use crate::side_by_side::RunContext;
 use crate::spares::Spares;
 use crate::{Frame, Gate, Items, Log, NoMemory};
 use msg_order::{Plan, Rule};
@@ -96,13 +96,13 @@ pub(crate) fn open_frame<V: Value, S: SystemOf<Value = V>>(
 }
 
 /// Runs one frame after so many others.
-pub(crate) fn run_one<
+pub(crate) fn run_core_frame<
     R: Threads + Sync,
     V: Value + Send + Sync,
     S: SystemOf<Value = V> + Send,
     G: Gate,
 >(
-    crew: &Crew<R, G>,
+    context: &RunContext<R, G>,
     core: &mut Core<S, V>,
     frames: u32,
     frame: &Frame<V>,
@@ -115,12 +115,12 @@ pub(crate) fn run_one<
         → frames ≡ frame_count s
         → HasLeft S.meaning (log ≡ (frame_of frame.now s).log) frame.now s core.new) }
     ensures gate_passed { IfOk result
-        (λ log. EachPassedGate (G.passed crew.now.gate.now) crew.now.workers
+        (λ log. EachPassedGate (G.passed context.now.gate.now) context.now.workers
         (turn_order_in log)) }
 {
-    let posts = open_frame(crew.alloc, core, frames, frame)?;
+    let posts = open_frame(context.alloc, core, frames, frame)?;
     let batches = core.plan.batches();
-    let turns = run_batches(crew, &mut core.lender, batches, spares)?;
+    let turns = run_batches(context, &mut core.lender, batches, spares)?;
     Ok(Log {
         posts: Items::from_vec(posts),
         turns: Items::from_vec(turns),

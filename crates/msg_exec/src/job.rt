@@ -2,7 +2,7 @@
 ghost use Rattle.std.specs.Prelude.{◌≡◌, [], IfOk};
 ghost use Rattle.msg_world.specs.Prelude.{IsLoanOf};
 ghost use Rattle.msg_system.specs.Prelude.{IsAccessOf};
-ghost use Rattle.msg_exec.specs.Jobs.{HasTakenTurn, came, guarded_needs};
+ghost use Rattle.msg_exec.specs.Jobs.{HasTakenTurn, outcome_if, guarded_needs};
 
 use crate::{Items, NoMemory, Outcome};
 use msg_system::{Guard, Reply, SystemOf};
@@ -18,8 +18,8 @@ pub struct GuardedSystem<S, V = i64> {
 }
 
 /// What came of a turn: whether the system ran, and its replies.
-pub(crate) fn came<V: Value>(ran: bool, replies: Vec<Reply<V>>) -> Outcome<V>
-    ensures came { result ≡ came ran replies.items }
+pub(crate) fn outcome_if<V: Value>(ran: bool, replies: Vec<Reply<V>>) -> Outcome<V>
+    ensures outcome { result ≡ outcome_if ran replies.items }
 {
     if ran {
         Outcome::Ran(Items::from_vec(replies))
@@ -45,7 +45,7 @@ pub(crate) fn take_turn<V: Value, S: SystemOf<Value = V>>(
     requires loan { IsLoanOf access.now world.now taken }
     requires access { IsAccessOf (guarded_needs S.meaning guarded.old) access.now }
     ensures took { IfOk result (λ r. HasTakenTurn V.values S.meaning world.now taken guarded.old r.0
-        (came r.1 replies.new.items) guarded.new) }
+        (outcome_if r.1 replies.new.items) guarded.new) }
 {
     let lent = Lent::open(world, access, taken);
     if !Guard::check_all(&mut guarded.guards, &lent) {

@@ -3,7 +3,7 @@ ghost use Rattle.std.specs.Prelude.{◌≡◌, ◌<◌, ◌++◌, ◌∷◌, [],
 ghost use Rattle.msg_frames.specs.Prelude.{after_turn_of, logged_turn, State};
 ghost use Rattle.msg_exec.specs.Prelude.{LenderStands};
 
-use crate::job::{GuardedSystem, Job, JobContents, came, take_turn};
+use crate::job::{GuardedSystem, Job, JobContents, outcome_if, take_turn};
 use crate::spares::Spares;
 use crate::totals::enter_turn;
 use crate::{NoMemory, Outcome, Totals, Turn};
@@ -109,7 +109,7 @@ pub(crate) fn run_turn<V: Value, S: SystemOf<Value = V>>(
     let world = &lender.world;
     let (taken, ran) = take_turn(alloc, guarded, world, access, taken, &mut replies)?;
     lender.world.take_back(taken);
-    let outcome = came(ran, replies);
+    let outcome = outcome_if(ran, replies);
     enter_turn(&guarded.system, i, &mut lender.totals, &outcome);
     turns.push(Turn {
         system: number,

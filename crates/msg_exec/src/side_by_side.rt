@@ -4,7 +4,7 @@ ghost use Rattle.std.specs.List.{AllZip};
 ghost use Rattle.msg_exec.specs.{Jobs.IsResult, Jobs.MayRun, inner.Batches.AreResults, inner.Batches.IsWithWorld};
 ghost use Rattle.msg_workers.specs.Prelude.{EachMay, PassedGate};
 
-use crate::job::{Job, came, take_turn};
+use crate::job::{Job, outcome_if, take_turn};
 use crate::{Gate, NoMemory, Runs, Workers};
 use msg_board::Work;
 use msg_system::SystemOf;
@@ -17,7 +17,7 @@ use std::thread::Threads;
 
 /// What the jobs of a frame are run with.
 #[derive(Drop)]
-pub struct Crew<'a, R, G> {
+pub struct RunContext<'a, R, G> {
     pub rt: &'a R,
     pub alloc: Global,
     pub workers: Workers,
@@ -71,7 +71,7 @@ impl<'a, V: Value + Send + Sync, S: SystemOf<Value = V> + Send> Runs for Batch<'
             &mut replies,
         )?;
         contents.taken = taken;
-        contents.outcome = came(ran, replies);
+        contents.outcome = outcome_if(ran, replies);
         Ok(Job { guarded, contents })
     }
 }
@@ -99,7 +99,7 @@ pub(crate) fn run_side_by_side<
     S: SystemOf<Value = V> + Send,
     G: Gate,
 >(
-    crew: &Crew<R, G>,
+    context: &RunContext<R, G>,
     world: &World<V>,
     jobs: Vec<Job<S, V>>,
     habit: &mut Habit,
@@ -109,10 +109,17 @@ pub(crate) fn run_side_by_side<
     ensures run { IfOk result
         (λ results. AreResults V.values S.meaning world.now jobs.items results.items) }
     ensures gate_passed { OnOk result
-        (All (λ job. PassedGate (G.passed crew.now.gate.now)
-        (min crew.now.workers (length jobs.items)) job.number) jobs.items) }
+        (All (λ job. PassedGate (G.passed context.now.gate.now)
+        (min context.now.workers (length jobs.items)) job.number) jobs.items) }
 {
-    let alloc = crew.alloc;
+    let alloc = context.alloc;
     let jobs = with_world(alloc, world, jobs)?;
-    run_jobs::<R, Batch<S, V>, G>(crew.rt, alloc, crew.gate, crew.workers, jobs, habit)
+    run_jobs::<R, Batch<S, V>, G>(
+        context.rt,
+        alloc,
+        context.gate,
+        context.workers,
+        jobs,
+        habit,
+    )
 }

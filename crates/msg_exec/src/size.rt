@@ -21,7 +21,7 @@ fn messages_of<V: Value>(reply: &Reply<V>) -> u64 {
 
 /// How much these turns did, from turn `from` on: they count, and their replies, and the messages
 /// that these tell of.
-pub(crate) fn size_of_turns<V: Value>(turns: &[Turn<V>], from: usize) -> u64 {
+pub(crate) fn work_estimate<V: Value>(turns: &[Turn<V>], from: usize) -> u64 {
     let mut size = 0u64;
     for i in from..turns.len() {
         size = size.saturating_add(OF_ONE);

@@ -2,7 +2,7 @@
 ghost use Rattle.std.specs.Prelude.{◌≡◌, [], IfOk};
 
 use crate::job::JobContents;
-use crate::size::size_of_turns;
+use crate::size::work_estimate;
 use crate::{Log, NoMemory, Outcome, Turn};
 use msg_system::Reply;
 use msg_workers::Habits;
@@ -99,7 +99,7 @@ impl<V: Value> Spares<V> {
     /// next place is next.
     pub(crate) fn end_batch(&mut self, turns: &[Turn<V>], first: usize) {
         if self.habits.asks_size() {
-            self.habits.learn(size_of_turns(turns, first));
+            self.habits.learn(work_estimate(turns, first));
         }
         self.habits.next_place();
     }

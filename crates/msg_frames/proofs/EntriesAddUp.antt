@@ -3,7 +3,7 @@ use Rattle.std.proofs.Common.{List, None, [], arith, flat_map, length, ℕ, ◌+
 use Rattle.std.proofs.lemmas.{Bool.cases_Bool, Grind.flat_map-append, List.length-append, List.FromFn.length-range_with_len}
 use Rattle.msg_buffer.specs.Prelude.{Stretch}
 use Rattle.msg_system.specs.declared.reply.Took.{Took}
-use Rattle.msg_frames.specs.Prelude.{ReadEntry, Totals, entry_of_read, numbers_cleared, numbers_given, numbers_missed, numbers_told, with_entries}
+use Rattle.msg_frames.specs.Prelude.{ReadEntry, Totals, entry_of_read, numbers_cleared, numbers_given, numbers_missed, entry_numbers, with_entries}
 
 pub with_entries-none : (V : Type 0) (x : Totals) → with_entries {V = V} [] x ≡ x
 with_entries-none V x = grind arith
@@ -26,7 +26,7 @@ with_clear V gone first n x = grind (arith, length-append, length-range_with_len
 
 module _ {V : Type 0} where
   -- the numbers given, missed and cleared are all that entries tell
-  pub all_told : (es : List (ReadEntry V)) → length (flat_map numbers_told es)
+  pub all_told : (es : List (ReadEntry V)) → length (flat_map entry_numbers es)
       ≡ length (flat_map numbers_given es) + length (flat_map numbers_missed es) + length (flat_map numbers_cleared es)
   all_told [] = grind arith
   all_told (e ∷ es) = grind (arith, cases_Bool, length-append, length-range_with_len, all_told es)

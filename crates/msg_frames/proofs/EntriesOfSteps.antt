@@ -5,7 +5,7 @@ use Rattle.msg_world.specs.Prelude.{Values, WorldState}
 use Rattle.msg_system.specs.{declared.limits.TheConstants.MAX_OPS, declared.op.Op.Op, declared.reply.Reply.Reply}
 use Rattle.msg_system.specs.Prelude.{AfterOp, AfterProgram, Job, Meaning, Step, after_at_most, after_job, after_op, next_op, one_more, ops_answered, refusal, turn}
 use Rattle.msg_system.proofs.{Turns.cut_answers_none, Turns.ops_answered-snoc, TurnsEnd.turn_is_over}
-use Rattle.msg_frames.specs.Prelude.{Outcome, ReadEntry, entries_at, entries_for, entries_told, entry_for, outcome_of, replies_of}
+use Rattle.msg_frames.specs.Prelude.{Outcome, ReadEntry, entries_at, entries_for, entries_of_turns, entry_for, outcome_of, replies_of}
 
 module _ {V : Type 0} {values : Values V} (t : ℕ) (m : Meaning V) (w : WorldState values) where
   -- so far all ops were answered
@@ -54,7 +54,7 @@ module _ {V : Type 0} (t : ℕ) where
 module _ {V : Type 0} where
   -- the entries for a type of a system whose turn came out so
   abbrev pub outcome_entries : ℕ → Meaning V → Outcome V → List (ReadEntry V)
-  outcome_entries t m outcome = entries_told t m.needs m.rule (replies_of outcome)
+  outcome_entries t m outcome = entries_of_turns t m.needs m.rule (replies_of outcome)
 
 module _ {V : Type 0} {values : Values V} where
   -- the entries that the outcome of a job tells are those of its steps

@@ -5,7 +5,7 @@ use Rattle.std.proofs.lemmas.{List.drop-append-le, List.drop-map, List.drop_more
 use Rattle.msg_buffer.specs.Prelude.{Entry as Written, GoesOn, History, Stretch, Tile, count, next_place}
 use Rattle.msg_buffer.proofs.Numbers.{instances-numbered, messages-numbered}
 use Rattle.msg_world.specs.declared.record.Record.{Record}
-use Rattle.msg_frames.specs.Prelude.{GivesItsStretch, IsTrueEntry, Moment, message_numbered, messages_of, numbers_told}
+use Rattle.msg_frames.specs.Prelude.{GivesItsStretch, IsTrueEntry, Moment, message_numbered, messages_of, entry_numbers}
 use Rattle.msg_order.proofs.Elements.{range-Contains}
 use Rattle.msg_frames.proofs.ReaderOverJob.{Begins, IsWritten, tile_of}
 
@@ -23,7 +23,7 @@ module _ {V : Type 0} where
   tiles_rise p (m ∷ ms) q tile = grind (arith, tiles_rise (next_place m.entry.stretch) ms q tile.1)
 
   pub tells_once : (p : ℕ) (ms : List (Moment V)) (q : ℕ) → Tile p (map tile_of ms) q
-      → flat_map numbers_told (map (λ m. m.entry) ms) ≡ range_with_len p (q - p)
+      → flat_map entry_numbers (map (λ m. m.entry) ms) ≡ range_with_len p (q - p)
   tells_once p [] q tile = grind arith
   tells_once p (m ∷ ms) q tile =
       let s : Stretch = m.entry.stretch in

@@ -5,7 +5,7 @@ use Rattle.std.specs.List.{range_with_len}
 use Rattle.msg_buffer.specs.Prelude.{History, IsPresent, count}
 use Rattle.msg_world.specs.{Prelude.Values, declared.record.Record.Record}
 use Rattle.msg_frames.specs.{Steps.IsWrittenOnce, declared.frame.Frame.Frame}
-use Rattle.msg_frames.specs.Entries.{ReadEntry, numbers_missed, numbers_passed, numbers_told, totals_from, with_entries}
+use Rattle.msg_frames.specs.Entries.{ReadEntry, numbers_missed, numbers_passed, entry_numbers, totals_from, with_entries}
 use Rattle.msg_frames.specs.Frames.{State, join_flags, run}
 use Rattle.msg_frames.specs.Moments.{Moment, found_at, moments, reader_place}
 
@@ -41,7 +41,7 @@ pub record IsServed {V : Type 0} {values : Values V} (i t : ℕ) (frames : List 
     (s : State values) : Type 0 where
   -- Its entries tell each number from where it was found to its place: once, in order, no other.
   pub forward : found_at s (run frames s).state i t ≤ reader_place (run frames s).state i t
-  pub once : flat_map numbers_told (entries_in_run i t frames s)
+  pub once : flat_map entry_numbers (entries_in_run i t frames s)
       ≡ range_with_len (found_at s (run frames s).state i t)
       (reader_place (run frames s).state i t - found_at s (run frames s).state i t)
   -- each is true

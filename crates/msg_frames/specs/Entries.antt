@@ -59,8 +59,8 @@ module _ {V : Type 0} where
   numbers_missed e = range_with_len (e.stretch.first - e.stretch.missed) e.stretch.missed
 
   -- the numbers that it accounts for
-  abbrev pub numbers_told : ReadEntry V → List ℕ
-  numbers_told e = numbers_missed e ++ numbers_passed e
+  abbrev pub entry_numbers : ReadEntry V → List ℕ
+  entry_numbers e = numbers_missed e ++ numbers_passed e
 
   -- those that it gave, and those that it cleared
   abbrev pub numbers_given : ReadEntry V → List ℕ

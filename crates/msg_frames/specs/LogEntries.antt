@@ -14,7 +14,7 @@ module _ {V : Type 0} where
   ops_by n rule replies = ops_answered (next_done n (rule [])) replies
 
   -- The entries for a type of a system whose turns, one after the other, have these replies.
-  abbrev pub entries_told : ℕ → Needs → Rule V → List (List (Reply V)) → List (ReadEntry V)
-  entries_told t n rule [] = []
-  entries_told t n rule (replies ∷ turns) = entries_for t (ops_by n rule replies) replies
-      ++ entries_told t n (λ later now. rule (replies ∷ later) now) turns
+  abbrev pub entries_of_turns : ℕ → Needs → Rule V → List (List (Reply V)) → List (ReadEntry V)
+  entries_of_turns t n rule [] = []
+  entries_of_turns t n rule (replies ∷ turns) = entries_for t (ops_by n rule replies) replies
+      ++ entries_of_turns t n (λ later now. rule (replies ∷ later) now) turns

@@ -10,8 +10,8 @@ use Rattle.msg_frames.specs.{declared.log.Log.Log, declared.log.Outcome.Outcome,
 
 module _ {V : Type 0} {values : Values V} where
   -- the messages that steps tell were written to type t
-  abbrev pub told : ℕ → List (ℕ × Step values) → List (ℕ × Record V)
-  told t steps = flat_map (λ x. wrote t x.0 x.1.op x.1.reply) steps
+  abbrev pub written_in : ℕ → List (ℕ × Step values) → List (ℕ × Record V)
+  written_in t steps = flat_map (λ x. wrote t x.0 x.1.op x.1.reply) steps
 
 module _ {V : Type 0} where
   -- all messages ever written, each with its number
@@ -22,7 +22,7 @@ module _ {V : Type 0} where
 pub record IsWrittenOnce {V : Type 0} {values : Values V} (t : ℕ) (w : WorldState values)
     (steps : List (ℕ × Step values))
     (v : WorldState values) : Type 0 where
-  pub grew : all_written (v.histories t) ≡ all_written (w.histories t) ++ told t steps
+  pub grew : all_written (v.histories t) ≡ all_written (w.histories t) ++ written_in t steps
 
 -- ---- what was answered
 

@@ -4,7 +4,7 @@ use Rattle.std.proofs.lemmas.List.{length-map, take_all, Folds.list_all-map}
 use Rattle.std.specs.declared.alloc.Global.{Global}
 use Rattle.serde_json.specs.{Data.Data, Find.as_array, View.view, View.items_of, View.items_view, View.members_view, declared.value.Value.Value}
 use Rattle.msg_json.specs.Prelude.{Reading, Reads, elements, inside, keys_of, list_of, values_from, ◌>>=◌}
-use Rattle.msg_json.specs.declared.location.Step.{Step}
+use Rattle.msg_json.specs.declared.location.PathStep.{PathStep}
 
 -- ---- lists in serde_json's form, and in ours
 
@@ -53,7 +53,7 @@ behind_more xs x (Ok ys) = ap (λ l. Ok l) (sym (append_assoc xs (x ∷ []) ys))
 behind_more xs x (Err e) = refl
 
 -- what may want memory, within an element
-pub Reads_inside : {A : Type 0} (step : Step) (reading answer : Reading A) → Reads reading answer
+pub Reads_inside : {A : Type 0} (step : PathStep) (reading answer : Reading A) → Reads reading answer
     → Reads (inside step reading) (inside step answer)
 Reads_inside step reading (Ok a) h = rw h refl
 Reads_inside step reading (Err e) (inl h) = inl h

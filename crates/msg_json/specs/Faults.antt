@@ -8,8 +8,8 @@ use Rattle.msg_json.specs.declared.file_fault.FileFault.TheVariants as file_faul
 use Rattle.msg_json.specs.declared.location.Location.{Location}
 use Rattle.msg_json.specs.declared.location.Key.{Key}
 use Rattle.msg_json.specs.declared.location.Key.TheVariants as key
-use Rattle.msg_json.specs.declared.location.Step.{Step}
-use Rattle.msg_json.specs.declared.location.Step.TheVariants as step
+use Rattle.msg_json.specs.declared.location.PathStep.{PathStep}
+use Rattle.msg_json.specs.declared.location.PathStep.TheVariants as step
 use Rattle.msg_json.specs.declared.reason.Reason.{Reason}
 use Rattle.msg_json.specs.declared.reason.Reason.TheVariants as reason
 use Rattle.msg_json.specs.declared.refusal.Refusal.{Refusal}
@@ -108,7 +108,7 @@ found (Some a) why = Ok a
 -- ---- a fault within what is read lies deeper
 
 -- a location within what the step leads to, as it is told from where the step begins
-abbrev pub after : Step → Location → Location
+abbrev pub after : PathStep → Location → Location
 after (step.Section k) l = record l { section = Some k }
 after (step.Element n) l = record l { element = Some n }
 after (step.Key k) l = record l { key = Some k }
@@ -118,7 +118,7 @@ after (step.Part n) l = record l { part = Some n }
 after (step.Value n) l = record l { value = Some n }
 
 -- what was read where a step leads: its fault lies there
-abbrev pub inside : {A : Type 0} → Step → Reading A → Reading A
+abbrev pub inside : {A : Type 0} → PathStep → Reading A → Reading A
 inside s (Ok a) = Ok a
 inside s (Err e) = Err (record e { location = after s e.location })
 

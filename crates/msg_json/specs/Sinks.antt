@@ -23,9 +23,9 @@ failures_after n (Ok k) [] = n
 failures_after n (Ok k) (x ∷ xs) = if k == 0 then one_failure_more n else n
 
 -- a sink's answer that tells the answer of a writer: its number, or that it failed
-abbrev pub IsToldAs : {E F : Type 0} → Result ℕ E → Result ℕ F → Type 0
-IsToldAs (Ok n) told = told ≡ Ok n
-IsToldAs (Err e) told = IsErr told
+abbrev pub IsAnsweredAs : {E F : Type 0} → Result ℕ E → Result ℕ F → Type 0
+IsAnsweredAs (Ok n) answer = answer ≡ Ok n
+IsAnsweredAs (Err e) answer = IsErr answer
 
 -- known bytes grow by a front of a text
 abbrev pub AppendsPrefix : Option (List ℕ) → Option (List ℕ) → List ℕ → Type 0

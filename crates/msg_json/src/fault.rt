@@ -3,7 +3,7 @@ ghost use Rattle.std.specs.Prelude.{◌≡◌};
 ghost use Rattle.msg_json.specs.declared.reason.Reason.TheVariants.{NoMemory as NoRoom};
 ghost use Rattle.msg_json.specs.Faults as Spec;
 
-use crate::location::{Location, Step};
+use crate::location::{Location, PathStep};
 use crate::reason::Reason;
 use msg_buffer::NoMemory;
 use std::alloc::AllocFailed;
@@ -44,7 +44,7 @@ impl<T: Drop> From<AllocFailed<T>> for Fault {
 }
 
 /// What was read at this step within what is read: a fault of it lies there.
-pub fn inside<T>(step: Step, read: Result<T, Fault>) -> Result<T, Fault>
+pub fn inside<T>(step: PathStep, read: Result<T, Fault>) -> Result<T, Fault>
     ensures inside { result ≡ Spec.inside step read }
 {
     match read {

@@ -20,7 +20,9 @@ mod std_sink;
 pub use fault::Fault;
 pub use file_fault::FileFault;
 pub use limits::{MAX_LIMIT, MAX_VALUES};
-pub use location::{CALLS_KEYS, Key, Location, SCENARIO_KEYS, SYSTEM_KEYS, Step, is_calls_file};
+pub use location::{
+    CALLS_KEYS, Key, Location, PathStep, SCENARIO_KEYS, SYSTEM_KEYS, is_calls_file,
+};
 pub use memory_sink::{CAPACITY, MemorySink};
 pub use msg_buffer::NoMemory;
 pub use msg_world::RunFault;

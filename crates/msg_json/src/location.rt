@@ -90,7 +90,7 @@ fn count(keys: &[Key], file: &Value) -> usize
 
 /// A step from a value of a file to what stands within it.
 #[derive(Clone, Copy, Debug, PartialEq, Eq)]
-pub enum Step {
+pub enum PathStep {
     /// To the section of this key.
     Section(Key),
     /// To this element of a section.
@@ -147,32 +147,32 @@ impl Location {
     }
 
     /// A location within what this step leads to, as it is told from where the step begins.
-    pub fn after(self, step: Step) -> Location
+    pub fn after(self, step: PathStep) -> Location
         ensures after { result ≡ after step self }
     {
         match step {
-            Step::Section(key) => Location {
+            PathStep::Section(key) => Location {
                 section: Some(key),
                 ..self
             },
-            Step::Element(n) => Location {
+            PathStep::Element(n) => Location {
                 element: Some(n),
                 ..self
             },
-            Step::Key(key) => Location {
+            PathStep::Key(key) => Location {
                 key: Some(key),
                 ..self
             },
-            Step::Item(n) => Location {
+            PathStep::Item(n) => Location {
                 item: Some(n),
                 ..self
             },
-            Step::Nots(nots) => Location { nots, ..self },
-            Step::Part(n) => Location {
+            PathStep::Nots(nots) => Location { nots, ..self },
+            PathStep::Part(n) => Location {
                 part: Some(n),
                 ..self
             },
-            Step::Value(n) => Location {
+            PathStep::Value(n) => Location {
                 value: Some(n),
                 ..self
             },

@@ -6,7 +6,7 @@ ghost use Rattle.msg_json.specs.{Faults.Reads, Json.is_number, Seen.items_seen, 
 
 use crate::fault::{Fault, inside};
 use crate::limits::{MAX_LIMIT, MAX_VALUES};
-use crate::location::Step;
+use crate::location::PathStep;
 use crate::reason::Reason;
 use msg_world::Items;
 use serde_json::{Number, Value};
@@ -109,7 +109,7 @@ fn whole_numbers(alloc: Global, items: &[Value]) -> Result<Items<i64>, Fault>
 {
     let mut values = Vec::new(alloc);
     for item in items {
-        values.push(inside(Step::Value(values.len()), value(item))?)?;
+        values.push(inside(PathStep::Value(values.len()), value(item))?)?;
     }
     Ok(Items::from_vec(values))
 }

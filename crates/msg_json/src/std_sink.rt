@@ -1,6 +1,6 @@
 ghost use Rattle.std.specs.Prelude.{◌≡◌, ◌≤◌, ℕ, Result, IfOk, length};
 ghost use Rattle.std.specs.{Io.KnownBytes.WriteAppends, declared.io.Error.Error};
-ghost use Rattle.msg_json.specs.Sinks.{IsToldAs, failures_after};
+ghost use Rattle.msg_json.specs.Sinks.{IsAnsweredAs, failures_after};
 
 use crate::sink::{PutFault, Sink};
 use std::io::Write;
@@ -43,7 +43,7 @@ impl<W: Write> Sink for StdSink<W> {
         ensures counts { self.new.failures ≡ failures_after self.old.failures result piece.now }
 
         // The answer is the writer's: the number that it took, and `PutFault` for any error.
-        ensures answer { (told : Result ℕ Error) × IsToldAs told result
+        ensures answer { (came : Result ℕ Error) × IsAnsweredAs came result
             × WriteAppends (W.contents self.old.writer) (W.contents self.new.writer)
             told piece.now }
     {

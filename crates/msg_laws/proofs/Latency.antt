@@ -16,28 +16,28 @@ use Rattle.msg_frames.proofs.SystemsStay.{frame_keeps}
 use Rattle.msg_frames.proofs.WrittenOnce.{before_writes, run_writes, turns_write, written_further}
 use Rattle.msg_frames.specs.declared.frame.Frame.{Frame}
 use Rattle.msg_frames.specs.Frames.{settled_order, turn_order}
-use Rattle.msg_frames.specs.Prelude.{IsSoundState, IsTrueEntry, IsWrittenOnce, Moment, State, after_turn_of, after_turns_of, all_written, before_turns, entries_in_run, found_at, frame, join_flags, moments, numbers_missed, post_steps, reader_place, run, told, turn_of, turns_steps}
-use Rattle.msg_laws.proofs.{LateStarts.found_new, LateStarts.joined_still, OneTurn.others_go_on, OrderOfTurns.are_ordered, WritersInOrder.is_by, WritersInOrder.told_by}
+use Rattle.msg_frames.specs.Prelude.{IsSoundState, IsTrueEntry, IsWrittenOnce, Moment, State, after_turn_of, after_turns_of, all_written, before_turns, entries_in_run, found_at, frame, join_flags, moments, numbers_missed, post_steps, reader_place, run, written_in, turn_of, turns_steps}
+use Rattle.msg_laws.proofs.{LateStarts.found_new, LateStarts.joined_still, OneTurn.others_go_on, OrderOfTurns.are_ordered, WritersInOrder.is_by, WritersInOrder.by_writer}
 use Rattle.msg_laws.proofs.ReadersStayUpToDate.{caught_up, frame_recent, has_frame_before, is_there, joined_by_turn, new_recent}
 use Rattle.msg_laws.proofs.StampsStayRecent.{AreRecent, earlier_recent}
-use Rattle.msg_laws.specs.Prelude.{AllReadersHaveItNext, HasTaken, LaterReadersHaveItAtOnce, NothingDrained, PostsAreTakenAtOnce, told_to}
+use Rattle.msg_laws.specs.Prelude.{AllReadersHaveItNext, HasTaken, LaterReadersHaveItAtOnce, NothingDrained, PostsAreTakenAtOnce, written_by}
 
 -- ---- the numbers that are told
 
 module _ {V : Type 0} {values : Values V} (t n : ℕ) (m : Record V) where
   -- what steps tell was written between the states that they lead from and to
-  told_between : (w : WorldState values) (steps : List (ℕ × Step values)) (v : WorldState values)
+  written_between : (w : WorldState values) (steps : List (ℕ × Step values)) (v : WorldState values)
       → IsWrittenOnce t w steps v
-      → Contains (told t steps) (n, m) → (count (w.histories t) ≤ n) × (n < count (v.histories t))
-  told_between w steps v once c =
+      → Contains (written_in t steps) (n, m) → (count (w.histories t) ≤ n) × (n < count (v.histories t))
+  written_between w steps v once c =
       let message = λ (e : Entry (Record V)). e.message in
       let old : List (ℕ × Record V) = all_written (w.histories t) in
       let all : List (Record V) = map message (v.histories t).entries in
       let before = length-enumerate_from 0 (map message (w.histories t).entries) in
-      let long : length old + length (told t steps) ≡ length all =
-      omega (arith, ap length once.grew, length-append old (told t steps), length-enumerate_from 0 all) in
+      let long : length old + length (written_in t steps) ≡ length all =
+      omega (arith, ap length once.grew, length-append old (written_in t steps), length-enumerate_from 0 all) in
       let place = get_or-enumerate_from 0 all (length old + c.0) (n, m) (omega (arith, long, c.1)) in
-      let at = sym (rw (once.grew) at place) ∙ get_or-append-add old (told t steps) c.0 (n, m) ∙ c.2 in
+      let at = sym (rw (once.grew) at place) ∙ get_or-append-add old (written_in t steps) c.0 (n, m) ∙ c.2 in
       let same : length old + c.0 ≡ n = omega (arith, ap (λ (x : ℕ × Record V). x.0) at) in (
         omega (arith, same, before, length-map (w.histories t).entries message),
         omega (arith, same, long, c.1, length-map (v.histories t).entries message),
@@ -45,9 +45,9 @@ module _ {V : Type 0} {values : Values V} (t n : ℕ) (m : Record V) where
 
 module _ {V : Type 0} {values : Values V} (t i : ℕ) where
   -- what one system is told is among what is told
-  told_by_one : (steps : List (ℕ × Step values)) (n : ℕ) (m : Record V) → Contains (told_to i t steps) (n, m)
-      → Contains (told t steps) (n, m)
-  told_by_one steps n m c = (filter-Contains (is_by i) (told t steps) (n, m) (rw (told_by i t steps) at c)).0
+  by_this_writer : (steps : List (ℕ × Step values)) (n : ℕ) (m : Record V) → Contains (written_by i t steps) (n, m)
+      → Contains (written_in t steps) (n, m)
+  by_this_writer steps n m c = (filter-Contains (is_by i) (written_in t steps) (n, m) (rw (by_writer i t steps) at c)).0
 
 -- ---- what a run does with a message that is new in its first frame
 
@@ -90,7 +90,7 @@ module _ {V : Type 0} {values : Values V} where
         let found : ℕ = found_at s u j t in
         let within = found_within f fs s j t sound below has in
         record {
-          told = rw (((runs_are_complete (f ∷ fs) s sound).served j t below still).once)
+          counted = rw (((runs_are_complete (f ∷ fs) s sound).served j t below still).once)
               (Contains-range found (reader_place u j t - found) n (omega (arith, within, above)) (omega (arith, passed, within, above)));
           not_missed = not_missed above recent;
         }
@@ -104,8 +104,8 @@ module _ {V : Type 0} {values : Values V} where
       let sound_mid : IsSoundState mid = frame_sound f s sound in
       let below_mid : t < mid.types = rw ((frame_keeps (turn_order (before_turns f.posts s)) f s).types) below in
       let wrote_once = rw (append-nil (frame f s).steps) at (run_writes t (f ∷ []) s sound) in
-      let told_so = told_by_one t i (frame f s).steps n m c in
-      let at = told_between t n m s.world (frame f s).steps mid.world wrote_once told_so in
+      let told_so = by_this_writer t i (frame f s).steps n m c in
+      let at = written_between t n m s.world (frame f s).steps mid.world wrote_once told_so in
       let passed = has_frame_before next mid j t sound_mid below_mid reads in
       let updated : AreRecent 1 p ((after_update mid.world).histories t) = λ k e from is.
       grind (arith, cases_Bool, new_recent f s j t sound below k e from, is) in
@@ -135,7 +135,7 @@ module _ {V : Type 0} {values : Values V} where
   posts_at_once f s j t sound below reads n m c =
       let b : State values = before_turns f.posts s in
       let cuts : Cut (turn_order b) j = cut (turn_order b) j reads.has_turn in
-      let at = told_between t n m s.world (post_steps f.posts (after_update s.world)) b.world (before_writes t f.posts s) c in
+      let at = written_between t n m s.world (post_steps f.posts (after_update s.world)) b.world (before_writes t f.posts s) c in
       let passed = caught_up f s j t sound below reads cuts.before cuts.rest cuts.is in
       let more = counts_more _ _ (others_go_on f s j cuts.before cuts.rest cuts.is t sound below) in
       let has = joined_by_turn f s j t sound below reads.has_turn in
@@ -162,7 +162,7 @@ module _ {V : Type 0} {values : Values V} where
       let late : List (ℕ × Step values) = turns_steps (j ∷ cuts.rest) found in
       let by_one = λ (x : ℕ × Step values). x.0 == i in
       let none = no_steps_of i (j ∷ cuts.rest) found out in
-      let parted : told_to i t (posts ++ turns_steps (cuts.before ++ j ∷ cuts.rest) b) ≡ told_to i t early =
+      let parted : written_by i t (posts ++ turns_steps (cuts.before ++ j ∷ cuts.rest) b) ≡ written_by i t early =
       rw (
         turns_steps_append cuts.before (j ∷ cuts.rest) b,
         ← append_assoc posts (turns_steps cuts.before b) late,
@@ -170,11 +170,11 @@ module _ {V : Type 0} {values : Values V} where
         none,
         append-nil,
       ) refl in
-      let early_alone = ap (λ (o : List ℕ). told_to i t (posts ++ turns_steps o b)) cuts.is ∙ parted in
+      let early_alone = ap (λ (o : List ℕ). written_by i t (posts ++ turns_steps o b)) cuts.is ∙ parted in
       let own = λ (k : ℕ) (at : Contains cuts.before k).
       ready.writers k (turn_below b k (rw (cuts.is) (Contains-append_left cuts.before (j ∷ cuts.rest) k at))) in
       let once = written_further t _ _ _ _ _ (before_writes t f.posts s) (turns_write t cuts.before b own) in
-      let at = told_between t n m s.world early found.world once (told_by_one t i early n m (rw early_alone at c)) in
+      let at = written_between t n m s.world early found.world once (by_this_writer t i early n m (rw early_alone at c)) in
       let passed = caught_up f s j t sound below reads cuts.before cuts.rest cuts.is in
       let has = joined_by_turn f s j t sound below reads.has_turn in
       has_taken f [] s j t n sound below has at.0 (omega (arith, at.1, passed))

@@ -1,7 +1,7 @@
 -- What the logs of a run tell of a reader is what it went past.
 use Rattle.msg_frames.proofs.{EntriesOfSteps.job_logged, ReaderOverJob.entries_are, ReaderOverRun.run_further, ReaderOverTurns.answers_among, ReaderOverTurns.own_moments, ReaderOverTurns.turns_further, ReaderOverTurns.turns_moments, SystemsStay.before_keeps, SystemsStay.one_turn_keeps}
 use Rattle.msg_frames.specs.{Frames.turn_order, declared.frame.Frame.Frame}
-use Rattle.msg_frames.specs.Prelude.{Moment, State, after_turn_of, after_turns_of, answers_in, before_turns, entries_told, frame, logged_turn, moments, outcome_of, replies_of, run}
+use Rattle.msg_frames.specs.Prelude.{Moment, State, after_turn_of, after_turns_of, answers_in, before_turns, entries_of_turns, frame, logged_turn, moments, outcome_of, replies_of, run}
 use Rattle.msg_laws.specs.Prelude.{LogsTellEntries}
 use Rattle.msg_system.specs.{Prelude.Job, Prelude.Needs, Prelude.Rule, Prelude.after_job, declared.reply.Reply.Reply}
 use Rattle.msg_world.specs.Prelude.{Values, WorldState}
@@ -13,15 +13,15 @@ module _ {V : Type 0} where
   abbrev pub after_told : List (List (Reply V)) → Rule V → Rule V
   after_told turns rule = λ later now. rule (turns ++ later) now
 
-  pub entries_told-append : (t : ℕ) (n : Needs) (rule : Rule V) (xs ys : List (List (Reply V)))
-      → entries_told t n rule (xs ++ ys) ≡ entries_told t n rule xs ++ entries_told t n (after_told xs rule) ys
-  entries_told-append t n rule [] ys = refl
-  entries_told-append t n rule (x ∷ xs) ys =
-      grind (arith, append_assoc, entries_told-append t n (after_told (x ∷ []) rule) xs ys)
+  pub entries_of_turns-append : (t : ℕ) (n : Needs) (rule : Rule V) (xs ys : List (List (Reply V)))
+      → entries_of_turns t n rule (xs ++ ys) ≡ entries_of_turns t n rule xs ++ entries_of_turns t n (after_told xs rule) ys
+  entries_of_turns-append t n rule [] ys = refl
+  entries_of_turns-append t n rule (x ∷ xs) ys =
+      grind (arith, append_assoc, entries_of_turns-append t n (after_told (x ∷ []) rule) xs ys)
 
 -- what the turn of system j tells of system i, and what system i does from then on
 pub record Tells {V : Type 0} {values : Values V} (i t : ℕ) (s : State values) (turns : List (List (Reply V))) (ms : List (Moment V)) (u : State values) : Type 0 where
-  pub entries : entries_told t (s.members i).job.system.needs (s.members i).job.system.rule turns
+  pub entries : entries_of_turns t (s.members i).job.system.needs (s.members i).job.system.rule turns
       ≡ map (λ m. m.entry) ms
   pub rule : (u.members i).job.system.rule ≡ after_told turns (s.members i).job.system.rule
   pub needs : (u.members i).job.system.needs ≡ (s.members i).job.system.needs
@@ -32,7 +32,7 @@ module _ {V : Type 0} {values : Values V} where
       → Tells i t a xs ms b → Tells i t b ys ns c → Tells i t a (xs ++ ys) (ms ++ ns) c
   tells_further i t a xs ms b ys ns c x y =
       let m = (a.members i).job.system in
-      grind (arith, append_assoc, entries_told-append t m.needs m.rule xs ys, map-append)
+      grind (arith, append_assoc, entries_of_turns-append t m.needs m.rule xs ys, map-append)
 
   -- after a job, the rule of its system also takes in the replies of that job
   job_rule : (j : Job V) (w : WorldState values) → (after_job j w).job.system.rule

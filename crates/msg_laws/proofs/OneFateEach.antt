@@ -5,7 +5,7 @@ use Rattle.std.specs.List.{range_with_len}
 use Rattle.msg_buffer.specs.Prelude.{History}
 use Rattle.msg_world.specs.{Prelude.Values, declared.record.Record.Record}
 use Rattle.msg_frames.proofs.EntriesAddUp.{all_told}
-use Rattle.msg_frames.specs.Prelude.{IsTrueEntry, Moment, ReadEntry, entries_in_run, found_at, message_numbered, moments, numbers_given, numbers_missed, numbers_passed, numbers_told, reader_place, run}
+use Rattle.msg_frames.specs.Prelude.{IsTrueEntry, Moment, ReadEntry, entries_in_run, found_at, message_numbered, moments, numbers_given, numbers_missed, numbers_passed, entry_numbers, reader_place, run}
 use Rattle.msg_laws.specs.Prelude.{EachMeetsOneFate, Fate, Meets, cleared, given, messages_given, missed, numbers_at, numbers_of}
 use Rattle.msg_order.proofs.{Elements.Contains-range, Elements.flat_map-Contains, Elements.range-Contains, TurnOrders.pairs_append}
 
@@ -40,18 +40,18 @@ module _ {V : Type 0} where
   TellOnce a [] b = a ≡ b
   TellOnce a (e ∷ es) b = TellsFrom a e × TellOnce (past a e) es b
 
-  tell_once : (es : List (ReadEntry V)) (a b : ℕ) → a ≤ b → flat_map numbers_told es ≡ range_with_len a (b - a)
+  tell_once : (es : List (ReadEntry V)) (a b : ℕ) → a ≤ b → flat_map entry_numbers es ≡ range_with_len a (b - a)
       → TellOnce a es b
   tell_once [] a b up is = omega (arith, up, ap length is, length-range_with_len a (b - a))
   tell_once (e ∷ es) a b up is =
       let first = length-range_with_len (e.stretch.first - e.stretch.missed) e.stretch.missed in
       let second = length-range_with_len e.stretch.first e.stretch.number in
-      let both : length (numbers_told e) ≡ e.stretch.missed + e.stretch.number =
+      let both : length (entry_numbers e) ≡ e.stretch.missed + e.stretch.number =
       omega (arith, first, second, length-append (numbers_missed e) (numbers_passed e)) in
-      let cut = range_cut (numbers_told e) (flat_map numbers_told es) a (b - a) is in
-      let here = range_cut (numbers_missed e) (numbers_passed e) a (length (numbers_told e)) cut.1 in
-      let behind : a + length (numbers_told e) ≡ past a e = omega (arith, both) in
-      let more : b - a - length (numbers_told e) ≡ b - past a e = omega (arith, both, up) in
+      let cut = range_cut (entry_numbers e) (flat_map entry_numbers es) a (b - a) is in
+      let here = range_cut (numbers_missed e) (numbers_passed e) a (length (entry_numbers e)) cut.1 in
+      let behind : a + length (entry_numbers e) ≡ past a e = omega (arith, both) in
+      let more : b - a - length (entry_numbers e) ≡ b - past a e = omega (arith, both, up) in
       let rest = tell_once es (past a e) b (omega (arith, both, cut.0, up)) (rw (behind, more) at cut.2) in (
         record {
           missed_there = grind (arith, first, here);

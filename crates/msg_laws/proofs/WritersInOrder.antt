@@ -8,8 +8,8 @@ use Rattle.msg_buffer.specs.Prelude.{Entry, History}
 use Rattle.msg_world.specs.{Prelude.Values, Prelude.by, declared.record.Record.Record}
 use Rattle.msg_system.specs.{Prelude.Step, Prelude.wrote, declared.op.Op.Op, declared.op.Op.TheVariants.Batch, declared.op.Op.TheVariants.Forward, declared.op.Op.TheVariants.Write, declared.reply.Reply.Reply, declared.reply.Reply.TheVariants.Forwarded, declared.reply.Reply.TheVariants.Wrote}
 use Rattle.msg_frames.proofs.ElementsAndPairs.{pairs_right}
-use Rattle.msg_frames.specs.Prelude.{IsTrueEntry, Moment, ReadEntry, all_written, message_numbered, moments, run, told}
-use Rattle.msg_laws.specs.Prelude.{WritersInOrder, numbered_given, told_to}
+use Rattle.msg_frames.specs.Prelude.{IsTrueEntry, Moment, ReadEntry, all_written, message_numbered, moments, run, written_in}
+use Rattle.msg_laws.specs.Prelude.{WritersInOrder, numbered_given, written_by}
 use Rattle.msg_order.proofs.Elements.{Contains-filter, flat_map-Contains, map-Contains, not_in_none}
 
 -- ---- a list with numbers
@@ -110,9 +110,9 @@ filter_flat f p q each (x ∷ xs) = grind (arith, cases_Bool (p x), filter-appen
 
 module _ {V : Type 0} {values : Values V} where
   -- what a writer was told that it wrote is what steps tell of its own messages
-  pub told_by : (writer t : ℕ) (steps : List (ℕ × Step values))
-      → told_to writer t steps ≡ filter (is_by writer) (told t steps)
-  told_by writer t steps =
+  pub by_writer : (writer t : ℕ) (steps : List (ℕ × Step values))
+      → written_by writer t steps ≡ filter (is_by writer) (written_in t steps)
+  by_writer writer t steps =
       filter_flat (λ (x : ℕ × Step values). wrote t x.0 x.1.op x.1.reply) (λ x. x.0 == writer) (is_by writer)
       (λ x. wrote_by writer t x.0 x.1.op x.1.reply) steps
 
@@ -124,7 +124,7 @@ module _ {V : Type 0} {values : Values V} where
       let steps = (run frames s).steps in
       let grew = (complete.written t).grew in
       let old : List (ℕ × Record V) = all_written (s.world.histories t) in
-      let new = told t steps in
+      let new = written_in t steps in
       let message = λ (e : Entry (Record V)). e.message in
       let all = numbers_rise (map message last.entries) 0 in
       let rise : AllPairs Rise new = pairs_right Rise old new (rw grew at all) in
@@ -138,8 +138,8 @@ module _ {V : Type 0} {values : Values V} where
                   inl (omega (arith, at.1, length-map (s.world.histories t).entries message))
               | inr after ↦
                   let own_too = Contains-filter (is_by writer) new (n, m) after (eq-eqb m.writer writer own) in
-                  inr (rw (told_by writer t steps) own_too)
+                  inr (rw (by_writer writer t steps) own_too)
             ];
-        in_order = rw (told_by writer t steps)
+        in_order = rw (by_writer writer t steps)
             (is_increasing (filter (is_by writer) new) (AllPairs-filter Rise (is_by writer) new rise));
       }

@@ -6,14 +6,14 @@ use Rattle.msg_buffer.specs.Prelude.{History, IsPresent, Tile, count}
 use Rattle.msg_world.specs.{Prelude.Values, declared.record.Record.Record}
 use Rattle.msg_system.specs.Prelude.{Meaning, Step}
 use Rattle.msg_frames.specs.{declared.frame.Frame.Frame, declared.log.Log.Log}
-use Rattle.msg_frames.specs.Prelude.{GivesItsStretch, IsCompleteRun, IsServed, IsSoundState, Moment, ReadEntry, State, answers_in, entries_in_run, entries_told, found_at, join_flags, message_numbered, moments, numbers_cleared, numbers_given, numbers_missed, reader_place, run, told}
+use Rattle.msg_frames.specs.Prelude.{GivesItsStretch, IsCompleteRun, IsServed, IsSoundState, Moment, ReadEntry, State, answers_in, entries_in_run, entries_of_turns, found_at, join_flags, message_numbered, moments, numbers_cleared, numbers_given, numbers_missed, reader_place, run, written_in}
 
 -- ---- the entries that logs have
 
 module _ {V : Type 0} where
   -- the entries for type t that the logs have of system i; m is what it meant before them
   abbrev pub log_entries : ℕ → ℕ → Meaning V → List (Log V) → List (ReadEntry V)
-  log_entries i t m logs = entries_told t m.needs m.rule (answers_in i logs)
+  log_entries i t m logs = entries_of_turns t m.needs m.rule (answers_in i logs)
 
 -- The logs of a run tell the entries of each reader.
 abbrev pub LogsTellEntries : {V : Type 0} → Values V → Type 0
@@ -93,8 +93,8 @@ EachMeetsOneFate {V} values = (i t : ℕ) (frames : List (Frame V)) (s : State v
 
 module _ {V : Type 0} {values : Values V} where
   -- what this writer was told that it wrote to type t
-  abbrev pub told_to : ℕ → ℕ → List (ℕ × Step values) → List (ℕ × Record V)
-  told_to writer t steps = told t (filter (λ x. x.0 == writer) steps)
+  abbrev pub written_by : ℕ → ℕ → List (ℕ × Step values) → List (ℕ × Record V)
+  written_by writer t steps = written_in t (filter (λ x. x.0 == writer) steps)
 
 -- A reader was given messages of this writer as it wrote them, in a run of these steps that found
 -- so many messages.
@@ -103,9 +103,9 @@ pub record IsInOrderOf {V : Type 0} {values : Values V} (writer t : ℕ) (es : L
     (steps : List (ℕ × Step values)) : Type 0 where
   -- each was there before, or the writer was told in the run that it wrote it, under that number
   pub as_told : (n : ℕ) (m : Record V) → Contains (numbered_given es) (n, m) → m.writer ≡ writer
-      → (n < found) ⊎ Contains (told_to writer t steps) (n, m)
+      → (n < found) ⊎ Contains (written_by writer t steps) (n, m)
   -- and it was told its numbers in order, as the reader is given them
-  pub in_order : IsStrictlyIncreasing (map (λ x. x.0) (told_to writer t steps))
+  pub in_order : IsStrictlyIncreasing (map (λ x. x.0) (written_by writer t steps))
 
 -- So it is in every complete run, for each writer.
 abbrev pub WritersInOrder : {V : Type 0} → Values V → Type 0

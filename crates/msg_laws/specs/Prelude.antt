@@ -1,5 +1,5 @@
 -- Hands on the definitions cited elsewhere.
-pub use Rattle.msg_laws.specs.Fates.{EachMeetsOneFate, Fate, IsGivenOnce, IsInOrderOf, IsTiled, LogsTellEntries, Meets, MeetsOneFate, ReadersTile, WritersInOrder, log_entries, messages_given, numbered_given, numbers_at, numbers_of, told_to}
+pub use Rattle.msg_laws.specs.Fates.{EachMeetsOneFate, Fate, IsGivenOnce, IsInOrderOf, IsTiled, LogsTellEntries, Meets, MeetsOneFate, ReadersTile, WritersInOrder, log_entries, messages_given, numbered_given, numbers_at, numbers_of, written_by}
 pub use Rattle.msg_laws.specs.Fates.Fate.{cleared, given, missed}
 pub use Rattle.msg_laws.specs.Latency.{AllReadersHaveItNext, HasTaken, LaterReadersHaveItAtOnce, PostsAreTakenAtOnce}
 pub use Rattle.msg_laws.specs.Observers.{IsWithoutObserver, ObserversDisturbNobody, ObserversMayBeAdded, rules_without, without_turns_of}

@@ -3,7 +3,7 @@ use Rattle.std.proofs.Common.{◌≡◌, ℕ, suc, ◌+◌, ◌≤◌, List, [],
 use Rattle.std.proofs.lemmas.{Bool.leb-true, List.Elements.All-cons, List.Elements.All-nil, Result.IfOk-at_ok, Result.IfOk-weaker}
 use Rattle.serde_json.specs.Data.{Data}
 use Rattle.msg_json.specs.Prelude.{Reading, elements, found, inside, is_list, list_up_to, wanted, ◌>>=◌}
-use Rattle.msg_json.specs.declared.location.Step.{Step}
+use Rattle.msg_json.specs.declared.location.PathStep.{PathStep}
 use Rattle.msg_json.specs.declared.reason.Reason.{Reason}
 use Rattle.msg_reading.specs.Prelude.{Declared, each_from, each_of}
 
@@ -14,7 +14,7 @@ in_then P (Ok x) g h = h x refl
 in_then P (Err e) g h = tt
 
 -- it holds of what is read at a place within the file
-pub within : {A : Type 0} (P : A → Type 0) (step : Step) (r : Reading A) → IfOk r P
+pub within : {A : Type 0} (P : A → Type 0) (step : PathStep) (r : Reading A) → IfOk r P
     → IfOk (inside step r) P
 within P step (Ok a) h = h
 within P step (Err e) h = tt

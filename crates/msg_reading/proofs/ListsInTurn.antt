@@ -4,7 +4,7 @@ use Rattle.std.proofs.lemmas.List.{append_assoc}
 use Rattle.serde_json.specs.{Data.Data, View.view, declared.value.Value.Value}
 use Rattle.msg_json.specs.Prelude.{Reading, inside, ◌>>=◌}
 use Rattle.msg_json.specs.declared.fault.Fault.{Fault}
-use Rattle.msg_json.specs.declared.location.Step.{Step}
+use Rattle.msg_json.specs.declared.location.PathStep.{PathStep}
 use Rattle.msg_reading.specs.Prelude.{Declared, each_from}
 use Rattle.msg_reading.specs.inner.Elements.{ReadsWith}
 
@@ -38,7 +38,7 @@ module _ {A : Type 0} (f : Declared → ℕ → Data → Reading (A × Declared)
     element_more x later h = record { so_far = left.so_far ∙ rw (is, h) (behind_more read x _) }
 
 -- what may want memory, at a place within the file
-pub ReadsWith_inside : {A : Type 0} (step : Step) (reading : Reading (A × Declared)) (names : Declared)
+pub ReadsWith_inside : {A : Type 0} (step : PathStep) (reading : Reading (A × Declared)) (names : Declared)
     (answer : Reading A) → ReadsWith reading names answer → ReadsWith (inside step reading) names (inside step answer)
 ReadsWith_inside step reading names (Ok a) h = rw h refl
 ReadsWith_inside step reading names (Err e) (inl h) = inl h

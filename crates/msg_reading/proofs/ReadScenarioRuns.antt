@@ -9,7 +9,7 @@ use Rattle.msg_frames.specs.declared.frame.Frame.{Frame}
 use Rattle.msg_json.specs.declared.location.TheConstants.{SCENARIO_KEYS, SYSTEM_KEYS}
 use Rattle.msg_json.specs.Prelude.{Reading, at_key, elements, in_element, in_item, in_key, in_part, known_keys, limit, not_negative, number_of, only_below, whole, Text}
 use Rattle.msg_json.specs.declared.location.Key.TheVariants as key
-use Rattle.msg_json.specs.declared.location.Step.TheVariants as step
+use Rattle.msg_json.specs.declared.location.PathStep.TheVariants as step
 use Rattle.msg_reading.specs.{Prelude.IsRunnable, Prelude.fits_kind, declared.kind.Kind.Kind, declared.scenario.Scenario.Scenario, declared.scenario.SystemSpec.SystemSpec}
 use Rattle.msg_frames.specs.declared.limits.TheConstants.{LAST_JOIN}
 use Rattle.msg_system.specs.declared.limits.TheConstants.{MAX_OPS}

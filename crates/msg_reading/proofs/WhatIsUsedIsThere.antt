@@ -8,7 +8,7 @@ use Rattle.msg_system.specs.Prelude.{FitsWorld, is_part, job_needs, op_parts, pr
 use Rattle.msg_system.specs.{declared.condition.Condition.Condition, declared.condition.Probe.Probe, declared.op.Op.Op}
 use Rattle.msg_order.specs.Prelude.{NamesBelow}
 use Rattle.msg_json.specs.Prelude.{Reading, elements, headed, in_nots, in_part, only_below, text_in, whole, ◌>>=◌, Text}
-use Rattle.msg_json.specs.declared.location.Step.TheVariants as step
+use Rattle.msg_json.specs.declared.location.PathStep.TheVariants as step
 use Rattle.msg_world.specs.declared.limits.TheConstants.{MAX_RESOURCES, MAX_SYSTEMS, MAX_TYPES}
 use Rattle.msg_reading.specs.declared.limits.TheConstants.{MOST_NESTED}
 use Rattle.msg_reading.specs.ScenarioFormat as Spec

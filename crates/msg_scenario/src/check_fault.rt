@@ -16,10 +16,10 @@ pub enum CheckFault {
 }
 
 impl From<NoMemory> for CheckFault {
-    ghost use Rattle.msg_scenario.specs.declared.check_fault.CheckFault.TheVariants.{Report as NotTold};
+    ghost use Rattle.msg_scenario.specs.declared.check_fault.CheckFault.TheVariants.{Report as NotReported};
     ghost use Rattle.msg_json.specs.declared.report_fault.ReportFault.TheVariants.{NoMemory as NoRoom};
 
-    ghost from_gives = { λ _ fault. fault ≡ NotTold NoRoom };
+    ghost from_gives = { λ _ fault. fault ≡ NotReported NoRoom };
 
     fn from(_error: NoMemory) -> Self {
         CheckFault::Report(ReportFault::NoMemory)
@@ -27,9 +27,9 @@ impl From<NoMemory> for CheckFault {
 }
 
 impl From<ReportFault> for CheckFault {
-    ghost use Rattle.msg_scenario.specs.declared.check_fault.CheckFault.TheVariants.{Report as NotTold};
+    ghost use Rattle.msg_scenario.specs.declared.check_fault.CheckFault.TheVariants.{Report as NotReported};
 
-    ghost from_gives = { λ came fault. fault ≡ NotTold came };
+    ghost from_gives = { λ came fault. fault ≡ NotReported came };
 
     fn from(came: ReportFault) -> Self {
         CheckFault::Report(came)

@@ -4,7 +4,7 @@ ghost use Rattle.serde_json.specs.View.{view};
 ghost use Rattle.msg_reading.specs.Prelude.{IsRunnable};
 ghost use Rattle.msg_json.specs.Prelude.{AppendsAtLeast};
 ghost use Rattle.msg_scenario.specs.Checked.{EndsCheck, IsEither, Passes};
-ghost use Rattle.msg_scenario.specs.inner.Checking.{EndsFor, EndsForEither, EndsUntold};
+ghost use Rattle.msg_scenario.specs.inner.Checking.{EndsFor, EndsForEither, EndsBeforeText};
 
 use crate::CheckFault;
 use msg_advice::{fault_lines, remarks_of, unfit_lines};
@@ -40,7 +40,7 @@ pub fn check_bytes<S: Sink>(alloc: Global, bytes: &[u8], sink: &mut S) -> Result
 /// scenario; or the lines that tell where they are refused, and why.
 fn check(alloc: Global, bytes: &[u8]) -> Result<Vec<u8>, CheckFault>
     ensures passed { OnOk result (Passes bytes.now) }
-    ensures refused { IfErr result (EndsUntold bytes.now) }
+    ensures refused { IfErr result (EndsBeforeText bytes.now) }
 {
     match parse(alloc, bytes) {
         Ok(value) => {

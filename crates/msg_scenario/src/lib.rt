@@ -18,13 +18,13 @@ pub use building::{engine_of, systems_of};
 pub use check_fault::CheckFault;
 pub use checking::check_bytes;
 pub use msg_advice::{
-    Clash, Form, Planned, clash_of, fault_lines, plan_frame, put_plan, round, scenario_of_engine,
-    unfit_lines,
+    Clash, Form, Planned, clash_of, fault_lines, plan_frame, put_plan, scenario_of_engine,
+    shortest_cycle, unfit_lines,
 };
 pub use msg_calls::{Call, Calls, check_calls, read_calls, run_calls};
 pub use msg_json::{
-    CAPACITY, Fault, FileFault, Key, Location, MemorySink, PutFault, Reason, Refusal, ReportFault,
-    Sink, StdSink, Step, put_all,
+    CAPACITY, Fault, FileFault, Key, Location, MemorySink, PathStep, PutFault, Reason, Refusal,
+    ReportFault, Sink, StdSink, put_all,
 };
 pub use msg_reading::{
     Kind, Name, Scenario, SystemSpec, check_scenario, read_scenario, read_sections,

@@ -13,7 +13,7 @@ use msg_frames::{Frame, Items};
 use msg_json::fault::inside;
 use msg_json::json::{list, text};
 use msg_json::numbers::{number, whole_number};
-use msg_json::{Fault, Reason, Step};
+use msg_json::{Fault, PathStep, Reason};
 use msg_reading::{Name, Scenario};
 use msg_world::{MAX_TYPES, TypeNo};
 use serde_json::Value;
@@ -77,7 +77,7 @@ fn read_posts(
 {
     let mut posts = Vec::new(alloc);
     for n in 0..items.len() {
-        let post = inside(Step::Item(n), read_post(scenario, &items[n]))?;
+        let post = inside(PathStep::Item(n), read_post(scenario, &items[n]))?;
         posts.push(post)?;
     }
     Ok(Items::from_vec(posts))
@@ -88,10 +88,10 @@ fn read_post(scenario: &Scenario, post: &Value) -> Result<(TypeNo, i64), Fault>
     ensures post { result ≡ post_of (names_of scenario.now) (view post.now) }
 {
     let (name, value) = two(post)?;
-    let name = inside(Step::Part(0), text(name))?;
-    let value = inside(Step::Part(1), number(value))?;
-    let of_type = inside(Step::Part(0), type_named(scenario, name))?;
-    Ok((of_type, inside(Step::Part(1), whole_number(value))?))
+    let name = inside(PathStep::Part(0), text(name))?;
+    let value = inside(PathStep::Part(1), number(value))?;
+    let of_type = inside(PathStep::Part(0), type_named(scenario, name))?;
+    Ok((of_type, inside(PathStep::Part(1), whole_number(value))?))
 }
 
 /// The two elements of a list of two.

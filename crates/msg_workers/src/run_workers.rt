@@ -21,7 +21,7 @@ const SPIN_LIMIT: u32 = 80_000;
 /// Returns once the jobs have run out, and at the latest after so many looks. After the first look
 /// it gives way, once: if it shares a processor with the worker that started it, that one draws
 /// on for a slice of time, in which it can run many short jobs.
-fn look(run_out: &AtomicBool) {
+fn wait_briefly(run_out: &AtomicBool) {
     if run_out.load(Ordering::SeqCst) {
         return;
     }
@@ -44,7 +44,7 @@ struct Shared<'a, R, W: Work, G> {
     /// worker that was started looks.
     run_out: &'a AtomicBool,
     /// How many workers but the first got a job. It decides only how many begin at once later.
-    came: &'a AtomicU32,
+    others_with_jobs: &'a AtomicU32,
 }
 
 /// The workers that are yet to begin: they are numbered from `next` on, and `at_once` of them, but
@@ -79,7 +79,7 @@ fn work_from<R: Threads + Sync, W: Runs + Send, G: Gate>(
     };
     let first = shared.board.draw(pass);
     if worker > 0 && first.is_some() {
-        shared.came.fetch_add(1, Ordering::SeqCst);
+        shared.others_with_jobs.fetch_add(1, Ordering::SeqCst);
     }
     let next = worker + 1;
     if first.is_none() || others.is_empty() {
@@ -158,7 +158,7 @@ fn work_beside<R: Threads + Sync, W: Runs + Send, G: Gate>(
             beside.exit.now }
     {
         if beside.len() > 1 {
-            look(shared.run_out);
+            wait_briefly(shared.run_out);
         }
         work_from(shared, next, 1, beside)
     };
@@ -196,7 +196,7 @@ pub fn run_jobs<R: Threads + Sync, W: Runs + Send, G: Gate>(
     let number = jobs.len() as u32;
     let most = workers.number().min(number).max(1);
     let run_out = AtomicBool::new(false);
-    let came = AtomicU32::new(0);
+    let others_with_jobs = AtomicU32::new(0);
     let (board, mut passes) = Board::<W>::new(alloc, jobs, most)?;
     let shared = Shared {
         rt,
@@ -204,9 +204,14 @@ pub fn run_jobs<R: Threads + Sync, W: Runs + Send, G: Gate>(
         board: &board,
         gate,
         run_out: &run_out,
-        came: &came,
+        others_with_jobs: &others_with_jobs,
     };
     let own = work_from(&shared, 0, habit.at_once, passes.as_mut_slice());
-    habit.learn(most, number, own, came.load(Ordering::SeqCst).min(most));
+    habit.learn(
+        most,
+        number,
+        own,
+        others_with_jobs.load(Ordering::SeqCst).min(most),
+    );
     board.close(alloc, passes)
 }

@@ -18,7 +18,7 @@ main_fault answer.Input = main.Input input.Failed
 
 -- the same, by why a file that was checked doesn't pass
 abbrev pub main_fault_of_check : CheckFault → MainFault
-main_fault_of_check (check.Refused why lines) = main.Told why lines
+main_fault_of_check (check.Refused why lines) = main.CheckFailed why lines
 main_fault_of_check (check.Report fault) = main.Report fault
 
 -- the status that the program ends with

@@ -135,7 +135,7 @@ fn check_as_main_fault(fault: CheckFault) -> MainFault
     ensures fault { result ≡ main_fault_of_check fault }
 {
     match fault {
-        CheckFault::Refused(why, lines) => MainFault::Told(why, lines),
+        CheckFault::Refused(why, lines) => MainFault::CheckFailed(why, lines),
         CheckFault::Report(fault) => MainFault::Report(fault),
     }
 }

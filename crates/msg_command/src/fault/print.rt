@@ -16,7 +16,7 @@ pub fn print_fault<S: Sink>(fault: &MainFault, sink: &mut S) -> u8
         (S.failures sink.old) (S.failures sink.new) (lines_of fault.now) }
     ensures status { result ≡ status_of fault.now }
 {
-    if let MainFault::Told(why, lines) = fault {
+    if let MainFault::CheckFailed(why, lines) = fault {
         let _ = put_both(refusal_line(*why), lines.as_slice(), sink);
     } else {
         let _ = put_all(sink, line_of(fault));
@@ -47,7 +47,7 @@ fn line_of(fault: &MainFault) -> &[u8]
         MainFault::Input(InputFault::Failed) => b"msgrun: cannot read input\n",
         MainFault::Input(InputFault::TooLarge) => b"msgrun: input too large\n",
         MainFault::Refused(refusal) => refusal_line(*refusal),
-        MainFault::Told(why, _) => refusal_line(*why),
+        MainFault::CheckFailed(why, _) => refusal_line(*why),
         MainFault::Report(ReportFault::Run(RunFault::Spoiled)) => b"msgrun: run fault 1 Spoiled\n",
         MainFault::Report(ReportFault::Run(RunFault::BadOrder)) => {
             b"msgrun: run fault 2 BadOrder\n"
@@ -91,7 +91,7 @@ fn status_of(fault: &MainFault) -> u8
         MainFault::Words(WordFault::Bad)
         | MainFault::Input(InputFault::TooLarge)
         | MainFault::Refused(_)
-        | MainFault::Told(..) => 2,
+        | MainFault::CheckFailed(..) => 2,
         _ => 1,
     }
 }

@@ -2,7 +2,7 @@
 ghost use Rattle.std.specs.Prelude.{◌≡◌, ◌⊎◌, [], IfOk, IfErr, OnOk, false, true};
 ghost use Rattle.clap.specs.{Words.App, Words.app_of, Words.with_subcommand, Words.rule_of, Words.fault_of, Words.takes, Words.subcommand_of, Words.subcommand_rows_of, Words.kind_of, declared.Command.out-Command as fields_of, declared.error.ErrorKind.TheVariants.OutOfMemory};
 ghost use Rattle.msg_command.specs.CommandLine.{bare_app};
-ghost use Rattle.msg_command.specs.Prelude.{IsShown, IsToldOf, buffer_app, check_app, dot_rule, file_app, file_rule, frame_rule, json_rule, msgrun_app, plan_app, run_app, serve_app, texts_of, workers_rule};
+ghost use Rattle.msg_command.specs.Prelude.{IsShown, IsWordFaultOf, buffer_app, check_app, dot_rule, file_app, file_rule, frame_rule, json_rule, msgrun_app, plan_app, run_app, serve_app, texts_of, workers_rule};
 ghost use Rattle.msg_command.specs.inner.Telling.{IsHelp};
 
 use crate::words::{WordFault, help};
@@ -235,7 +235,7 @@ pub(crate) fn matches<'a>(alloc: Global, words: &'a [String]) -> Result<ArgMatch
     ensures accepted { OnOk result (fault_of msgrun_app (texts_of words.entry.now) ≡ []) }
     ensures refused { IfErr result (λ e. takes msgrun_app (texts_of words.entry.now) ≡ true
         → e ≡ WordFault.NoMemory) }
-    ensures found { IfErr result (IsToldOf (fault_of msgrun_app (texts_of words.entry.now))) }
+    ensures found { IfErr result (IsWordFaultOf (fault_of msgrun_app (texts_of words.entry.now))) }
 {
     let Ok(command) = command(alloc) else {
         return Err(WordFault::NoMemory);

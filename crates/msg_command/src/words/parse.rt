@@ -1,6 +1,6 @@
 ghost use Rattle.std.specs.Prelude.{◌≡◌, ◌<◌, ◌≤◌, ◌⊎◌, [], IfSome, Some, None, true, IfOk, IfErr, OnOk, codes, string_bytes};
 ghost use Rattle.clap.specs.Words.{fault_of, takes, first_of, rows_of, found_of, subcommand_rows_of};
-ghost use Rattle.msg_command.specs.Prelude.{AsksForNone, IsInRange, IsToldOf, asked, asked_by, frame_asked, is_asked, msgrun_app, number_in, request_of, texts_of, workers_asked};
+ghost use Rattle.msg_command.specs.Prelude.{AsksForNone, IsInRange, IsWordFaultOf, asked, asked_by, frame_asked, is_asked, msgrun_app, number_in, request_of, texts_of, workers_asked};
 
 use crate::limits::{LAST_FRAME, MAX_WORKERS};
 use crate::words::command::matches;
@@ -18,7 +18,7 @@ pub fn parse_words(alloc: Global, words: &[String]) -> Result<Action, WordFault>
         ⊎ ((fault ≡ WordFault.Bad) × AsksForNone (texts_of words.now))) }
 
     // If `clap` refuses the words, the fault is the one that it finds in them.
-    ensures found { IfErr result (IsToldOf (fault_of msgrun_app (texts_of words.now))) }
+    ensures found { IfErr result (IsWordFaultOf (fault_of msgrun_app (texts_of words.now))) }
 {
     let matches = matches(alloc, words)?;
     let action = action_of(alloc, &matches);

@@ -57,7 +57,7 @@ module _ {S V : Type 0} {values : Values V} (meaning : S → Meaning V) where
 
   -- A frame on the state s was run or replayed, and this holds of what came of it: the core stands
   -- for the state that the frame leaves.
-  pub record HasLeft (Told : Type 0) (f : Frame V) (s : State values) (c : Core S V) : Type 0 where
-    pub told : Told
+  pub record HasLeft (Holds : Type 0) (f : Frame V) (s : State values) (c : Core S V) : Type 0 where
+    pub holds : Holds
     pub stands : CoreStands meaning c (frame f s).state
     pub frames : (frame f s).state.frames ≡ suc s.frames

@@ -5,7 +5,7 @@ ghost use Rattle.msg_json.specs.declared.reason.Reason.TheVariants.{Clash};
 
 use crate::{Fault, SystemSpec};
 use msg_json::fault::inside;
-use msg_json::{Key, Reason, Step};
+use msg_json::{Key, PathStep, Reason};
 use msg_world::MAX_SYSTEMS;
 
 /// Checks that no program reads and writes one type; else `Clash` with the lowest system whose
@@ -32,7 +32,7 @@ fn clash_of(s: u32) -> Result<(), Fault>
 {
     let clash = Err(Fault::here(Reason::Clash(s)));
     inside(
-        Step::Section(Key::Systems),
-        inside(Step::Element(s as usize), clash),
+        PathStep::Section(Key::Systems),
+        inside(PathStep::Element(s as usize), clash),
     )
 }

@@ -11,7 +11,7 @@ use crate::read::part::text_and_number;
 use msg_json::fault::inside;
 use msg_json::json::{head_and_parts, text};
 use msg_json::numbers::whole_number;
-use msg_json::{Reason, Step};
+use msg_json::{PathStep, Reason};
 use msg_system::{Condition, Probe};
 use serde_json::Value;
 use std::alloc::Global;
@@ -26,7 +26,7 @@ impl Element for Condition {
         value: &Value,
     ) -> Result<Condition, Fault> {
         let (nots, innermost) = inside_nots(value);
-        let probe = inside(Step::Item(n), probe_in(names, nots, innermost))?;
+        let probe = inside(PathStep::Item(n), probe_in(names, nots, innermost))?;
         Ok(Condition { nots, probe })
     }
 }
@@ -35,7 +35,7 @@ impl Element for Condition {
 fn probe_in(names: &Declarations, nots: u8, innermost: &Value) -> Result<Probe, Fault>
     ensures reads { result ≡ Spec.probe_in names.now nots (view innermost.now) }
 {
-    let (head, parts) = inside(Step::Nots(nots), head_and_parts(innermost))?;
+    let (head, parts) = inside(PathStep::Nots(nots), head_and_parts(innermost))?;
     read_probe(names, nots, head, parts)
 }
 
@@ -71,7 +71,7 @@ fn read_probe(names: &Declarations, nots: u8, head: &str, parts: &[Value]) -> Re
     match (head, parts) {
         ("on_message", [part]) => read_on_message(names, nots, part),
         ("resource_equals", [part, other]) => read_resource_equals(names, nots, part, other),
-        _ => inside(Step::Nots(nots), Err(Fault::here(Reason::Parts))),
+        _ => inside(PathStep::Nots(nots), Err(Fault::here(Reason::Parts))),
     }
 }
 
@@ -88,9 +88,12 @@ fn few_nots(nots: u8) -> Result<(), Fault>
 fn read_on_message(names: &Declarations, nots: u8, part: &Value) -> Result<Probe, Fault>
     ensures reads { result ≡ Spec.on_message names.now nots (view part.now) }
 {
-    let name = inside(Step::Nots(nots), inside(Step::Part(1), text(part)))?;
+    let name = inside(PathStep::Nots(nots), inside(PathStep::Part(1), text(part)))?;
     few_nots(nots)?;
-    let of_type = inside(Step::Nots(nots), inside(Step::Part(1), names.type_no(name)))?;
+    let of_type = inside(
+        PathStep::Nots(nots),
+        inside(PathStep::Part(1), names.type_no(name)),
+    )?;
     Ok(Probe::OnMessage(of_type))
 }
 
@@ -103,9 +106,15 @@ fn read_resource_equals(
     ensures reads { result
         ≡ Spec.resource_equals names.now nots (view part.now) (view other.now) }
 {
-    let (name, value) = inside(Step::Nots(nots), text_and_number(1, part, other))?;
+    let (name, value) = inside(PathStep::Nots(nots), text_and_number(1, part, other))?;
     few_nots(nots)?;
-    let resource = inside(Step::Nots(nots), inside(Step::Part(1), names.res_no(name)))?;
-    let value = inside(Step::Nots(nots), inside(Step::Part(2), whole_number(value)))?;
+    let resource = inside(
+        PathStep::Nots(nots),
+        inside(PathStep::Part(1), names.res_no(name)),
+    )?;
+    let value = inside(
+        PathStep::Nots(nots),
+        inside(PathStep::Part(2), whole_number(value)),
+    )?;
     Ok(Probe::ResourceEquals(resource, value))
 }

@@ -6,7 +6,7 @@ ghost use Rattle.msg_reading.specs.Prelude.{unfit};
 
 use crate::Fault;
 use msg_json::fault::inside;
-use msg_json::{Key, Reason, Step};
+use msg_json::{Key, PathStep, Reason};
 use msg_order::{Rule, lowest_on_cycle};
 use msg_world::MAX_SYSTEMS;
 
@@ -22,7 +22,7 @@ pub fn check_cycles(systems: usize, rules: &[Rule]) -> Result<(), Fault>
     match lowest_on_cycle(systems, rules) {
         None => Ok(()),
         Some(s) => inside(
-            Step::Section(Key::Rules),
+            PathStep::Section(Key::Rules),
             Err(Fault::here(Reason::Cycle(s))),
         ),
     }

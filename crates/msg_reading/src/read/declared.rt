@@ -9,7 +9,7 @@ use crate::read::part::{text_and_number, two};
 use crate::{Fault, Name};
 use msg_json::fault::inside;
 use msg_json::numbers::{small_number, whole_number};
-use msg_json::{MAX_LIMIT, Step};
+use msg_json::{MAX_LIMIT, PathStep};
 use serde_json::Value;
 use std::alloc::Global;
 
@@ -22,7 +22,7 @@ impl Element for (Name, u64) {
         n: usize,
         value: &Value,
     ) -> Result<(Name, u64), Fault> {
-        inside(Step::Element(n), read_type(alloc, names, value))
+        inside(PathStep::Element(n), read_type(alloc, names, value))
     }
 }
 
@@ -31,8 +31,8 @@ fn read_type(alloc: Global, names: &mut Declarations, value: &Value) -> Result<(
 {
     let (name, limit) = two(value)?;
     let (name, limit) = text_and_number(0, name, limit)?;
-    let name = inside(Step::Part(0), names.declare_type(alloc, name))?;
-    let limit = inside(Step::Part(1), small_number(limit, MAX_LIMIT + 1))?;
+    let name = inside(PathStep::Part(0), names.declare_type(alloc, name))?;
+    let limit = inside(PathStep::Part(1), small_number(limit, MAX_LIMIT + 1))?;
     Ok((name, u64::from(limit)))
 }
 
@@ -45,7 +45,7 @@ impl Element for (Name, i64) {
         n: usize,
         value: &Value,
     ) -> Result<(Name, i64), Fault> {
-        inside(Step::Element(n), read_resource(alloc, names, value))
+        inside(PathStep::Element(n), read_resource(alloc, names, value))
     }
 }
 
@@ -58,7 +58,7 @@ fn read_resource(
 {
     let (name, value) = two(value)?;
     let (name, value) = text_and_number(0, name, value)?;
-    let name = inside(Step::Part(0), names.declare_resource(alloc, name))?;
-    let value = inside(Step::Part(1), whole_number(value))?;
+    let name = inside(PathStep::Part(0), names.declare_resource(alloc, name))?;
+    let value = inside(PathStep::Part(1), whole_number(value))?;
     Ok((name, value))
 }

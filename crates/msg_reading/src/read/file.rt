@@ -12,7 +12,7 @@ use crate::{Fault, Name, Scenario, SystemSpec};
 use msg_frames::{Frame, Items};
 use msg_json::fault::inside;
 use msg_json::json::{check_keys, needed};
-use msg_json::{Key, Reason, SCENARIO_KEYS, Step};
+use msg_json::{Key, PathStep, Reason, SCENARIO_KEYS};
 use msg_order::Rule;
 use msg_world::{MAX_RESOURCES, MAX_SYSTEMS, MAX_TYPES};
 use serde_json::Value;
@@ -82,7 +82,7 @@ fn read_types(
     ensures reads { ReadsWith (Spec.types_of names.old (view types.now)) names.new result }
 {
     inside(
-        Step::Section(Key::Types),
+        PathStep::Section(Key::Types),
         read_list(alloc, names, types, MAX_TYPES),
     )
 }
@@ -97,7 +97,7 @@ fn read_resources(
 {
     let list = file.get(Key::Resources.text());
     let resources = read_list_if_there(alloc, names, list, MAX_RESOURCES);
-    inside(Step::Section(Key::Resources), resources)
+    inside(PathStep::Section(Key::Resources), resources)
 }
 
 #[tactic(auto, unfolding(crate::specs::ScenarioFormat::held_of))]
@@ -107,7 +107,7 @@ fn read_held(file: &Value) -> Result<bool, Fault>
     match file.get(Key::Held.text()) {
         Some(held) => {
             let held = held.as_bool().ok_or(Fault::here(Reason::Truth));
-            inside(Step::Section(Key::Held), held)
+            inside(PathStep::Section(Key::Held), held)
         }
         None => Ok(false),
     }
@@ -122,7 +122,7 @@ fn read_systems(
     ensures reads { ReadsWith (Spec.systems_of names.old (view systems.now)) names.new result }
 {
     inside(
-        Step::Section(Key::Systems),
+        PathStep::Section(Key::Systems),
         read_list(alloc, names, systems, MAX_SYSTEMS),
     )
 }
@@ -133,7 +133,7 @@ fn read_rules(alloc: Global, names: &mut Declarations, file: &Value) -> Result<I
 {
     let list = file.get(Key::Rules.text());
     let rules = read_list_if_there(alloc, names, list, MAX_RULES);
-    inside(Step::Section(Key::Rules), rules)
+    inside(PathStep::Section(Key::Rules), rules)
 }
 
 #[tactic(auto, using(crate::proofs::ListsInTurn::ReadsWith_inside), unfolding(crate::specs::ScenarioFormat::frames_of))]
@@ -145,7 +145,7 @@ fn read_frames(
     ensures reads { ReadsWith (Spec.frames_of names.old (view frames.now)) names.new result }
 {
     inside(
-        Step::Section(Key::Frames),
+        PathStep::Section(Key::Frames),
         read_list(alloc, names, frames, MAX_FRAMES),
     )
 }

@@ -9,7 +9,7 @@ use crate::read::list::{Element, read_list};
 use crate::read::names::Declarations;
 use crate::read::part::{two, type_and_value};
 use msg_frames::Frame;
-use msg_json::Step;
+use msg_json::PathStep;
 use msg_json::fault::inside;
 use msg_world::TypeNo;
 use serde_json::Value;
@@ -24,7 +24,7 @@ impl Element for Frame {
         n: usize,
         value: &Value,
     ) -> Result<Frame, Fault> {
-        inside(Step::Element(n), read_frame(alloc, names, value))
+        inside(PathStep::Element(n), read_frame(alloc, names, value))
     }
 }
 
@@ -44,7 +44,7 @@ impl Element for (TypeNo, i64) {
         n: usize,
         value: &Value,
     ) -> Result<(TypeNo, i64), Fault> {
-        inside(Step::Item(n), read_post(names, value))
+        inside(PathStep::Item(n), read_post(names, value))
     }
 }
 

@@ -13,7 +13,7 @@ use crate::read::part::{
 };
 use msg_json::fault::inside;
 use msg_json::json::head_and_parts;
-use msg_json::{Reason, Step};
+use msg_json::{PathStep, Reason};
 use msg_system::Op;
 use serde_json::Value;
 use std::alloc::Global;
@@ -22,7 +22,7 @@ impl Element for Op {
     ghost reads = { Spec.op_at };
 
     fn read(alloc: Global, names: &mut Declarations, n: usize, value: &Value) -> Result<Op, Fault> {
-        inside(Step::Item(n), read_op(alloc, names, value))
+        inside(PathStep::Item(n), read_op(alloc, names, value))
     }
 }
 

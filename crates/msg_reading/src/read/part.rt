@@ -10,7 +10,7 @@ use crate::read::names::Declarations;
 use msg_json::fault::inside;
 use msg_json::json::text;
 use msg_json::numbers::{batch_values, list_of_numbers, number, small_number, whole_number};
-use msg_json::{MAX_LIMIT, Reason, Step};
+use msg_json::{MAX_LIMIT, PathStep, Reason};
 use msg_world::{Items, ResNo, TypeNo};
 use serde_json::{Number, Value};
 use std::alloc::Global;
@@ -40,8 +40,8 @@ pub fn text_and_number<'a>(
     ensures are { number_and_text_seen result
         ≡ Spec.text_and_number m (view first.now) (view second.now) }
 {
-    let first = inside(Step::Part(m), text(first))?;
-    Ok((first, inside(Step::Part(m + 1), number(second))?))
+    let first = inside(PathStep::Part(m), text(first))?;
+    Ok((first, inside(PathStep::Part(m + 1), number(second))?))
 }
 
 /// Two texts.
@@ -53,8 +53,8 @@ pub fn two_texts<'a>(
     requires few { m ≤ 1 }
     ensures are { texts_seen result ≡ Spec.two_texts m (view first.now) (view second.now) }
 {
-    let first = inside(Step::Part(m), text(first))?;
-    Ok((first, inside(Step::Part(m + 1), text(second))?))
+    let first = inside(PathStep::Part(m), text(first))?;
+    Ok((first, inside(PathStep::Part(m + 1), text(second))?))
 }
 
 /// A text and a list of numbers.
@@ -67,8 +67,11 @@ fn text_and_numbers<'a>(
     ensures are { numbers_and_text_seen result
         ≡ Spec.text_and_numbers m (view first.now) (view second.now) }
 {
-    let first = inside(Step::Part(m), text(first))?;
-    Ok((first, inside(Step::Part(m + 1), list_of_numbers(second))?))
+    let first = inside(PathStep::Part(m), text(first))?;
+    Ok((
+        first,
+        inside(PathStep::Part(m + 1), list_of_numbers(second))?,
+    ))
 }
 
 /// A type and a value.
@@ -83,8 +86,8 @@ pub fn type_and_value(
         ≡ Spec.type_and_value names.now m (view of_type.now) (view value.now) }
 {
     let (name, value) = text_and_number(m, of_type, value)?;
-    let of_type = inside(Step::Part(m), names.type_no(name))?;
-    Ok((of_type, inside(Step::Part(m + 1), whole_number(value))?))
+    let of_type = inside(PathStep::Part(m), names.type_no(name))?;
+    Ok((of_type, inside(PathStep::Part(m + 1), whole_number(value))?))
 }
 
 /// A resource and a value.
@@ -97,15 +100,15 @@ pub fn resource_and_value(
         ≡ Spec.resource_and_value names.now (view resource.now) (view value.now) }
 {
     let (name, value) = text_and_number(1, resource, value)?;
-    let resource = inside(Step::Part(1), names.res_no(name))?;
-    Ok((resource, inside(Step::Part(2), whole_number(value))?))
+    let resource = inside(PathStep::Part(1), names.res_no(name))?;
+    Ok((resource, inside(PathStep::Part(2), whole_number(value))?))
 }
 
 /// A part that is a type.
 pub fn one_type(names: &Declarations, part: &Value) -> Result<TypeNo, Fault>
     ensures is { result ≡ Spec.type_part names.now (view part.now) }
 {
-    inside(Step::Part(1), type_in(names, part))
+    inside(PathStep::Part(1), type_in(names, part))
 }
 
 fn type_in(names: &Declarations, value: &Value) -> Result<TypeNo, Fault>
@@ -118,7 +121,7 @@ fn type_in(names: &Declarations, value: &Value) -> Result<TypeNo, Fault>
 pub fn one_resource(names: &Declarations, part: &Value) -> Result<ResNo, Fault>
     ensures is { result ≡ Spec.resource_part names.now (view part.now) }
 {
-    inside(Step::Part(1), resource_in(names, part))
+    inside(PathStep::Part(1), resource_in(names, part))
 }
 
 fn resource_in(names: &Declarations, value: &Value) -> Result<ResNo, Fault>
@@ -136,10 +139,10 @@ pub fn type_and_limit(
     ensures are { result ≡ Spec.type_and_limit names.now (view of_type.now) (view limit.now) }
 {
     let (name, limit) = text_and_number(1, of_type, limit)?;
-    let of_type = inside(Step::Part(1), names.type_no(name))?;
+    let of_type = inside(PathStep::Part(1), names.type_no(name))?;
     Ok((
         of_type,
-        inside(Step::Part(2), small_number(limit, MAX_LIMIT + 1))?,
+        inside(PathStep::Part(2), small_number(limit, MAX_LIMIT + 1))?,
     ))
 }
 
@@ -154,8 +157,11 @@ pub fn type_and_values(
         result }
 {
     let (name, values) = text_and_numbers(1, of_type, values)?;
-    let of_type = inside(Step::Part(1), names.type_no(name))?;
-    Ok((of_type, inside(Step::Part(2), batch_values(alloc, values))?))
+    let of_type = inside(PathStep::Part(1), names.type_no(name))?;
+    Ok((
+        of_type,
+        inside(PathStep::Part(2), batch_values(alloc, values))?,
+    ))
 }
 
 /// Two types.
@@ -163,8 +169,8 @@ pub fn two_types(names: &Declarations, from: &Value, to: &Value) -> Result<(Type
     ensures are { result ≡ Spec.two_types names.now (view from.now) (view to.now) }
 {
     let (from, to) = two_texts(1, from, to)?;
-    let from = inside(Step::Part(1), names.type_no(from))?;
-    Ok((from, inside(Step::Part(2), names.type_no(to))?))
+    let from = inside(PathStep::Part(1), names.type_no(from))?;
+    Ok((from, inside(PathStep::Part(2), names.type_no(to))?))
 }
 
 /// A type and a resource.
@@ -177,6 +183,6 @@ pub fn type_and_resource(
         ≡ Spec.type_and_resource names.now (view of_type.now) (view resource.now) }
 {
     let (of_type, resource) = two_texts(1, of_type, resource)?;
-    let of_type = inside(Step::Part(1), names.type_no(of_type))?;
-    Ok((of_type, inside(Step::Part(2), names.res_no(resource))?))
+    let of_type = inside(PathStep::Part(1), names.type_no(of_type))?;
+    Ok((of_type, inside(PathStep::Part(2), names.res_no(resource))?))
 }

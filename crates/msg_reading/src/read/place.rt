@@ -11,7 +11,7 @@ use crate::read::names::Declarations;
 use msg_frames::{Items, LAST_JOIN};
 use msg_json::fault::inside;
 use msg_json::numbers::number;
-use msg_json::{Key, Reason, Step};
+use msg_json::{Key, PathStep, Reason};
 use msg_system::{Condition, Start};
 use serde_json::{Number, Value};
 use std::alloc::Global;
@@ -26,7 +26,7 @@ pub fn read_conditions(
     ensures reads { ReadsWith (in_key Key.If (conditions_of names.old (view system.now)))
         names.new result }
 {
-    inside(Step::Key(Key::If), conditions_in(alloc, names, system))
+    inside(PathStep::Key(Key::If), conditions_in(alloc, names, system))
 }
 
 fn conditions_in(

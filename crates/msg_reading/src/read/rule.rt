@@ -7,7 +7,7 @@ use crate::Fault;
 use crate::read::list::Element;
 use crate::read::names::Declarations;
 use crate::read::part::{two, two_texts};
-use msg_json::Step;
+use msg_json::PathStep;
 use msg_json::fault::inside;
 use msg_order::Rule;
 use serde_json::Value;
@@ -22,7 +22,7 @@ impl Element for Rule {
         n: usize,
         value: &Value,
     ) -> Result<Rule, Fault> {
-        inside(Step::Element(n), read_rule(names, value))
+        inside(PathStep::Element(n), read_rule(names, value))
     }
 }
 
@@ -31,7 +31,7 @@ fn read_rule(names: &Declarations, value: &Value) -> Result<Rule, Fault>
 {
     let (earlier, later) = two(value)?;
     let (earlier, later) = two_texts(0, earlier, later)?;
-    let earlier = inside(Step::Part(0), names.system_no(earlier))?;
-    let later = inside(Step::Part(1), names.system_no(later))?;
+    let earlier = inside(PathStep::Part(0), names.system_no(earlier))?;
+    let later = inside(PathStep::Part(1), names.system_no(later))?;
     Ok(Rule { earlier, later })
 }

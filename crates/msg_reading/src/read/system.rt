@@ -12,7 +12,7 @@ use crate::{Fault, Kind, Name, SystemSpec};
 use msg_frames::Place;
 use msg_json::fault::inside;
 use msg_json::json::{check_keys, needed, text};
-use msg_json::{Key, Reason, SYSTEM_KEYS, Step};
+use msg_json::{Key, PathStep, Reason, SYSTEM_KEYS};
 use msg_system::{Items, MAX_OPS, Op, Program};
 use serde_json::Value;
 use std::alloc::Global;
@@ -26,7 +26,7 @@ impl Element for SystemSpec {
         n: usize,
         value: &Value,
     ) -> Result<SystemSpec, Fault> {
-        inside(Step::Element(n), read_system(alloc, names, value))
+        inside(PathStep::Element(n), read_system(alloc, names, value))
     }
 }
 
@@ -45,7 +45,7 @@ fn read_name(alloc: Global, names: &mut Declarations, name: &Value) -> Result<Na
     ensures reads { Reads (in_key Key.Name (Spec.system_name names.old (view name.now))) result }
     ensures declares { IfOk result (λ text. names.new ≡ Spec.with_system names.old text) }
 {
-    inside(Step::Key(Key::Name), name_in(alloc, names, name))
+    inside(PathStep::Key(Key::Name), name_in(alloc, names, name))
 }
 
 fn name_in(alloc: Global, names: &mut Declarations, name: &Value) -> Result<Name, Fault>
@@ -67,11 +67,11 @@ fn read_program(
     ensures reads { ReadsWith (Spec.program_of names.old name (view ops.now) (view system.now))
         names.new result }
 {
-    let kind = inside(Step::Key(Key::Kind), read_kind(system))?;
+    let kind = inside(PathStep::Key(Key::Kind), read_kind(system))?;
     let ops = read_ops(alloc, names, kind, ops)?;
     let conditions = read_conditions(alloc, names, system)?;
-    let join = inside(Step::Key(Key::Join), read_join(system))?;
-    let start = inside(Step::Key(Key::Start), read_start(system))?;
+    let join = inside(PathStep::Key(Key::Join), read_join(system))?;
+    let start = inside(PathStep::Key(Key::Start), read_start(system))?;
     Ok(SystemSpec {
         name,
         kind,
@@ -105,7 +105,7 @@ fn read_ops(
     ensures reads { ReadsWith (in_key Key.Ops (Spec.ops_of names.old kind (view ops.now)))
         names.new result }
 {
-    inside(Step::Key(Key::Ops), ops_in(alloc, names, kind, ops))
+    inside(PathStep::Key(Key::Ops), ops_in(alloc, names, kind, ops))
 }
 
 fn ops_in(

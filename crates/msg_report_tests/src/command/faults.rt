@@ -26,7 +26,7 @@ fn refused_files(rt: HostRuntime) {
     for (refusal, text) in &REFUSALS {
         expect_text(rt, &MainFault::Refused(*refusal), text);
     }
-    let told = MainFault::Told(Refusal::Shape, Vec::new(rt.alloc()));
+    let told = MainFault::CheckFailed(Refusal::Shape, Vec::new(rt.alloc()));
     expect_text(rt, &told, "refused 2 Shape");
     drop(told);
 }

@@ -23,6 +23,6 @@ EndsForEither d (check_fault.Refused why lines) =
 EndsForEither d (check_fault.Report fault) = fault ≡ report_fault.NoMemory
 
 -- bytes are refused, or there was no memory
-abbrev pub EndsUntold : List ℕ → CheckFault → Type 0
-EndsUntold bytes (check_fault.Refused why lines) = FailsFor bytes why
-EndsUntold bytes (check_fault.Report fault) = fault ≡ report_fault.NoMemory
+abbrev pub EndsBeforeText : List ℕ → CheckFault → Type 0
+EndsBeforeText bytes (check_fault.Refused why lines) = FailsFor bytes why
+EndsBeforeText bytes (check_fault.Report fault) = fault ≡ report_fault.NoMemory

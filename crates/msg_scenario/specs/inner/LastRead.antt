@@ -3,11 +3,11 @@ use Rattle.std.specs.Prelude.{◌≡◌, ◌++◌, ⊤, Option, Some, None, leng
 use Rattle.msg_system.specs.declared.reply.Reply.TheVariants as reply
 use Rattle.msg_json.specs.Prelude.{Text}
 use Rattle.msg_reading.specs.declared.scenario.Scenario.{Scenario}
-use Rattle.msg_scenario.specs.{declared.reports.told.Told.Told, ReportText.reply_text}
+use Rattle.msg_scenario.specs.{declared.reports.last_read.LastRead.LastRead, ReportText.reply_text}
 
 -- what it took stands in the text, from where it says to where it says
-abbrev pub IsTold : Scenario → Option Told → Text → Type 0
-IsTold s None text = ⊤
-IsTold s (Some told) text =
-    (before : Text) × (after : Text) × (text ≡ before ++ reply_text s (reply.Read told.took.now) ++ after)
-    × (length before ≡ told.start) × (length (before ++ reply_text s (reply.Read told.took.now)) ≡ told.end)
+abbrev pub IsInText : Scenario → Option LastRead → Text → Type 0
+IsInText s None text = ⊤
+IsInText s (Some read) text =
+    (before : Text) × (after : Text) × (text ≡ before ++ reply_text s (reply.Read read.took.now) ++ after)
+    × (length before ≡ read.start) × (length (before ++ reply_text s (reply.Read read.took.now)) ≡ read.end)

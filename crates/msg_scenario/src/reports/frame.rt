@@ -1,11 +1,11 @@
 // The text of one frame.
 ghost use Rattle.std.specs.Prelude.{◌≡◌, ◌<◌, ◌++◌, [], IsOk, OnErr, OnOk, flat_map, length, zip};
 ghost use Rattle.msg_scenario.specs.Prelude.{answered_line, frame_text, post_line, posts_text, reply_text, turn_text};
-ghost use Rattle.msg_scenario.specs.inner.{LastRead.IsTold, LineStarts.AreLines, LineStarts.finished_outcome, LineStarts.finished_turn};
+ghost use Rattle.msg_scenario.specs.inner.{LastRead.IsInText, LineStarts.AreLines, LineStarts.finished_outcome, LineStarts.finished_turn};
 
+use crate::reports::last_read::{LastRead, add_read};
 use crate::reports::lines::SystemLines;
 use crate::reports::reply::add_reply;
-use crate::reports::told::{Told, add_read};
 use msg_buffer::NoMemory;
 use msg_exec::{Frame, Log, Outcome, Turn};
 use msg_json::numerals::add_count;
@@ -85,15 +85,15 @@ fn add_turns(
 
 fn add_turn<'a>(
     text: &mut Vec<u8>,
-    last: &mut Option<Told<'a>>,
+    last: &mut Option<LastRead<'a>>,
     scenario: &Scenario,
     lines: &[SystemLines],
     turn: &'a Turn,
 ) -> Result<(), NoMemory>
-    requires told { IsTold scenario.now last.old text.old.items }
+    requires last { IsInText scenario.now last.old text.old.items }
     ensures appends { OnOk result
         (text.new.items ≡ text.old.items ++ finished_turn scenario.now lines.now turn.now) }
-    ensures told { OnOk result (IsTold scenario.now last.new text.new.items) }
+    ensures last { OnOk result (IsInText scenario.now last.new text.new.items) }
 {
     match lines.get(turn.system as usize) {
         Some(lines) => add_outcome(text, last, scenario, lines, &turn.outcome),
@@ -104,15 +104,15 @@ fn add_turn<'a>(
 /// What came of a system's turn.
 fn add_outcome<'a>(
     text: &mut Vec<u8>,
-    last: &mut Option<Told<'a>>,
+    last: &mut Option<LastRead<'a>>,
     scenario: &Scenario,
     lines: &SystemLines,
     outcome: &'a Outcome,
 ) -> Result<(), NoMemory>
-    requires told { IsTold scenario.now last.old text.old.items }
+    requires last { IsInText scenario.now last.old text.old.items }
     ensures appends { OnOk result
         (text.new.items ≡ text.old.items ++ finished_outcome scenario.now lines.now outcome.now) }
-    ensures told { OnOk result (IsTold scenario.now last.new text.new.items) }
+    ensures last { OnOk result (IsInText scenario.now last.new text.new.items) }
 {
     match outcome {
         Outcome::Skipped => text.extend_from_slice(lines.skipped.as_slice()),
@@ -126,15 +126,15 @@ fn add_outcome<'a>(
 /// The line of each op, by its start.
 fn add_ops<'a>(
     text: &mut Vec<u8>,
-    last: &mut Option<Told<'a>>,
+    last: &mut Option<LastRead<'a>>,
     scenario: &Scenario,
     starts: &[Vec<u8>],
     replies: &'a [Reply],
 ) -> Result<(), NoMemory>
-    requires told { IsTold scenario.now last.old text.old.items }
+    requires last { IsInText scenario.now last.old text.old.items }
     ensures appends { OnOk result (text.new.items ≡ text.old.items
         ++ flat_map (λ p. answered_line scenario.now p.0.items p.1) (zip starts.now replies.now)) }
-    ensures told { OnOk result (IsTold scenario.now last.new text.new.items) }
+    ensures last { OnOk result (IsInText scenario.now last.new text.new.items) }
     ensures refused { OnErr result ((0 < length starts.now) × (0 < length replies.now)) }
 {
     for (start, reply) in starts.iter().zip(replies) {
@@ -146,15 +146,15 @@ fn add_ops<'a>(
 /// The line of an op.
 fn add_line<'a>(
     text: &mut Vec<u8>,
-    last: &mut Option<Told<'a>>,
+    last: &mut Option<LastRead<'a>>,
     scenario: &Scenario,
     start: &[u8],
     reply: &'a Reply,
 ) -> Result<(), NoMemory>
-    requires told { IsTold scenario.now last.old text.old.items }
+    requires last { IsInText scenario.now last.old text.old.items }
     ensures appends { OnOk result
         (text.new.items ≡ text.old.items ++ answered_line scenario.now start.now reply.now) }
-    ensures told { OnOk result (IsTold scenario.now last.new text.new.items) }
+    ensures last { OnOk result (IsInText scenario.now last.new text.new.items) }
 {
     text.extend_from_slice(start)?;
     add_answer(text, last, scenario, reply)?;
@@ -165,14 +165,14 @@ fn add_line<'a>(
 /// What an op was answered, as that follows the op on its line.
 fn add_answer<'a>(
     text: &mut Vec<u8>,
-    last: &mut Option<Told<'a>>,
+    last: &mut Option<LastRead<'a>>,
     scenario: &Scenario,
     reply: &'a Reply,
 ) -> Result<(), NoMemory>
-    requires told { IsTold scenario.now last.old text.old.items }
+    requires last { IsInText scenario.now last.old text.old.items }
     ensures appends { OnOk result
         (text.new.items ≡ text.old.items ++ reply_text scenario.now reply.now) }
-    ensures told { OnOk result (IsTold scenario.now last.new text.new.items) }
+    ensures last { OnOk result (IsInText scenario.now last.new text.new.items) }
 {
     match reply {
         Reply::Read(took) => add_read(text, last, scenario, took),

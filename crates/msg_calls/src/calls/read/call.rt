@@ -10,7 +10,7 @@ use crate::calls::read::part;
 use crate::limits::MAX_CURSORS;
 use msg_json::fault::inside;
 use msg_json::json::head_and_parts;
-use msg_json::{Fault, Reason, Step};
+use msg_json::{Fault, PathStep, Reason};
 use serde_json::Value;
 use std::alloc::Global;
 
@@ -19,7 +19,7 @@ pub fn read_call(alloc: Global, made: u32, number: usize, value: &Value) -> Resu
     ensures call { Reads (in_element number (Spec.call_of made (view value.now))) result }
     ensures fits { IfOk result (FitsCursors made) }
 {
-    inside(Step::Element(number), read_headed(alloc, made, value))
+    inside(PathStep::Element(number), read_headed(alloc, made, value))
 }
 
 fn read_headed(alloc: Global, made: u32, value: &Value) -> Result<Call, Fault>

@@ -6,7 +6,7 @@ ghost use Rattle.msg_json.specs.Faults.{Reads};
 
 use msg_json::fault::inside;
 use msg_json::numbers::{self, natural_number, number, small_number};
-use msg_json::{Fault, MAX_LIMIT, Step};
+use msg_json::{Fault, MAX_LIMIT, PathStep};
 use msg_world::Items;
 use serde_json::Value;
 use std::alloc::Global;
@@ -15,14 +15,14 @@ use std::alloc::Global;
 pub fn value(part: &Value) -> Result<i64, Fault>
     ensures value { result ≡ value_part (view part.now) }
 {
-    inside(Step::Part(1), numbers::value(part))
+    inside(PathStep::Part(1), numbers::value(part))
 }
 
 /// The values of a batch.
 pub fn values(alloc: Global, part: &Value) -> Result<Items<i64>, Fault>
     ensures values { Reads (values_part (view part.now)) result }
 {
-    inside(Step::Part(1), numbers::values(alloc, part))
+    inside(PathStep::Part(1), numbers::values(alloc, part))
 }
 
 /// The number of a cursor that was made.
@@ -30,7 +30,7 @@ pub fn cursor(made: u32, part: &Value) -> Result<u32, Fault>
     ensures small { IfOk result (λ c. c < made) }
     ensures cursor { result ≡ cursor_part made (view part.now) }
 {
-    inside(Step::Part(1), cursor_of(made, part))
+    inside(PathStep::Part(1), cursor_of(made, part))
 }
 
 fn cursor_of(made: u32, value: &Value) -> Result<u32, Fault>
@@ -44,7 +44,7 @@ fn cursor_of(made: u32, value: &Value) -> Result<u32, Fault>
 pub fn message_number(part: &Value) -> Result<u64, Fault>
     ensures number { result ≡ message_part (view part.now) }
 {
-    inside(Step::Part(1), message_of(part))
+    inside(PathStep::Part(1), message_of(part))
 }
 
 fn message_of(value: &Value) -> Result<u64, Fault>
@@ -58,11 +58,11 @@ pub fn cursor_and_limit(made: u32, part: &Value, limit: &Value) -> Result<(u32, 
     ensures small { IfOk result (λ p. p.0 < made) }
     ensures both { result ≡ cursor_and_limit made (view part.now) (view limit.now) }
 {
-    let part = inside(Step::Part(1), number(part))?;
-    let limit = inside(Step::Part(2), number(limit))?;
-    let cursor = inside(Step::Part(1), small_number(part, made))?;
+    let part = inside(PathStep::Part(1), number(part))?;
+    let limit = inside(PathStep::Part(2), number(limit))?;
+    let cursor = inside(PathStep::Part(1), small_number(part, made))?;
     Ok((
         cursor,
-        inside(Step::Part(2), small_number(limit, MAX_LIMIT + 1))?,
+        inside(PathStep::Part(2), small_number(limit, MAX_LIMIT + 1))?,
     ))
 }

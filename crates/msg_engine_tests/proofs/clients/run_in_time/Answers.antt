@@ -9,5 +9,5 @@ returns g c = record {
       let taken = c.what_is_written_is_read_in_time.ensures.at_once f s i j t sound below path reads n m wrote in
       let told = c.each_message_meets_one_fate.ensures.logs j t (f ∷ []) s in
       let ran = c.in_ok-run_frame.ensures.ran s stands in
-      rw (ran.tells, told) taken.told;
+      rw (ran.tells, told) taken.counted;
 }

@@ -14,7 +14,7 @@ returns g c = record {
       -- a place is no further than the count, which is a `u64`
       let home = lender.whole (OfType t) (omega (arith, lt, lender.types)) in
       let few : count (s.world.histories t) < 2 ^ 64 =
-      grind (arith, c.count_is_told.ensures.told, false≢true, home, lender.world (OfType t)) in
+      grind (arith, c.count_is_known.ensures.known, false≢true, home, lender.world (OfType t)) in
       let sum = adds_up s c.args.system t lt stands.sound in
       grind arith;
 }

@@ -32,7 +32,7 @@ loop-batch-preserved g c =
     c.batch-item.is in
     record {
       accesses = ran.accesses ∙ c.loop-batch.invariant.accesses;
-      gate_passed = rw more (more_passed (g.G.Gate.passed c.args.crew.now.gate.now) c.args.crew.now.workers _ _
+      gate_passed = rw more (more_passed (g.G.Gate.passed c.args.context.now.gate.now) c.args.context.now.workers _ _
           c.loop-batch.invariant.gate_passed (rw read at ran.gate_passed));
       turned = λ s stands. rw more (turned_more g.S.SystemOf.meaning _ (c.loop-batch.invariant.turned s stands)
           (λ u here. rw read at (ran.state u here)) (λ u here. rw read at (ran.turns u here)));

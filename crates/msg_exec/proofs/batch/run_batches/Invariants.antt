@@ -11,7 +11,7 @@ invariant-loop-batch g l = record {
   turned : (s : State g.V.Value.values) → LenderStands g.S.SystemOf.meaning l.initial.lender s
       → HasTurned g.S.SystemOf.meaning (concat (map (λ batch. batch.items) (take l.batch-index l.batches))) s l.lender
       [] l.turns.items;
-  gate_passed : EachPassedGate (g.G.Gate.passed l.crew.gate.now) l.crew.workers
+  gate_passed : EachPassedGate (g.G.Gate.passed l.context.gate.now) l.context.workers
       (concat (map (λ batch. batch.items) (take l.batch-index l.batches)));
   accesses : l.lender.accesses.items ≡ l.initial.lender.accesses.items;
 }

@@ -16,7 +16,7 @@ enter_turn-requires g c =
     record {
       few = (may_come_home g.S.SystemOf.meaning c.args.number stands lt c.index-access.ensures c.index_mut.ensures.value
           c.in-Some.is c.in_ok-taken.ensures.lent
-          (rw (c.deref_mut-guarded.ensures.value, ← c.came-outcome.ensures.came) at c.in_ok-taken-2.ensures.took)).few;
+          (rw (c.deref_mut-guarded.ensures.value, ← c.outcome_if-outcome.ensures.outcome) at c.in_ok-taken-2.ensures.took)).few;
       there = rw stands.totals lt;
     }
 
@@ -28,7 +28,7 @@ returns-clause-state g c s stands =
     let there : i < length systems = omega (arith, lt, stands.systems) in
     turn_taken g.S.SystemOf.meaning i stands lt c.index-access.ensures c.index_mut.ensures.value
     c.in-Some.is c.in_ok-taken.ensures.lent
-    (rw (c.deref_mut-guarded.ensures.value, ← c.came-outcome.ensures.came) at c.in_ok-taken-2.ensures.took)
+    (rw (c.deref_mut-guarded.ensures.value, ← c.outcome_if-outcome.ensures.outcome) at c.in_ok-taken-2.ensures.took)
     (record {
       as_many = length-set systems i _;
       system = rw (get_or-set_same systems i _ None there) refl;
@@ -43,4 +43,4 @@ returns-clause-logged g c s stands =
     let lt = rw (sym c.requires.stands.1.0.accesses ∙ stands.accesses) at c.requires.stands.1.1 in
     rw (← turn_is_logged g.S.SystemOf.meaning c.args.number stands lt c.index-access.ensures c.index_mut.ensures.value
     c.in-Some.is c.in_ok-taken.ensures.lent
-    (rw (c.deref_mut-guarded.ensures.value, ← c.came-outcome.ensures.came) at c.in_ok-taken-2.ensures.took)) c.in_ok-push.ensures.items
+    (rw (c.deref_mut-guarded.ensures.value, ← c.outcome_if-outcome.ensures.outcome) at c.in_ok-taken-2.ensures.took)) c.in_ok-push.ensures.items

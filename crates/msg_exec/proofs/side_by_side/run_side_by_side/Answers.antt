@@ -35,7 +35,7 @@ returns g c =
       gate_passed = IfOk-weaker c.run_jobs.result _ _ (λ results passed k d lt.
           let at = slice_get-get_or old k d lt in
           let (b, (found, is)) = some_of (slice_get new k) (rw at at (AllZip-left R old new each k)) in
-          subst (λ (j : JobView g.row.S.Denot g.row.V.Denot). PassedGate (g.G.Gate.passed c.args.crew.now.gate.now)
-          (min c.args.crew.now.workers (length old)) j.number) is.job (rw many at (passed k b found)))
+          subst (λ (j : JobView g.row.S.Denot g.row.V.Denot). PassedGate (g.G.Gate.passed c.args.context.now.gate.now)
+          (min c.args.context.now.workers (length old)) j.number) is.job (rw many at (passed k b found)))
           c.run_jobs.ensures.gate_passed;
     }

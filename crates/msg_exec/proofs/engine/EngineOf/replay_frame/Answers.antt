@@ -25,7 +25,7 @@ returns-clause-replayed g c s stands =
     let core = rw c.in-Some-core.is at stands.core in
     let ran = c.in-Ok-replay_one.ensures.replayed s core stands.frames in
     let frame = c.args.frame.now in
-    let replay = ran.told in
+    let replay = ran.holds in
     record {
       lawful = replay.lawful;
       tells = replay.tells;

@@ -4,8 +4,8 @@ use Rattle.msg_frames.proofs.{Functions.run_keeps, ReaderOverRun.runs_are_comple
 use Rattle.msg_exec.proofs.SinceThen.{since_frame}
 use Rattle.msg_exec.proofs.engine.EngineOf.run_frame.Goals as goal
 
-pub run_one-requires-clause-stands : goal.run_one-requires-clause-stands
-run_one-requires-clause-stands g c κs within =
+pub run_core_frame-requires-clause-stands : goal.run_core_frame-requires-clause-stands
+run_core_frame-requires-clause-stands g c κs within =
     its_core g.S.SystemOf.meaning c.args.self.now _ c.in-Some.is c.requires.engine
 
 pub returns-clause-ran : goal.returns-clause-ran
@@ -13,7 +13,7 @@ returns-clause-ran g c s stands =
     let core = rw c.in-Some.is at stands.core in
     let ran = c.in-Ok.ensures.ran s core stands.frames in
     record {
-      tells = ran.told;
+      tells = ran.holds;
       complete = runs_are_complete (c.args.frame.now ∷ []) s core.sound;
       stands =
           record { core = rw c.count_frame.ensures.core ran.stands; frames = omega (arith, stands.frames, ran.frames) };

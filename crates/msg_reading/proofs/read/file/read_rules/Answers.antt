@@ -1,5 +1,5 @@
 use Rattle.msg_json.specs.declared.location.Key.TheVariants as key
-use Rattle.msg_json.specs.declared.location.Step.TheVariants as step
+use Rattle.msg_json.specs.declared.location.PathStep.TheVariants as step
 use Rattle.msg_reading.specs.Prelude.{rules_of}
 use Rattle.msg_reading.proofs.ListsInTurn.{ReadsWith_inside}
 use Rattle.msg_reading.proofs.read.file.read_rules.Goals as goal

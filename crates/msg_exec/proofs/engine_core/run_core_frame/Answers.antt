@@ -5,7 +5,7 @@ use Rattle.msg_order.proofs.Elements.{Contains-concat}
 use Rattle.msg_frames.proofs.{FramesInOrder.in_that_order, FramesInOrder.logged_in, StatesStaySound.has_one_turn, StatesStaySound.turn_below}
 use Rattle.msg_exec.proofs.CoreRunsFrame.{frame_ran, in_batch_apart, in_turn}
 use Rattle.msg_frames.specs.Prelude.{before_turns}
-use Rattle.msg_exec.proofs.engine_core.run_one.Goals as goal
+use Rattle.msg_exec.proofs.engine_core.run_core_frame.Goals as goal
 
 pub run_batches-requires-clause-stands : goal.run_batches-requires-clause-stands
 run_batches-requires-clause-stands g c κs within =

@@ -1,7 +1,7 @@
 // Why a value is refused, as a sentence.
-use crate::told::list::{add_question, add_wanted, contents};
-use crate::told::nearest::{Names, nearest};
-use crate::told::{key_at, value_at};
+use crate::explanation::list::{add_question, add_wanted, contents};
+use crate::explanation::nearest::{Names, nearest};
+use crate::explanation::{key_at, value_at};
 use msg_json::{
     CALLS_KEYS, Fault, Key, Location, Reason, SCENARIO_KEYS, SYSTEM_KEYS, is_calls_file,
 };

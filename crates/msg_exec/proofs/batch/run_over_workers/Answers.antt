@@ -3,7 +3,7 @@ use Rattle.std.proofs.lemmas.Slice.Zip.{AllZip-long}
 use Rattle.msg_workers.specs.Prelude.{PassedGate}
 use Rattle.msg_exec.specs.inner.SystemsOut.{IsOut}
 use Rattle.msg_exec.proofs.{BatchAfterBatch.no_more_than, BatchComesHome.all_came, BatchComesHome.begin_home, BatchComesHome.next_comes, BatchComesHome.next_may_come, BatchComesHome.of_batch, BatchGoesOut.all_may_run, BatchGoesOut.is_batch, BatchComesHome.all_back}
-use Rattle.msg_exec.proofs.batch.run_many.Goals as goal
+use Rattle.msg_exec.proofs.batch.run_over_workers.Goals as goal
 
 pub run_side_by_side-requires-clause-few : goal.run_side_by_side-requires-clause-few
 run_side_by_side-requires-clause-few g c κs within =
@@ -44,7 +44,7 @@ returns g c =
     let far = c.loop-result.invariant in
     let rest = c.loop-result.result-iterator.rest in
     let none : length rest.items ≡ 0 = sym rest.ok.0 ∙ c.in-None.ensures.steps.0 in
-    let passed = g.G.Gate.passed c.args.crew.now.gate.now in
+    let passed = g.G.Gate.passed c.args.context.now.gate.now in
     let batch = c.args.batch.now in
     let jobs = c.in_ok-jobs.jobs.items in
     let out = c.in_ok-jobs.ensures.out.each in
@@ -53,6 +53,6 @@ returns g c =
       turns = λ s stands. (all_came m none (far s stands)).1;
       accesses = (far _ c.requires.stands.1.0).half.accesses;
       gate_passed = rw (AllZip-long (IsOut c.args.lender.now) batch jobs out) at
-          (of_batch (PassedGate passed (min c.args.crew.now.workers (length jobs))) c.args.lender.now batch jobs out
+          (of_batch (PassedGate passed (min c.args.context.now.workers (length jobs))) c.args.lender.now batch jobs out
           c.in_ok-results.ensures.gate_passed);
     }

@@ -1,7 +1,7 @@
 // The read that a frame told last. Many systems read the same messages, and then the text that was
 // made for the first is copied.
 ghost use Rattle.std.specs.Prelude.{◌≡◌, ◌-◌, ◌≤◌, ◌++◌, IsTrue, OnOk, drop, length, take};
-ghost use Rattle.msg_scenario.specs.{Prelude.reply_text, inner.LastRead.IsTold};
+ghost use Rattle.msg_scenario.specs.{Prelude.reply_text, inner.LastRead.IsInText};
 ghost use Rattle.msg_system.specs.declared.reply.Reply.TheVariants as reply;
 
 use crate::reports::reply::add_took;
@@ -12,7 +12,7 @@ use msg_world::Record;
 
 /// What a read took, and from where to where that stands in the text of its frame.
 #[derive(Clone, Copy)]
-pub struct Told<'a> {
+pub struct LastRead<'a> {
     took: &'a Took,
     start: usize,
     end: usize,
@@ -22,29 +22,29 @@ pub struct Told<'a> {
 /// same, its text is copied.
 pub fn add_read<'a>(
     text: &mut Vec<u8>,
-    last: &mut Option<Told<'a>>,
+    last: &mut Option<LastRead<'a>>,
     scenario: &Scenario,
     took: &'a Took,
 ) -> Result<(), NoMemory>
-    requires told { IsTold scenario.now last.old text.old.items }
+    requires last { IsInText scenario.now last.old text.old.items }
     ensures appends { OnOk result
         (text.new.items ≡ text.old.items ++ reply_text scenario.now (reply.Read took.now)) }
-    ensures told { OnOk result (IsTold scenario.now last.new text.new.items) }
+    ensures last { OnOk result (IsInText scenario.now last.new text.new.items) }
 {
-    if let Some(told) = last {
-        if is_same(told.took, took) {
-            return add_again(text, told.start, told.end);
+    if let Some(read) = last {
+        if is_same(read.took, took) {
+            return copy_text(text, read.start, read.end);
         }
     }
     let start = text.len();
     add_took(text, scenario, took)?;
     let end = text.len();
-    *last = Some(Told { took, start, end });
+    *last = Some(LastRead { took, start, end });
     Ok(())
 }
 
 /// Adds once more what stands from `start` to `end`.
-fn add_again(text: &mut Vec<u8>, start: usize, end: usize) -> Result<(), NoMemory>
+fn copy_text(text: &mut Vec<u8>, start: usize, end: usize) -> Result<(), NoMemory>
     requires order { start ≤ end }
     requires within { end ≤ length text.old.items }
     ensures { OnOk result (text.new.items

@@ -1,5 +1,5 @@
 use Rattle.msg_advice.proofs.Cycles.{lead_on_at}
-use Rattle.msg_advice.proofs.cycle.way_round.Goals as goal
+use Rattle.msg_advice.proofs.cycle.rules_along.Goals as goal
 
 pub loop-level-preserved : goal.loop-level-preserved
 loop-level-preserved c =

@@ -1,6 +1,6 @@
 // The lists of files: what they have in them, and the forms of those that have a fixed number of
 // parts.
-use crate::told::nearest::nearest;
+use crate::explanation::nearest::nearest;
 use msg_json::{Key, Location};
 use msg_world::NoMemory;
 use serde_json::Value;

@@ -1,7 +1,7 @@
 use Rattle.msg_exec.specs.Prelude.{LenderStands}
 use Rattle.msg_frames.specs.Prelude.{State}
 use Rattle.msg_exec.proofs.BatchComesHome.{ComingHome}
-use Rattle.msg_exec.proofs.batch.run_many.Given as goal
+use Rattle.msg_exec.proofs.batch.run_over_workers.Given as goal
 
 abbrev pub invariant-loop-result : goal.invariant-loop-result
 invariant-loop-result g l =
