@@ -54,7 +54,7 @@ module _ {V : Type 0} where
   abbrev pub numbers_passed : ReadEntry V → List ℕ
   numbers_passed e = range_with_len e.stretch.first e.stretch.number
 
-  -- those that it missed, which stand just before its first
+  -- those that it missed, which stand just before its first: from the place that it began at
   abbrev pub numbers_missed : ReadEntry V → List ℕ
   numbers_missed e = range_with_len (e.stretch.first - e.stretch.missed) e.stretch.missed
 

@@ -42,7 +42,8 @@ module _ {V : Type 0} {values : Values V} where
   abbrev pub reader_place : State values → ℕ → ℕ → ℕ
   reader_place s i t = (s.members i).job.system.places t
 
-  -- Where a run from s to u finds a reader: at its place, or where it starts as it joins.
+  -- Where a run from s to u finds a reader: at its place if it had joined, else where it starts as it
+  -- joins, which its totals in u tell.
   abbrev pub found_at : State values → State values → ℕ → ℕ → ℕ
   found_at s u i t = if has_joined (join_flags s) i then reader_place s i t
       else unwrap_or ((u.members i).totals t).start 0

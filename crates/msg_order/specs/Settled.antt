@@ -45,7 +45,8 @@ batches_of (suc n) g [] = []
 batches_of (suc n) g (i ∷ is) = filter (λ k. not (follows g (i ∷ is) k)) (i ∷ is)
     ∷ batches_of n g (filter (follows g (i ∷ is)) (i ∷ is))
 
--- the batches of those that have joined: at most one for each system
+-- The batches of those that have joined: at most one for each system, which is enough if there is no
+-- cycle.
 abbrev pub batches : Graph → List Bool → List (List ℕ)
 batches g joined = batches_of (length joined) g
     (filter (has_joined joined) (range_with_len 0 (length joined)))

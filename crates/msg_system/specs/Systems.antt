@@ -7,8 +7,8 @@ use Rattle.msg_system.specs.declared.start.Start.TheVariants.{Zero, Current}
 use Rattle.msg_system.specs.Needs.{Needs, keeps_to, program_needs}
 use Rattle.msg_system.specs.Programs.{AfterOp, AfterProgram, Step, after_op, after_program}
 
--- What a system does next, by the replies of its turns from now on, and by those so far of this
--- turn; None ends the turn.
+-- `rule turns now` is what a system does next: after whole turns from now on that were answered by
+-- `turns`, the oldest first, and by `now` so far in this one. None ends the turn.
 abbrev pub Rule : Type 0 → Type 0
 Rule V = List (List (Reply V)) → List (Reply V) → Option (Op V)
 
@@ -67,6 +67,7 @@ module _ {V : Type 0} {values : Values V} where
       }
 
   -- After at most so many ops: what comes next is asked by the replies so far, and that op is done.
+  -- A rule that has ended is asked the same again, and ends again.
   abbrev pub after_at_most : ℕ → (List (Reply V) → Option (Op V))
       → ℕ → (ℕ → ℕ) → WorldState values → AfterProgram values
   after_at_most zero next w ps s = record { places = ps; state = s; replies = []; steps = [] }
