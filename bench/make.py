@@ -3,7 +3,7 @@
 
   make.py KIND [--frames N] [--systems N] [--types N] [--messages N]
 
-Each kind has sizes of its own where none are given; `make.py --list` prints them. The kind `calls` is a calls file,
+Each kind has sizes of its own if none are given; `make.py --list` prints them. The kind `calls` is a calls file,
 with `--messages` values in its batches; the others are scenario files.
 """
 import argparse
@@ -91,7 +91,7 @@ def calls(rng, messages):
     return {"limit": LIMIT, "calls": made}
 
 
-# the kinds, with the sizes that they have where none are given
+# the kinds, with the sizes that they have if none are given
 KINDS = {
     readers: {"frames": 2000, "systems": 64, "messages": 2},
     chain: {"frames": 1000, "systems": 128},
