@@ -21,7 +21,7 @@ pub enum MainFault {
     /// The file that was to be checked was refused, and these lines tell where and why.
     #[error("refused {0}")]
     CheckFailed(Refusal, Vec<u8>),
-    /// Memory was refused while an engine was made of a scenario.
+    /// Memory was refused while an engine was made of a scenario, or for lines that are read ahead.
     #[error("want of memory")]
     Built,
     /// The answers or the report weren't printed to their end.

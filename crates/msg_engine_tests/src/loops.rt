@@ -1,10 +1,13 @@
-// Loops of the frames that a host gives: how each ends, and that its workers run side by side.
+// Loops of the frames that a host gives: how each ends, what its host is told, and that its workers
+// run side by side.
 ghost use Rattle.msg_exec.specs.Prelude.{IsEngine};
 ghost use Rattle.msg_world.specs.Prelude.{i64_values};
 
 use crate::equal::{expect_eq, expect_text};
-use crate::making::{add, engine_over, readers, workers};
-use msg_exec::{EngineBuilder, EngineOf, Frame, Host, Log, LoopFault, NoMemory, RunFault};
+use crate::making::{Act, Does, add, engine_over, readers, scripted_engine, workers};
+use crate::told::expect_engine;
+use msg_exec::{EngineBuilder, EngineOf, Frame, Host, Log, LoopFault, NoMemory, RunFault, Turn};
+use msg_order::Rule;
 use msg_part_tests::meeting::Meeting;
 use msg_part_tests::numbers::type_no;
 use msg_system::{Access, Behavior, BehaviorSystem, Op, Reply, Start, SystemOf};
@@ -89,6 +92,66 @@ fn loop_faults_say_why(rt: HostRuntime) {
     ];
     for (fault, why) in WHY {
         expect_text(&rt, fault, why);
+    }
+}
+
+/// A host that gives so many frames. Each posts in which order the last one's systems took their
+/// turns, as a digit for each, and the first a 7.
+#[derive(Clone, Copy)]
+struct Follower {
+    frames: u32,
+}
+
+/// The numbers of the systems that took these turns, in their order, as digits.
+fn digits_of(turns: &[Turn]) -> i64 {
+    let mut digits: i64 = 0;
+    for turn in turns {
+        digits = digits.wrapping_mul(10).wrapping_add(turn.system as i64);
+    }
+    digits
+}
+
+impl Host for Follower {
+    type Value = i64;
+
+    fn next(&mut self, alloc: Global, last: Option<&Log>) -> Result<Option<Frame>, NoMemory> {
+        if self.frames == 0 {
+            return Ok(None);
+        }
+        self.frames -= 1;
+        let value = last.map_or(7, |log| digits_of(log.turns.as_slice()));
+        let posts = Vec::from_slice(alloc, &[(type_no(0), value)])?;
+        Ok(Some(Frame::of(posts)))
+    }
+}
+
+/// Three readers, of which the last runs before the first: so their turns are those of 1, 2 and 0.
+const READERS: &[Act] = &[(0, Does::Reads), (0, Does::Reads), (0, Does::Reads)];
+
+const LAST_BEFORE_FIRST: &[Rule] = &[Rule {
+    earlier: 2,
+    later: 0,
+}];
+
+const FOLLOWED: &str = "3 frames, from 1 to 3: host=120 host=120\
+    [0 of 0: start Some(0) got 3 missed 0 cleared 0 place 3]\
+    [1 of 0: start Some(0) got 3 missed 0 cleared 0 place 3]\
+    [2 of 0: start Some(0) got 3 missed 0 cleared 0 place 3]";
+
+/// The loop of this host comes to the same on so many workers.
+fn expect_followed<R: Threads + Sync + Abort + AllocGlobal>(rt: &R, number: u32) {
+    let mut host = Follower { frames: 3 };
+    let mut engine = scripted_engine(rt, rt.alloc(), 10, READERS, LAST_BEFORE_FIRST);
+    let ended = engine.run_loop(rt, &mut host, 9, workers(rt, number));
+    expect_eq(rt, (number, ended, host.frames), (number, Ok(()), 0));
+    expect_engine(rt, &engine, FOLLOWED);
+    drop(engine);
+}
+
+#[test]
+fn a_host_is_told_the_turns_in_their_order(rt: HostRuntime) {
+    for number in [1, 2, 7] {
+        expect_followed(&rt, number);
     }
 }
 

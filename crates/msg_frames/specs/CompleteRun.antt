@@ -56,6 +56,6 @@ pub record IsCompleteRun {V : Type 0} {values : Values V} (frames : List (Frame 
     (s : State values) : Type 0 where
   -- each type's list grew by exactly what was written, each message once
   pub written : (t : ℕ) → IsWrittenOnce t s.world (run frames s).steps (run frames s).state.world
-  -- and each reader was served that has joined by the end
+  -- and each system that has joined by the end was served of each type
   pub served : (i t : ℕ) → t < s.types → IsTrue (has_joined (join_flags (run frames s).state) i)
       → IsServed i t frames s

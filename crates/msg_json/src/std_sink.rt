@@ -45,7 +45,7 @@ impl<W: Write> Sink for StdSink<W> {
         // The answer is the writer's: the number that it took, and `PutFault` for any error.
         ensures answer { (came : Result ℕ Error) × IsAnsweredAs came result
             × WriteAppends (W.contents self.old.writer) (W.contents self.new.writer)
-            told piece.now }
+            came piece.now }
     {
         match self.writer.write(piece) {
             Ok(n) => {

@@ -3,14 +3,14 @@ ghost use Rattle.msg_reading.specs.Prelude.{fits_kind};
 
 use msg_system::Op;
 
-/// Which kind of box a system is put into.
+/// Which ops a system may have. Whatever it says, the system is a script of its ops.
 #[derive(Clone, Copy, Debug, PartialEq, Eq)]
 pub enum Kind {
-    /// Interprets its ops.
+    /// Any ops.
     Script,
-    /// Forwards all messages of one type to another: its program is one `forward`.
+    /// One `forward`.
     Relay,
-    /// Adds the values of all messages of one type to a resource: its program is one `sum`.
+    /// One `sum`.
     Tally,
 }
 

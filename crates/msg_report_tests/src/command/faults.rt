@@ -2,7 +2,7 @@
 use crate::equal::{Have, expect_text};
 use msg_command::{InputFault, MainFault, WordFault};
 use msg_json::{PutFault, Refusal, ReportFault};
-use msg_scenario::AnswerFault;
+use msg_scenario::{AnswerFault, CheckFault};
 use msg_world::RunFault;
 use std::process::Abort;
 
@@ -27,6 +27,9 @@ fn refused_files(rt: HostRuntime) {
         expect_text(rt, &MainFault::Refused(*refusal), text);
     }
     let told = MainFault::CheckFailed(Refusal::Shape, Vec::new(rt.alloc()));
+    expect_text(rt, &told, "refused 2 Shape");
+    drop(told);
+    let told = CheckFault::Refused(Refusal::Shape, Vec::new(rt.alloc()));
     expect_text(rt, &told, "refused 2 Shape");
     drop(told);
 }
@@ -59,6 +62,7 @@ fn reports_and_inputs(rt: HostRuntime) {
     let rt = &rt;
     for (fault, text) in &REPORTS {
         expect_text(rt, &MainFault::Report(*fault), text);
+        expect_text(rt, &CheckFault::Report(*fault), text);
     }
     for (fault, text) in &INPUTS {
         expect_text(rt, &MainFault::Input(*fault), text);
@@ -88,6 +92,7 @@ fn answer_faults_say_why(rt: HostRuntime) {
         (AnswerFault::Refused(Refusal::NotJson), "refused 1 NotJson"),
         (AnswerFault::NoMemory, "want of memory"),
         (AnswerFault::Report(ReportFault::Write), "write fault"),
+        (AnswerFault::Input, "cannot read input"),
     ];
     for (fault, why) in WHY {
         expect_text(&rt, fault, why);
