@@ -165,18 +165,10 @@ module _ {J D : Type 0} (lawful : J → D → Type 0) (jobs : List J) (passes : 
       let both : (g : View J → ℕ) → sum_by g (vs ++ one_of v ∷ []) + g v
       ≡ sum_by g s.views + g (without_one v) + g (one_of v)
       = λ g. omega (arith, sum_by-append g vs (one_of v ∷ []), sum_by-set_at g s.views id v (without_one v) at) in
-      record {
-        words = r.words;
-        slots = r.slots;
-        at_most_two = r.at_most_two;
-        further = r.further;
-        each_slot = r.each_slot;
-        each_view = joined (λ _. Of) vs (one_of v) (grind (arith, old.same_jobs))
-            (changed Of s.views id (without_one v) (grind (arith, old)) (λ k u _. r.each_view k u));
-        held = λ k. omega (arith, both (holds_one k), r.held k);
-        drawn = λ k. omega (arith, both (λ u. times k u.drawn), r.drawn k);
-        weights = omega (arith, both (λ u. u.weight), r.weights);
-      }
+      let known = joined (λ _. Of) vs (one_of v) (grind (arith, old.same_jobs))
+      (changed Of s.views id (without_one v) (grind (arith, old)) (λ k u _. r.each_view k u)) in
+      let held = λ (k : ℕ). both (holds_one k) in let drawn = λ (k : ℕ). both (λ u. times k u.drawn) in
+      let weights = both (λ u. u.weight) in grind (arith, r, known, held, drawn, weights)
 
   -- a seat takes in another, which holds nothing
   pub unites : (id : ℕ) (v : View J) (other : ℕ) (w : View J) → 0 < v.weight → w.held ≡ None
@@ -207,20 +199,13 @@ module _ {J D : Type 0} (lawful : J → D → Type 0) (jobs : List J) (passes : 
   pub starts : (ws : List ℕ) (xs : List (Slot J D)) → length ws ≡ length jobs + 1
       → ((k : ℕ) → get_or ws k 0 ≡ 0) → xs ≡ map Job jobs → 0 < passes
       → Lawful (opening ws xs (whole_view jobs passes))
-  starts ws xs wide zeros is some-pass = record {
-    words = wide;
-    slots = length-map xs some ∙ (ap length is ∙ length-map jobs Job);
-    at_most_two = λ k. omega (arith, zeros k);
-    further = zeros (length jobs);
-    each_slot = λ k j at.
-        let home = at_map {B = maybe.Option (Slot J D)} some xs k (Job j) in
-        grind (arith, zeros k, home, at_map {B = Slot J D} Job jobs k j at);
-    each_view = joined (λ _. IsViewOf jobs ws) [] (whole_view jobs passes) (grind arith)
-        (λ k u at. absurd (some-ne-none u (sym at)));
-    held = λ k. sym (ap holders_at (zeros k));
-    drawn = λ k. sym (ap draws_at (zeros k));
-    weights = omega arith;
-  }
+  starts ws xs wide zeros is some-pass =
+      let home = λ (k : ℕ) (j : J). at_map {B = maybe.Option (Slot J D)} some xs k (Job j) in
+      let job = λ (k : ℕ) (j : J). at_map {B = Slot J D} Job jobs k j in
+      let known = joined (λ _. IsViewOf jobs ws) [] (whole_view jobs passes) (grind arith)
+      (λ k u at. absurd (some-ne-none u (sym at))) in
+      let slots = length-map xs some ∙ (ap length is ∙ length-map jobs Job) in
+      grind (arith, wide, zeros, home, job, known, slots, is)
 
 -- a seat that has gathered all passes has tried every word and holds nothing: every result is in, and the passes drew
 -- each number once

@@ -6,7 +6,7 @@ use Rattle.std.proofs.lemmas.List.{append-nil, map_push, take_more}
 use Rattle.std.proofs.lemmas.List.Elements.{All-contains, All-head, All-tail}
 use Rattle.msg_system.specs.Prelude.{Meaning}
 use Rattle.msg_frames.specs.declared.log.Turn.{Turn}
-use Rattle.msg_exec.specs.Prelude.{Lender, LenderStands}
+use Rattle.msg_exec.specs.{Prelude.Lender, Prelude.LenderStands, inner.Batches.HasTurned}
 use Rattle.msg_frames.specs.Prelude.{after_turns_of, State}
 use Rattle.msg_frames.proofs.{BatchesSideBySide.turns_then_more, SystemsStay.turns_keep_systems, ElementsAndPairs.pairs_left, ElementsAndPairs.pairs_right}
 use Rattle.msg_world.specs.declared.access.Access.{Access}
@@ -18,20 +18,16 @@ module _ {V : Type 0} {values : Values V} where
   as_many_systems is s = (turns_keep_systems is s).systems
 
 module _ {S V : Type 0} {values : Values V} (meaning : S → Meaning V) where
-  -- what holds after the turns of some systems
-  pub record HasTurned (is : List ℕ) (s : State values) (lender : Lender S V) (before after : List (Turn V)) : Type 0 where
-    pub state : LenderStands meaning lender (after_turns_of is s).state
-    pub turns : after ≡ before ++ (after_turns_of is s).turns
-
   pub turned_more : (js : List ℕ) {is : List ℕ} {s : State values} {g h : Lender S V} {before between after : List (Turn V)}
-      → HasTurned is s g before between
-      → ((s : State values) → LenderStands meaning g s → LenderStands meaning h (after_turns_of js s).state)
-      → ((s : State values) → LenderStands meaning g s → after ≡ between ++ (after_turns_of js s).turns)
-      → HasTurned (is ++ js) s h before after
-  turned_more js {is} {s} far state turns = record {
-    state = rw turns_then_more (state _ far.state);
-    turns = rw (turns_then_more is js s, turns _ far.state, far.turns, append_assoc) refl;
-  }
+      → HasTurned meaning is s g before between
+      → ((s : State values) → LenderStands meaning g s → HasTurned meaning js s h between after)
+      → HasTurned meaning (is ++ js) s h before after
+  turned_more js {is} {s} far next =
+      let then = next _ far.state in
+      record {
+        state = rw turns_then_more then.state;
+        turns = rw (turns_then_more is js s, then.turns, far.turns, append_assoc) refl;
+      }
 
 -- ---- batch by batch
 

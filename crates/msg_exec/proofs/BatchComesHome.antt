@@ -12,10 +12,10 @@ use Rattle.msg_order.specs.Prelude.{access_of}
 use Rattle.msg_system.specs.Prelude.{Job as JobState, Meaning, after_job}
 use Rattle.msg_exec.specs.Prelude.{IsAfterJob, IsDone, JobView, Lender, LenderStands, TotalsStand, job_state, system_at}
 use Rattle.msg_frames.specs.declared.log.Turn.{Turn}
-use Rattle.msg_frames.specs.Prelude.{AreAccessesOf, SameSystems, State, after_turns_of, all_home, home, logged_turn, member_after, turn_of}
-use Rattle.msg_exec.specs.{inner.Batches.AreResults, inner.Totals.HasFewReplies, inner.SystemsOut.AreOut, inner.SystemsOut.ComesHome, inner.SystemsOut.IsOut, inner.SystemsOut.any_writes}
+use Rattle.msg_frames.specs.Prelude.{AreAccessesOf, SameSystems, State, all_home, home, logged_turn, member_after, turn_of}
+use Rattle.msg_exec.specs.{inner.Batches.AreResults, inner.Batches.HasTurned, inner.Batches.IsBatch, inner.Totals.HasFewReplies, inner.SystemsOut.AreOut, inner.SystemsOut.ComesHome, inner.SystemsOut.IsOut, inner.SystemsOut.any_writes}
 use Rattle.msg_exec.proofs.JobsAreDone.{none_there}
-use Rattle.msg_exec.proofs.BatchGoesOut.{has_written, left_stands, IsBatch}
+use Rattle.msg_exec.proofs.BatchGoesOut.{has_written, left_stands}
 use Rattle.msg_exec.proofs.SystemAfterTurn.{few_replies, its_own, of_another, totals_after}
 use Rattle.msg_exec.proofs.ItemsOfLists.{get_other, get_same, some_of, zip_of_each}
 use Rattle.msg_exec.proofs.BatchWritesApart.{later_write_not, written_is_used, Free}
@@ -219,16 +219,16 @@ module _ {S V : Type 0} {values : Values V} (meaning : S → Meaning V) where
   pub all_came : {E : Type 0} {whole now : Lender S V} {batch : List ℕ} {s : State values} {left : List (Result (JobView S V) E)}
       {before turns : List (Turn V)}
       → length left ≡ 0 → ComingHome whole batch s left now before turns
-      → LenderStands meaning now (after_turns_of batch s).state × (turns ≡ before ++ (after_turns_of batch s).turns)
+      → HasTurned meaning batch s now before turns
   all_came {whole = whole} {now} {batch} {s} nobody far =
       let are : AreAccessesOf s whole.accesses.items = grind (arith, far.of.stands) in
       let side = side_by_side job_footprint s whole.accesses.items batch are far.of.below far.of.once far.of.apart in
       let end = nil_from_length far.rest (sym (AllZip-long (IsResultBack whole s) far.rest _ far.back) ∙ nobody) in
-      let come : far.come ≡ batch = rw (end, append-nil) at far.all in (
-        stands_again whole now s _ far.of.stands (turns_keep_systems batch s)
-            (rw (end, come, ← side.1) at far.half),
-        rw (come, ← side.0) at far.logged_so_far,
-      )
+      let come : far.come ≡ batch = rw (end, append-nil) at far.all in record {
+        state = stands_again whole now s _ far.of.stands (turns_keep_systems batch s)
+            (rw (end, come, ← side.1) at far.half);
+        turns = rw (come, ← side.0) at far.logged_so_far;
+      }
 
 module _ {S V : Type 0} (P : ℕ → Type 0) (whole : Lender S V) where
   -- the jobs that are out are those of the batch

@@ -1,5 +1,5 @@
 -- The systems of a batch go out, one after the other, and their jobs may be run.
-use Rattle.std.proofs.Common.{◌≡◌, ℕ, ◌<◌, true, List, [], ◌∷◌, ◌++◌, length, refl, ap, ◌∙◌, arith, All, Contains, IsSome, is_some, slice_get, ◌≢◌, ◌+◌, AllPairs, get_or, sym, take}
+use Rattle.std.proofs.Common.{◌≡◌, ℕ, ◌<◌, true, List, [], ◌∷◌, ◌++◌, length, refl, ap, ◌∙◌, arith, All, Contains, IsSome, is_some, slice_get, ◌≢◌, ◌+◌, get_or, sym, take}
 use Rattle.std.proofs.lemmas.Bool.{cases_Bool, cases_eq, or_left}
 use Rattle.std.proofs.lemmas.List.{get_or-set_other, length-set, take_more}
 use Rattle.std.proofs.lemmas.Slice.Zip.{AllZip-right, all_zipped_more}
@@ -7,12 +7,12 @@ use Rattle.std.proofs.lemmas.Option.{get_or_from_slice_get, slice_get_within}
 use Rattle.std.proofs.lemmas.List.Elements.{Contains-get_or, Contains-append_left, All-contains, Contains-push}
 use Rattle.msg_exec.proofs.{ItemsOfLists.some_of, BatchWritesApart.any_more, BatchWritesApart.earlier_write_not, BatchWritesApart.others_write_not, BatchWritesApart.written_is_used, BatchWritesApart.each_before, BatchWritesApart.Free}
 use Rattle.msg_world.specs.{declared.part.Part.Part, Prelude.IsHome, Prelude.PartsStand, Prelude.slot, Prelude.writes, Prelude.Values}
-use Rattle.msg_order.specs.Prelude.{NoneConflict, access_of}
+use Rattle.msg_order.specs.Prelude.{access_of}
 use Rattle.msg_system.specs.Prelude.{Meaning}
 use Rattle.msg_exec.specs.Prelude.{JobView, Lender, LenderStands, MayRun, system_at}
 use Rattle.msg_workers.specs.Prelude.{EachMay}
 use Rattle.msg_frames.specs.Prelude.{State}
-use Rattle.msg_exec.specs.inner.SystemsOut.{AreOut, GoesOut, IsOut}
+use Rattle.msg_exec.specs.inner.{Batches.IsBatch, SystemsOut.AreOut, SystemsOut.GoesOut, SystemsOut.IsOut}
 
 -- ---- a batch, and one more of its systems goes out
 
@@ -24,27 +24,18 @@ module _ {S V : Type 0} where
     pub home : IsHome (access_of g.accesses.items i) g.world
 
 module _ {S V : Type 0} {values : Values V} (meaning : S → Meaning V) where
-  -- The lender stands for the state, and the batch is of its systems, each once, of which no two conflict.
-  pub record IsBatch (whole : Lender S V) (s : State values) (batch : List ℕ) : Type 0 where
-    pub stands : LenderStands meaning whole s
-    pub below : All (λ i. i < s.systems) batch
-    pub once : AllPairs (λ i j. i ≢ j) batch
-    pub apart : NoneConflict whole.accesses.items batch
-
   -- whichever state the lender stands for, it is of as many systems
-  pub is_batch : {whole : Lender S V} {u : State values} {batch : List ℕ}
-      → (s : State values) × (LenderStands meaning whole s × All (λ i. i < s.systems) batch)
-      → AllPairs (λ i j. i ≢ j) batch → NoneConflict whole.accesses.items batch → LenderStands meaning whole u
-      → IsBatch whole u batch
-  is_batch was once apart there = record {
+  pub is_batch : {whole : Lender S V} {s u : State values} {batch : List ℕ} → IsBatch meaning whole s batch
+      → LenderStands meaning whole u → IsBatch meaning whole u batch
+  is_batch was there = record {
     stands = there;
-    below = rw (sym was.1.0.accesses ∙ there.accesses) at was.1.1;
-    once = once;
-    apart = apart;
+    below = rw (sym was.stands.accesses ∙ there.accesses) at was.below;
+    once = was.once;
+    apart = was.apart;
   }
 
   module _ {whole old : Lender S V} {s : State values} {batch : List ℕ} {js : List (JobView S V)} {k : ℕ}
-      (is : IsBatch whole s batch) (lt : k < length batch) (out : AreOut whole (take k batch) js old) where
+      (is : IsBatch meaning whole s batch) (lt : k < length batch) (out : AreOut whole (take k batch) js old) where
     abbrev next : ℕ
     next = get_or batch k 0
 
@@ -96,7 +87,7 @@ module _ {S V : Type 0} {values : Values V} (meaning : S → Meaning V) where
       → (p : Part) → is_some (slot p j.taken) ≡ writes j.access p
   has_written whole s i j stands lt out p = grind (arith, cases_Bool, written_is_used)
 
-  pub all_may_run : {whole left : Lender S V} {s : State values} {batch : List ℕ} {js : List (JobView S V)} → IsBatch whole s batch
+  pub all_may_run : {whole left : Lender S V} {s : State values} {batch : List ℕ} {js : List (JobView S V)} → IsBatch meaning whole s batch
       → AreOut whole batch js left → EachMay (MayRun meaning left.world) js
   all_may_run {whole} {s = s} {batch} {js} is out k j at =
       let (i, (found, its)) = some_of (slice_get batch k) (rw at at (AllZip-right (IsOut whole) batch js out.each k)) in

@@ -1,5 +1,5 @@
 -- A turn is a batch of one system.
-use Rattle.std.proofs.Common.{◌≡◌, ◌≢◌, ℕ, ◌<◌, [], ◌∷◌, Option, Some, Result, Ok, get_or, refl, arith, AllPairs}
+use Rattle.std.proofs.Common.{◌≡◌, ◌≢◌, ℕ, ◌<◌, List, [], ◌∷◌, ◌++◌, Option, Some, Result, Ok, get_or, refl, arith, AllPairs}
 use Rattle.std.proofs.Math.Bool.{or-false}
 use Rattle.std.specs.{Bool.⊤, Global.Box}
 use Rattle.msg_world.specs.declared.access.Access.{Access}
@@ -8,11 +8,12 @@ use Rattle.msg_system.specs.Prelude.{Meaning}
 use Rattle.msg_exec.specs.Prelude.{GuardedSystem, HasTakenTurn, JobView, Lender, LenderStands, MayRun}
 use Rattle.msg_frames.specs.declared.log.Outcome.{Outcome}
 use Rattle.msg_frames.specs.declared.log.Outcome.TheVariants.{Skipped}
-use Rattle.msg_frames.specs.Prelude.{State, after_turn_of, logged_turn}
-use Rattle.msg_exec.specs.inner.SystemsOut.{AreOut, ComesHome}
+use Rattle.msg_frames.specs.declared.log.Turn.{Turn}
+use Rattle.msg_frames.specs.Prelude.{State}
+use Rattle.msg_exec.specs.inner.{Batches.HasTurned, Batches.IsBatch, SystemsOut.AreOut, SystemsOut.ComesHome}
 use Rattle.msg_exec.proofs.BatchWritesApart.{Free}
 use Rattle.msg_exec.proofs.BatchComesHome.{ComingHome, MayCome, all_came, begin_home, is_back, next_comes, next_may_come, IsBack}
-use Rattle.msg_exec.proofs.BatchGoesOut.{all_may_run, left_stands, IsBatch}
+use Rattle.msg_exec.proofs.BatchGoesOut.{all_may_run, left_stands}
 use Rattle.std.proofs.lemmas.List.{get_or_read}
 
 no_pairs : (R : ℕ → ℕ → Type 0) (i : ℕ) → AllPairs R (i ∷ [])
@@ -59,14 +60,12 @@ module _ {S V : Type 0} {values : Values V} (meaning : S → Meaning V) {g : Len
       abbrev result : Result (JobView S V) ⊤
       result = Ok its_done
 
-      begun : ComingHome meaning g (i ∷ []) s (result ∷ []) mid [] []
-      begun = begin_home meaning one out (back, tt)
+      begun : (turns : List (Turn V)) → ComingHome meaning g (i ∷ []) s (result ∷ []) mid turns turns
+      begun turns = begin_home meaning one out (back, tt)
 
       pub may_come_home : MayCome mid its_done
-      may_come_home = next_may_come meaning refl begun
+      may_come_home = next_may_come meaning refl (begun [])
 
-      pub turn_taken : {new : Lender S V} → ComesHome meaning mid its_done new → LenderStands meaning new (after_turn_of i s)
-      turn_taken comes = (all_came meaning refl (next_comes meaning refl begun comes refl)).0
-
-      pub turn_is_logged : record { system = i; outcome = came } ≡ logged_turn s i
-      turn_is_logged = λ k. record { system = i; outcome = back.after.outcome k }
+      pub turn_taken : {new : Lender S V} (turns : List (Turn V)) → ComesHome meaning mid its_done new
+          → HasTurned meaning (i ∷ []) s new turns (turns ++ record { system = i; outcome = came } ∷ [])
+      turn_taken turns comes = all_came meaning refl (next_comes meaning refl (begun turns) comes refl)

@@ -21,13 +21,7 @@ module _ {V : Type 0} {values : Values V} where
   -- the fixed parts of a core is that of a later core and state with the same joins, rules and systems
   pub fixed_along : {S : Type 0} {c d : Core S V} {s u : State values} → d.joins ≡ c.joins → d.rules ≡ c.rules
       → SameSystems s u → FixedParts c s → FixedParts d u
-  fixed_along {s = s} {u} joins rules same has = record {
-    joins = rw joins (grind (arith, has.joins, same.members));
-    rules = rw (rules, same.rules) has.rules;
-    few = rw same.systems has.few;
-    early = grind (arith, has.early, same.members);
-    named = rw (same.rules, same.systems) has.named;
-  }
+  fixed_along joins rules same has = grind (arith, joins, rules, has, same)
 
 -- ---- who has joined
 

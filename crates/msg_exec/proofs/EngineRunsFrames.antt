@@ -1,10 +1,10 @@
 -- An engine that stands for a state has a core that does. A run and one frame after it are a run.
-use Rattle.std.proofs.Common.{◌≡◌, ℕ, ◌<◌, ◌↔◌, All, List, ◌++◌, ap, is_some, take, Some, sym, ◌∙◌, inl, inr, IsSome}
+use Rattle.std.proofs.Common.{◌≡◌, ◌<◌, ◌↔◌, All, ap, is_some, Some, sym, ◌∙◌, inl, inr, IsSome}
 use Rattle.std.proofs.lemmas.Bool.{false≢true}
 use Rattle.msg_system.specs.Prelude.{Meaning}
 use Rattle.msg_exec.specs.Prelude.{Core, CoreStands, EngineOf, IsEngine, IsSpoiled, PostsFit, EngineStands, frame_count, frame_number}
-use Rattle.msg_frames.specs.{declared.frame.Frame.Frame, declared.log.Log.Log}
-use Rattle.msg_frames.specs.Prelude.{AreAccessesOf, IsSoundState, State, run}
+use Rattle.msg_frames.specs.{declared.frame.Frame.Frame}
+use Rattle.msg_frames.specs.Prelude.{AreAccessesOf, IsSoundState, State}
 use Rattle.msg_exec.proofs.ItemsOfLists.{some_of}
 use Rattle.msg_world.specs.Prelude.{Values}
 
@@ -53,10 +53,3 @@ module _ {S V : Type 0} {values : Values V} (meaning : S → Meaning V) where
       → u.types ≡ s.types → (f : Frame V) → PostsFit e f → PostsFit o f
   still_fit e o s u one other same f fit =
       (takes_posts o u other f).1 (rw same ((takes_posts e s one f).0 fit))
-
-module _ {S V : Type 0} {values : Values V} (meaning : S → Meaning V) where
-  -- what stands after the first k frames
-  pub record RunSoFar (frames : List (Frame V)) (k : ℕ) (s : State values) (before after : List (Log V))
-      (e : EngineOf S V) : Type 0 where
-    pub appended : after ≡ before ++ (run (take k frames) s).logs
-    pub stands : EngineStands meaning e (run (take k frames) s).state

@@ -1,11 +1,11 @@
 -- Entries are added to totals one by one.
-use Rattle.std.proofs.Common.{arith, ◌≡◌, ℕ, zero, suc, List, [], ◌∷◌, ◌++◌, length, drop, get_or, set, ◌<◌, Some, refl, sym, ap, ◌∙◌, slice_get, is_some, false, inl, inr}
+use Rattle.std.proofs.Common.{arith, ◌≡◌, ℕ, zero, suc, List, [], ◌∷◌, ◌++◌, length, drop, get_or, set, ◌<◌, Some, refl, sym, ap, ◌∙◌, slice_get, inl, inr}
 use Rattle.std.specs.{Global.Vec, Vec.with_items}
 use Rattle.std.proofs.lemmas.{List.set-get_or, List.with_items_is, Option.slice_get_cases, Option.get_or_from_slice_get, Option.none-some, Option.same_Some}
 use Rattle.msg_system.specs.{declared.op.Op.Op, declared.reply.Reply.Reply}
 use Rattle.msg_frames.specs.declared.totals.Totals.{Totals}
 use Rattle.msg_frames.specs.declared.log.Outcome.{Outcome}
-use Rattle.msg_frames.specs.Prelude.{ReadEntry, entries_for, entry_of, with_entries}
+use Rattle.msg_frames.specs.Prelude.{ReadEntry, entries_for, with_entries}
 use Rattle.msg_frames.proofs.EntriesAddUp.{with_entries-none}
 use Rattle.msg_exec.specs.Prelude.{capped_totals}
 use Rattle.msg_exec.specs.{inner.SystemsOut.HaveEntered, inner.Totals.entries_by, inner.Totals.entry_at}
@@ -48,11 +48,6 @@ module _ {V : Type 0} where
     )
     | inr past ↦ absurd (omega (arith, lt, past.0))
   ]
-
-  -- a reply that tells of no reader has no entry
-  pub none_at : (t : ℕ) (ops : List (Op V)) (k : ℕ) (reply : Reply V) → is_some (entry_of reply) ≡ false
-      → entry_at t ops k reply ≡ []
-  none_at t ops k reply none = grind (arith, none)
 
 -- ---- the totals of a system, among those of all
 

@@ -1,5 +1,5 @@
 -- A new engine stands for the first state.
-use Rattle.std.proofs.Common.{◌≡◌, ℕ, ◌<◌, ◌≤◌, Bool, true, false, List, length, map, Option, Some, None, refl, sym, ap, ◌∙◌, arith, inl, inr, slice_get, slice_index_or}
+use Rattle.std.proofs.Common.{◌≡◌, ℕ, ◌<◌, ◌≤◌, Bool, List, length, map, Option, Some, None, refl, sym, ap, ◌∙◌, arith, inl, inr, slice_get, slice_index_or}
 use Rattle.std.proofs.lemmas.{Bool.cases_lt, Bool.false≢true, List.get_or-map, List.get_or_past, List.length-map, Option.get_or_from_slice_get, Option.slice_get-get_or, List.map-id, Simd.map-map}
 use Rattle.std.specs.Global.{Box, Vec}
 use Rattle.msg_world.specs.{declared.part.Part.Part, declared.part.Part.TheVariants.OfResource, declared.part.Part.TheVariants.OfType, declared.part.Part.TheVariants.Registry, Prelude.Has, Prelude.HasPart, Prelude.IsWhole, Prelude.Parts, Prelude.PartsStand, Prelude.WorldState, Prelude.Values}

@@ -1,5 +1,5 @@
 -- What stands in a list or an option, in a list with an item set, and in a longer one.
-use Rattle.std.proofs.Common.{◌≡◌, ◌≢◌, ℕ, ◌<◌, ◌++◌, List, [], ◌∷◌, length, set, Option, None, Some, option_map, refl, arith, zero, suc, IsSomeAnd, slice_get}
+use Rattle.std.proofs.Common.{◌≡◌, ◌≢◌, ℕ, ◌<◌, ◌++◌, List, [], ◌∷◌, length, set, Option, None, Some, option_map, refl, arith, zero, suc, IsSomeAnd, slice_get, Result, Ok, Err, OnErr}
 use Rattle.std.proofs.lemmas.{Bool.cases_order, List.get_or-set_other, List.get_or-set_same, List.get_or_append_left, List.get_or_default, List.get_or_push, List.length-set, List.length_push, Option.slice_get_cases}
 use Rattle.msg_exec.specs.Prelude.{EachIs}
 use Rattle.std.specs.List.{AllZip}
@@ -16,6 +16,11 @@ pub some_under : {X Y : Type 0} (P : Y → Type 0) (f : X → Y) (o : Option X) 
     → (x : X) × ((o ≡ Some x) × P (f x))
 some_under P f (Some x) is = (x, (refl, is))
 some_under P f None is = absurd is
+
+-- what holds of a call, if it was refused
+pub if_refused : {T E P : Type 0} (r : Result T E) → P → OnErr r P
+if_refused (Ok x) p = tt
+if_refused (Err e) p = p
 
 -- there is an item at each index below the length
 pub item_at : {X : Type 0} (xs : List X) (i : ℕ) → i < length xs → (x : X) × (slice_get xs i ≡ Some x)

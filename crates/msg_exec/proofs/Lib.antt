@@ -10,9 +10,8 @@ mod BatchGoesOut
 mod BatchComesHome
 mod BatchOfOne
 mod BatchAfterBatch
--- ---- a frame: systems join, posts are written, turns are taken
+-- ---- a frame: systems join, turns are taken
 mod SystemsJoin
-mod PostsAreWritten
 mod CoreRunsFrame
 -- ---- an engine
 mod FirstEngineStands
@@ -20,5 +19,3 @@ mod BuilderBuilds
 pub mod EngineRunsFrames
 mod AccountsTell
 mod SinceThen
-mod HostsGive
-mod LoopsAlike

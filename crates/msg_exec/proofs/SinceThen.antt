@@ -1,9 +1,9 @@
 -- Calls in a row: what the engine did since a state is what it did before, and then what the call did.
-use Rattle.std.proofs.Common.{ap, ℕ, List, [], ◌∷◌, ◌++◌, ◌≡◌, append_assoc, append-nil, refl, sym}
+use Rattle.std.proofs.Common.{ap, List, [], ◌∷◌, ◌++◌, ◌≡◌, append_assoc, append-nil, refl, sym}
 use Rattle.std.specs.List.{AllZip}
-use Rattle.std.proofs.lemmas.List.{Elements.AllZip-push, Sorted.IsPermutation-refl}
+use Rattle.std.proofs.lemmas.List.{Sorted.IsPermutation-refl}
 use Rattle.msg_system.specs.Prelude.{Meaning}
-use Rattle.msg_exec.specs.Prelude.{EngineOf, EngineStands, HasReplayed, HasRunFrame, HasRunFrames, HasRunSince}
+use Rattle.msg_exec.specs.Prelude.{EngineOf, EngineStands, HasRunFrame, HasRunFrames, HasRunSince}
 use Rattle.msg_frames.specs.{declared.frame.Frame.Frame, declared.log.Log.Log}
 use Rattle.msg_frames.specs.Prelude.{IsSoundState, State, TellsTheSame, run}
 use Rattle.msg_frames.proofs.{Functions.run_append, ReaderOverRun.runs_are_complete}
@@ -11,12 +11,9 @@ use Rattle.msg_exec.proofs.EngineRunsFrames.{is_sound}
 use Rattle.msg_world.specs.Prelude.{Values}
 
 module _ {V : Type 0} where
-  itself : (log : Log V) → TellsTheSame log log
-  itself log = record { posts = refl; turns = IsPermutation-refl log.turns }
-
-  each_itself : (logs : List (Log V)) → AllZip TellsTheSame logs logs
+  pub each_itself : (logs : List (Log V)) → AllZip TellsTheSame logs logs
   each_itself [] = tt
-  each_itself (log ∷ logs) = (itself log, each_itself logs)
+  each_itself (log ∷ logs) = (record { posts = refl; turns = IsPermutation-refl log.turns }, each_itself logs)
 
   all_zip_append : (ks ls ms ns : List (Log V)) → AllZip TellsTheSame ks ls → AllZip TellsTheSame ms ns
       → AllZip TellsTheSame (ks ++ ms) (ls ++ ns)
@@ -53,42 +50,18 @@ module _ {S V : Type 0} {values : Values V} (meaning : S → Meaning V) where
       rw (then.appended, run_append) (ap (λ logs. logs ++ (run frames (run before s).state).logs) exact)
 
   module _ (old new : EngineOf S V) where
-    pub since_frame : (f : Frame V) (log : Log V) → ((u : State values) → EngineStands meaning old u → HasRunFrame meaning f u log new)
-        → (s : State values) (frames : List (Frame V)) (logs : List (Log V)) → HasRunSince meaning s frames logs old
-        → HasRunSince meaning s (frames ++ f ∷ []) (logs ++ log ∷ []) new
-    since_frame f log ran s frames logs far =
-        let one = ran (run frames s).state far.stands in
-        record {
-          tell = rw run_append (AllZip-push TellsTheSame logs (run frames s).logs log _ far.tell
-              (rw (← one.tells) (itself log)));
-          complete = far.complete;
-          stands = rw run_append one.stands;
-        }
-
-    pub since_replay : (f : Frame V) (order : List ℕ) (log : Log V)
-        → ((u : State values) → EngineStands meaning old u → HasReplayed meaning f order u log new)
-        → (s : State values) (frames : List (Frame V)) (logs : List (Log V)) → HasRunSince meaning s frames logs old
-        → HasRunSince meaning s (frames ++ f ∷ []) (logs ++ log ∷ []) new
-    since_replay f order log ran s frames logs far =
-        let one = ran (run frames s).state far.stands in
-        record {
-          tell = rw run_append (AllZip-push TellsTheSame logs (run frames s).logs log _ far.tell one.tells);
-          complete = far.complete;
-          stands = rw run_append one.stands;
-        }
-
-    pub since_frames : (gs : List (Frame V)) (before after : List (Log V))
-        → ((u : State values) → EngineStands meaning old u → HasRunFrames meaning gs u before after new)
-        → (s : State values) (frames : List (Frame V)) → HasRunSince meaning s frames before old
+    -- a call that ran or replayed frames: whatever the state before it, its logs tell the same as those of their run
+    pub since_call : (gs : List (Frame V)) (logs after : List (Log V))
+        → ((u : State values) → EngineStands meaning old u → (ls : List (Log V)) × (after ≡ logs ++ ls)
+        × AllZip TellsTheSame ls (run gs u).logs × EngineStands meaning new (run gs u).state)
+        → (s : State values) (frames : List (Frame V)) → HasRunSince meaning s frames logs old
         → HasRunSince meaning s (frames ++ gs) after new
-    since_frames gs before after ran s frames far =
-        let m = (run frames s).state in
-        let more = ran m far.stands in
+    since_call gs logs after ran s frames far =
+        let (ls, is, tell, stands) = ran (run frames s).state far.stands in
         record {
-          tell = rw (run_append, more.appended) (all_zip_append before (run frames s).logs (run gs m).logs _ far.tell
-              (each_itself (run gs m).logs));
+          tell = rw (run_append, is) (all_zip_append logs (run frames s).logs ls _ far.tell tell);
           complete = far.complete;
-          stands = rw run_append more.stands;
+          stands = rw run_append stands;
         }
 
     -- frames, and one more

@@ -68,12 +68,6 @@ module _ {S V : Type 0} {values : Values V} (meaning : S → Meaning V) where
 
 -- ---- the totals after a turn
 
-totals_are : (types : ℕ) (a b : ℕ → Totals) (old new : List Totals) → TotalsStand types old a
-    → length new ≡ length old
-    → ((t : ℕ) → t < length old → totals_at old t ≡ capped_totals (a t) → totals_at new t ≡ capped_totals (b t))
-    → TotalsStand types new b
-totals_are types a b old new stands as_many each = grind arith
-
 module _ {V : Type 0} {values : Values V} where
   pub totals_after : (types : ℕ) (m : Member V) (w : WorldState values) (old new : List Totals) (ops : List (Op V)) (o : Outcome V)
       → ops ≡ (after_job m.job w).job.system.last → o ≡ outcome_of (after_job m.job w).replies
@@ -84,5 +78,8 @@ module _ {V : Type 0} {values : Values V} where
   totals_after types m w old new ops o its came stands as_many entered =
       let same : (t : ℕ) → entries_by t ops o ≡ entries_at t (after_job m.job w).steps =
       λ t. rw (its, came) (last_entries t m.job w) in
-      totals_are types m.totals (member_after (after_job m.job w) m).totals old new stands as_many
-      (λ t lt is. entered t (m.totals t) lt is ∙ ap (λ (es : List (ReadEntry V)). capped_totals (with_entries es (m.totals t))) (same t))
+      record {
+        as_many = as_many ∙ stands.as_many;
+        each = λ t lt. entered t (m.totals t) (rw stands.as_many lt) (stands.each t lt)
+            ∙ ap (λ (es : List (ReadEntry V)). capped_totals (with_entries es (m.totals t))) (same t);
+      }

@@ -1,11 +1,11 @@
 // A frame's turns, batch by batch.
-ghost use Rattle.std.specs.Prelude.{◌≡◌, ◌≢◌, ◌<◌, ◌≤◌, ◌++◌, All, AllPairs, IfOk, OnOk, length, map};
+ghost use Rattle.std.specs.Prelude.{◌≡◌, ◌≢◌, ◌<◌, ◌≤◌, [], All, AllPairs, IfOk, OnOk, length, map};
 ghost use Rattle.std.specs.List.{concat};
-ghost use Rattle.msg_frames.specs.Prelude.{after_turns_of, State};
+ghost use Rattle.msg_frames.specs.Prelude.{State};
 ghost use Rattle.msg_order.specs.Prelude.{NoneConflict};
 ghost use Rattle.msg_exec.specs.Prelude.{LenderStands};
 ghost use Rattle.msg_workers.specs.Prelude.{EachPassedGate};
-ghost use Rattle.msg_exec.specs.inner.SystemsOut.{AreOut};
+ghost use Rattle.msg_exec.specs.inner.{Batches.HasTurned, Batches.IsBatch, SystemsOut.AreOut};
 
 use crate::job::Job;
 use crate::lender::{Lender, run_turn};
@@ -24,10 +24,7 @@ fn lend_out_all<V: Value, S: SystemOf<Value = V>>(
     batch: &[u32],
     spares: &mut Spares<V>,
 ) -> Result<Vec<Job<S, V>>, NoMemory>
-    requires stands { (s : State V.values) × (LenderStands S.meaning lender.old s
-        × All (λ i. i < s.systems) batch.now) }
-    requires once { AllPairs (λ i j. i ≢ j) batch.now }
-    requires apart { NoneConflict lender.old.accesses.items batch.now }
+    requires batch { (s : State V.values) × IsBatch S.meaning lender.old s batch.now }
     ensures out { IfOk result (λ jobs. AreOut lender.old batch.now jobs.items lender.new) }
 {
     let mut jobs = Vec::with_capacity(alloc, batch.len())?;
@@ -50,15 +47,10 @@ fn run_over_workers<
     spares: &mut Spares<V>,
     turns: &mut Vec<Turn<V>>,
 ) -> Result<(), NoMemory>
-    requires stands { (s : State V.values) × (LenderStands S.meaning lender.old s
-        × All (λ i. i < s.systems) batch.now) }
+    requires batch { (s : State V.values) × IsBatch S.meaning lender.old s batch.now }
     requires few { length lender.old.accesses.items ≤ MAX_SYSTEMS }
-    requires once { AllPairs (λ i j. i ≢ j) batch.now }
-    requires apart { NoneConflict lender.old.accesses.items batch.now }
-    ensures state { OnOk result ((s : State V.values) → LenderStands S.meaning lender.old s
-        → LenderStands S.meaning lender.new (after_turns_of batch.now s).state) }
-    ensures turns { OnOk result ((s : State V.values) → LenderStands S.meaning lender.old s
-        → turns.new.items ≡ turns.old.items ++ (after_turns_of batch.now s).turns) }
+    ensures turned { OnOk result ((s : State V.values) → LenderStands S.meaning lender.old s
+        → HasTurned S.meaning batch.now s lender.new turns.old.items turns.new.items) }
     ensures accesses { OnOk result (lender.new.accesses.items ≡ lender.old.accesses.items) }
     ensures gate_passed { OnOk result (EachPassedGate (G.passed context.now.gate.now)
         context.now.workers batch.now) }
@@ -83,10 +75,8 @@ pub(crate) fn run_turns<V: Value, S: SystemOf<Value = V>, G: Gate>(
 ) -> Result<(), NoMemory>
     requires stands { (s : State V.values) × (LenderStands S.meaning lender.old s
         × All (λ i. i < s.systems) systems.now) }
-    ensures state { OnOk result ((s : State V.values) → LenderStands S.meaning lender.old s
-        → LenderStands S.meaning lender.new (after_turns_of systems.now s).state) }
-    ensures turns { OnOk result ((s : State V.values) → LenderStands S.meaning lender.old s
-        → turns.new.items ≡ turns.old.items ++ (after_turns_of systems.now s).turns) }
+    ensures turned { OnOk result ((s : State V.values) → LenderStands S.meaning lender.old s
+        → HasTurned S.meaning systems.now s lender.new turns.old.items turns.new.items) }
     ensures accesses { OnOk result (lender.new.accesses.items ≡ lender.old.accesses.items) }
     ensures gate_passed { OnOk result (All (G.passed gate.now 0) systems.now) }
 {
@@ -106,15 +96,10 @@ fn run_batch<R: Threads + Sync, V: Value + Send + Sync, S: SystemOf<Value = V> +
     spares: &mut Spares<V>,
     turns: &mut Vec<Turn<V>>,
 ) -> Result<(), NoMemory>
-    requires stands { (s : State V.values) × (LenderStands S.meaning lender.old s
-        × All (λ i. i < s.systems) batch.now) }
+    requires batch { (s : State V.values) × IsBatch S.meaning lender.old s batch.now }
     requires few { length lender.old.accesses.items ≤ MAX_SYSTEMS }
-    requires once { AllPairs (λ i j. i ≢ j) batch.now }
-    requires apart { NoneConflict lender.old.accesses.items batch.now }
-    ensures state { OnOk result ((s : State V.values) → LenderStands S.meaning lender.old s
-        → LenderStands S.meaning lender.new (after_turns_of batch.now s).state) }
-    ensures turns { OnOk result ((s : State V.values) → LenderStands S.meaning lender.old s
-        → turns.new.items ≡ turns.old.items ++ (after_turns_of batch.now s).turns) }
+    ensures turned { OnOk result ((s : State V.values) → LenderStands S.meaning lender.old s
+        → HasTurned S.meaning batch.now s lender.new turns.old.items turns.new.items) }
     ensures accesses { OnOk result (lender.new.accesses.items ≡ lender.old.accesses.items) }
     ensures gate_passed { OnOk result (EachPassedGate (G.passed context.now.gate.now)
         context.now.workers batch.now) }
@@ -145,12 +130,10 @@ pub(crate) fn run_batches<
     requires once { AllPairs (λ i j. i ≢ j) (concat (map (λ batch. batch.items) batches.now)) }
     requires apart { All (NoneConflict lender.old.accesses.items)
         (map (λ batch. batch.items) batches.now) }
-    ensures state { IfOk result (λ turns. (s : State V.values) → LenderStands S.meaning lender.old s
-        → LenderStands S.meaning lender.new (after_turns_of
-        (concat (map (λ batch. batch.items) batches.now)) s).state) }
-    ensures turns { IfOk result (λ turns. (s : State V.values) → LenderStands S.meaning lender.old s
-        → turns.items
-        ≡ (after_turns_of (concat (map (λ batch. batch.items) batches.now)) s).turns) }
+    ensures turned { IfOk result (λ turns. (s : State V.values)
+        → LenderStands S.meaning lender.old s
+        → HasTurned S.meaning (concat (map (λ batch. batch.items) batches.now)) s lender.new []
+        turns.items) }
     ensures accesses { OnOk result (lender.new.accesses.items ≡ lender.old.accesses.items) }
     ensures gate_passed { OnOk result (EachPassedGate (G.passed context.now.gate.now)
         context.now.workers

@@ -3,7 +3,6 @@ ghost use Rattle.std.specs.Prelude.{◌≡◌, ℕ, ◌≤◌, ◌↔◌, ◌++�
 ghost use Rattle.msg_world.specs.Prelude.{IsWhole, PartsStand, WorldState};
 ghost use Rattle.msg_order.specs.Prelude.{IsAcyclic, IsFirstUnknown, NameSystemsBelow, edges_of};
 ghost use Rattle.msg_order.specs.declared.rule.Rule.{Rule as RuleView};
-ghost use Rattle.msg_system.specs.Prelude.{HasClash};
 ghost use Rattle.msg_frames.specs.Prelude.{first_state};
 ghost use Rattle.msg_exec.specs.Prelude.{AllFit, EachIs, IsEngine, IsLowestMisfit, HasRunSince, IsSpoiled, Misfit, NoneIsClash, RefusesToAdd, RefusesToBuild, UnknownSystem, numbered_from};
 
@@ -88,14 +87,16 @@ fn check_names<S>(rules: &[Rule], systems: &[S]) -> Result<(), BuildError>
 }
 
 /// Gives each system its number.
-fn number_all<V: Value, S: Numbered + SystemOf<Value = V>>(systems: &mut [S])
-    requires few { length systems.old ≤ MAX_SYSTEMS }
-    ensures as_many { length systems.new ≡ length systems.old }
-    ensures numbered { map S.meaning systems.new ≡ numbered_from 0 (map S.meaning systems.old) }
+fn number_all<V: Value, S: Numbered + SystemOf<Value = V>>(mut systems: Vec<S>) -> Vec<S>
+    requires few { length systems.items ≤ MAX_SYSTEMS }
+    ensures as_many { length result.items ≡ length systems.items }
+    ensures numbered { map S.meaning result.items
+        ≡ numbered_from 0 (map S.meaning systems.items) }
 {
     for i in 0..systems.len() {
         systems[i].set_number(i as u32);
     }
+    systems
 }
 
 impl<V: Value, S: Numbered + SystemOf<Value = V>> EngineBuilder<S, V> {
@@ -193,11 +194,11 @@ impl<V: Value, S: Numbered + SystemOf<Value = V>> EngineBuilder<S, V> {
         check_names(&self.rules, &self.systems)?;
         let EngineBuilder {
             alloc,
-            mut systems,
+            systems,
             places,
             rules,
         } = self;
-        number_all(&mut systems);
+        let systems = number_all(systems);
         Ok(EngineOf::new(alloc, world, systems, places, rules)?)
     }
 }

@@ -2,8 +2,9 @@
 ghost use Rattle.std.specs.Prelude.{◌≡◌, ◌≤◌, ◌↔◌, ℕ, IfOk, IfErr, OnOk, IsTrue, length, map};
 ghost use Rattle.msg_order.specs.Prelude.{IsAcyclic, NameSystemsBelow, edges_of};
 ghost use Rattle.msg_system.specs.Prelude.{HasClash, new_asked};
-ghost use Rattle.msg_exec.specs.Prelude.{Clash, EachIs, IsLowestClash, NoneIsClash, RefusesFor};
-ghost use Rattle.msg_exec.specs.inner.EngineParts.{AreNoTotals, IsAccessAt, IsPreparedFor, IsGuardedAt};
+ghost use Rattle.msg_frames.specs.Prelude.{no_totals};
+ghost use Rattle.msg_exec.specs.Prelude.{Clash, EachIs, IsLowestClash, NoneIsClash, RefusesFor, TotalsStand};
+ghost use Rattle.msg_exec.specs.inner.EngineParts.{IsAccessAt, IsPreparedFor, IsGuardedAt};
 
 use crate::job::GuardedSystem;
 use crate::{BuildRefusal, NoMemory, Place, Totals};
@@ -128,7 +129,8 @@ pub(crate) fn guarded_systems<V: Value, S: SystemOf<Value = V>>(
 /// For each system the totals of readers that haven't joined, one for each type.
 fn totals_of(alloc: Global, systems: usize, types: usize) -> Result<Vec<Vec<Totals>>, NoMemory>
     ensures as_many { IfOk result (λ v. length v.items ≡ systems) }
-    ensures totals { IfOk result (λ v. EachIs (λ i w. AreNoTotals types w.items) v.items) }
+    ensures totals { IfOk result (λ v.
+        EachIs (λ i w. TotalsStand types w.items (λ t. no_totals)) v.items) }
 {
     let none = Totals {
         start: None,

@@ -39,13 +39,10 @@ pub type Engine = EngineOf<Box<dyn System>>;
 impl<V: Value, S: SystemOf<Value = V>> EngineOf<S, V> {
     ghost use Rattle.std.specs.Prelude.{◌≡◌, ◌⊎◌, ◌<◌, ◌++◌, ◌∷◌, [], ◌-◌, ◌^◌, ◌+◌, ◌↔◌, ℕ, All, drop, min, IfOk, OnOk, Err, ◌≤◌, IfErr, IfSome, IsNone, IsTrue, List, None, Some, length, map};
     ghost use Rattle.std.specs.Option.{option_copied};
-    ghost use Rattle.msg_system.specs.Needs.{HasClash};
     ghost use Rattle.msg_world.specs.declared.run_fault.RunFault.TheVariants.{BadOrder, NoMemory, Spoiled};
-    ghost use Rattle.msg_world.specs.declared.record.TheConstants.{HOST};
     ghost use Rattle.msg_world.specs.Prelude.{IsWhole, PartsStand, WorldState};
     ghost use Rattle.msg_order.specs.Prelude.{IsAcyclic, NameSystemsBelow, edges_of};
     ghost use Rattle.msg_exec.specs.{Building.EachIs, Building.MayBeAdded, Building.NoneIsClash, Building.RefusesFor, Cores.SomeJoin, Cores.frame_count, Engines.HasReplayed, Engines.HasRunFrame, Engines.HasRunFrames, Engines.HasRunSince, Engines.HasRunSome, Engines.IsEngine, Engines.IsSpoiled, Engines.PostsFit, Engines.EngineStands, Engines.frame_number, Engines.world_of};
-    ghost use Rattle.msg_workers.specs.Prelude.{EachPassedGate};
     ghost use Rattle.msg_frames.specs.Prelude.{IsCompleteRun, IsLawfulFor, IsSoundState, State, first_state, turn_order_in};
     ghost use Rattle.msg_frames.specs.{declared.frame.Frame.Frame as FrameView, declared.log.Log.Log as LogView};
 
@@ -139,7 +136,14 @@ impl<V: Value, S: SystemOf<Value = V>> EngineOf<S, V> {
         ensures engine { IsEngine V.values S.meaning self.old
             → IsEngine V.values S.meaning self.new }
     {
-        if let Some(core) = &mut self.core {
+        self.keep(Some(log));
+    }
+
+    /// The same of a log, if there is one.
+    pub(crate) fn keep(&mut self, log: Option<Log<V>>)
+        ensures same { self.new ≡ self.old }
+    {
+        if let (Some(core), Some(log)) = (&mut self.core, log) {
             self.spares.keep(log, &mut core.lender.world);
         }
     }
@@ -186,7 +190,7 @@ impl<V: Value, S: SystemOf<Value = V>> EngineOf<S, V> {
             → frame_number self.new ≡ frame_number self.old }
         ensures engine { IsEngine V.values S.meaning self.new }
     {
-        let Some(core) = &self.core else {
+        let Some(core) = &mut self.core else {
             return Err(RunFault::Spoiled);
         };
         let Ok(is_lawful) = accepts_next(self.alloc, core, self.frames, order) else {
@@ -196,9 +200,6 @@ impl<V: Value, S: SystemOf<Value = V>> EngineOf<S, V> {
         if !is_lawful {
             return Err(RunFault::BadOrder);
         }
-        let Some(core) = &mut self.core else {
-            unreachable!()
-        };
         let Ok(log) = replay_one(
             self.alloc,
             core,
@@ -237,9 +238,10 @@ impl<V: Value, S: SystemOf<Value = V>> EngineOf<S, V> {
     pub fn fits(&self, frame: &Frame<V>) -> bool
         ensures fits { IsTrue result ↔ PostsFit self.now frame.now }
     {
-        let Some(world) = self.world() else {
+        let Some(core) = &self.core else {
             return true;
         };
+        let world = &core.lender.world;
         for post in frame.posts.as_slice() {
             if post.0.number() as usize >= world.types() {
                 return false;
@@ -273,12 +275,7 @@ impl<V: Value, S: SystemOf<Value = V>> EngineOf<S, V> {
 // Frames over workers, to which values and systems may be sent.
 impl<V: Value + Send + Sync, S: SystemOf<Value = V> + Send> EngineOf<S, V> {
     ghost use Rattle.std.specs.Prelude.{◌≡◌, ◌<◌, ◌++◌, ◌∷◌, [], ◌-◌, ◌^◌, ◌+◌, ◌↔◌, ℕ, All, drop, min, IfOk, OnOk, Err, ◌≤◌, IfErr, IfSome, IsNone, IsTrue, List, None, Some, length, map};
-    ghost use Rattle.std.specs.Option.{option_copied};
-    ghost use Rattle.msg_system.specs.Needs.{HasClash};
     ghost use Rattle.msg_world.specs.declared.run_fault.RunFault.TheVariants.{BadOrder, NoMemory, Spoiled};
-    ghost use Rattle.msg_world.specs.declared.record.TheConstants.{HOST};
-    ghost use Rattle.msg_world.specs.Prelude.{IsWhole, PartsStand, WorldState};
-    ghost use Rattle.msg_order.specs.Prelude.{IsAcyclic, NameSystemsBelow, edges_of};
     ghost use Rattle.msg_exec.specs.{Building.EachIs, Building.MayBeAdded, Building.RefusesFor, Cores.frame_count, Engines.HasReplayed, Engines.HasRunFrame, Engines.HasRunFrames, Engines.HasRunSince, Engines.HasRunSome, Engines.IsEngine, Engines.IsSpoiled, Engines.PostsFit, Engines.EngineStands, Engines.frame_number, Engines.world_of};
     ghost use Rattle.msg_workers.specs.Prelude.{EachPassedGate};
     ghost use Rattle.msg_frames.specs.Prelude.{IsCompleteRun, IsLawfulFor, IsSoundState, State, first_state, turn_order_in};

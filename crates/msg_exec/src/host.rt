@@ -102,9 +102,7 @@ impl<V: Value + Send + Sync, S: SystemOf<Value = V> + Send> EngineOf<S, V> {
             if !self.fits(&frame) {
                 return Err(LoopFault::Misfit);
             }
-            if let Some(log) = last.take() {
-                self.recycle(log);
-            }
+            self.keep(last.take());
             last = Some(self.run_frame(rt, &frame, workers, &NoGate)?);
         }
         Ok(())

@@ -1,7 +1,7 @@
 // Systems, and the parts of the world that they write, go out for turns and come home.
-ghost use Rattle.std.specs.Prelude.{◌≡◌, ◌<◌, ◌++◌, ◌∷◌, [], IfOk, OnOk};
-ghost use Rattle.msg_frames.specs.Prelude.{after_turn_of, logged_turn, State};
-ghost use Rattle.msg_exec.specs.Prelude.{LenderStands};
+ghost use Rattle.std.specs.Prelude.{◌≡◌, ◌<◌, ◌∷◌, [], IfOk, OnOk};
+ghost use Rattle.msg_frames.specs.Prelude.{State};
+ghost use Rattle.msg_exec.specs.{Prelude.LenderStands, inner.Batches.HasTurned};
 
 use crate::job::{GuardedSystem, Job, JobContents, outcome_if, take_turn};
 use crate::spares::Spares;
@@ -92,10 +92,8 @@ pub(crate) fn run_turn<V: Value, S: SystemOf<Value = V>>(
 ) -> Result<(), NoMemory>
     requires stands { (s : State V.values)
         × (LenderStands S.meaning lender.old s × (number < s.systems)) }
-    ensures state { OnOk result ((s : State V.values) → LenderStands S.meaning lender.old s
-        → LenderStands S.meaning lender.new (after_turn_of number s)) }
-    ensures logged { OnOk result ((s : State V.values) → LenderStands S.meaning lender.old s
-        → turns.new.items ≡ turns.old.items ++ (logged_turn s number ∷ [])) }
+    ensures turned { OnOk result ((s : State V.values) → LenderStands S.meaning lender.old s
+        → HasTurned S.meaning (number ∷ []) s lender.new turns.old.items turns.new.items) }
     ensures accesses { OnOk result (lender.new.accesses.items ≡ lender.old.accesses.items) }
 {
     let i = number as usize;

@@ -1,6 +1,6 @@
 -- What holds of each element of a list, and of each pair, and what stands where.
 use Rattle.std.proofs.Common.{All, AllPairs, Contains, List, [], ap, arith, get_or-append-add, inl, inr, length, length-append, ◌++◌, ◌+◌, ◌∷◌, ◌≡◌}
-use Rattle.std.proofs.lemmas.{List.get_or_append_left, List.Elements.All-cons, List.Elements.All-tail, List.Kept.AllPairs-cons}
+use Rattle.std.proofs.lemmas.{List.get_or_append_left, List.Elements.All-cons, List.Elements.All-head, List.Elements.All-tail, List.Sorted.All-permutation, List.Sorted.IsPermutation-middle, List.Kept.AllPairs-cons}
 use Rattle.msg_order.proofs.Elements.{Contains-cases, not_in_none}
 pub use Rattle.msg_order.proofs.Elements.{pairs_head, pairs_tail}
 
@@ -14,9 +14,9 @@ module _ {X : Type 0} where
       grind (arith, get_or-append-add xs ys, length-append xs ys, r (length xs + i) (length xs + j) d)
 
   pub all_middle : (P : X → Type 0) (xs : List X) (y : X) (ys : List X) → All P (xs ++ y ∷ ys) → P y × All P (xs ++ ys)
-  all_middle P [] y ys h = (h 0 y (omega arith), All-tail P y ys h)
-  all_middle P (x ∷ xs) y ys h =
-      grind (arith, all_middle P xs y ys (All-tail P x _ h), All-cons P x (xs ++ ys), h 0 x (omega arith))
+  all_middle P xs y ys h =
+      let moved = All-permutation P _ _ (IsPermutation-middle xs y ys) h in
+      (All-head P y (xs ++ ys) moved, All-tail P y (xs ++ ys) moved)
 
   pub pairs_middle : (R : X → X → Type 0) (xs : List X) (y : X) (ys : List X) → AllPairs R (xs ++ y ∷ ys)
       → All (λ x. R x y) xs × AllPairs R (xs ++ ys)

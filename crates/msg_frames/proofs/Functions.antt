@@ -1,5 +1,5 @@
 -- What the functions of the order, of frames and of runs come to.
-use Rattle.std.proofs.Common.{All, Bool, Contains, IsTrue, List, [], ap, append_assoc, arith, map, refl, sym, ℕ, ◌&&◌, ◌++◌, ◌<◌, ◌||◌, ◌↔◌, ◌∙◌, ◌∷◌, ◌≡◌, ◌⊎◌}
+use Rattle.std.proofs.Common.{All, Bool, Contains, IsTrue, List, [], append_assoc, arith, map, refl, ℕ, ◌&&◌, ◌++◌, ◌<◌, ◌||◌, ◌↔◌, ◌∷◌, ◌≡◌, ◌⊎◌}
 use Rattle.std.specs.List.{range_with_len}
 use Rattle.std.proofs.lemmas.{Bool.cases_Bool, List.Elements.Contains-append_left, List.Elements.Contains-append_right, List.FromFn.length-map-range_with_len}
 use Rattle.msg_world.specs.{declared.access.Access.Access, declared.part.Part.Part}
@@ -10,7 +10,7 @@ use Rattle.msg_order.specs.Prelude.{IsAcyclic, IsAmong, IsPlanOf, IsTurnOrder, N
 use Rattle.msg_order.proofs.{Elements.Contains-head, Elements.Contains-list_any, Elements.Contains-map, Elements.Contains-range, Elements.list_any-Contains, Functions.batches_are, Functions.settled_among, Functions.settled_no_cycle, Functions.settled_only, Functions.turns_are, TurnOrders.none_conflict}
 use Rattle.msg_system.specs.Prelude.{FitsWorld, IsAccessOf, Needs, needs_any}
 use Rattle.msg_frames.specs.Frames.{parts, settled_order, turn_order}
-use Rattle.msg_frames.specs.Prelude.{AfterRun, AreAccessesOf, Frame, Log, NoCycle, SameSystems, State, UsesParts, are_in_conflict, before_turns, frame, join_flags, needs_conflict, run}
+use Rattle.msg_frames.specs.Prelude.{AreAccessesOf, Frame, Log, NoCycle, SameSystems, State, UsesParts, are_in_conflict, before_turns, frame, join_flags, needs_conflict, run}
 use Rattle.msg_frames.proofs.SystemsStay.{frame_keeps, joined_below}
 
 -- ---- conflicts
@@ -56,9 +56,8 @@ module _ {V : Type 0} {values : Values V} where
       let lj : j < s.systems = joined_below s j at_j in
       conflict_is _ _ _ _ (are.of_needs i li) (are.of_needs j lj) (uses i li)
 
--- ---- the order of turns
+  -- ---- the order of turns
 
-module _ {V : Type 0} {values : Values V} where
   pub order_is_settled : (s : State values) (accesses : List Access) (conflict : ℕ → ℕ → Bool) → UsesParts s
       → AreAccessesOf s accesses → TellsConflicts accesses (join_flags s) conflict
       → settled_order s ≡ settled conflict s.rules (join_flags s)
@@ -94,9 +93,8 @@ module _ {V : Type 0} {values : Values V} where
       none_conflict accesses s.rules (join_flags s) (are_in_conflict s) _ (conflicts_tell s accesses are uses)
       (batches_are (settled_order s) (join_flags s) (order_among s) (order_free s free))
 
--- ---- frames and then others
+  -- ---- frames and then others
 
-module _ {V : Type 0} {values : Values V} where
   pub run_append : (fs gs : List (Frame V)) (s : State values) → run (fs ++ gs) s
       ≡ record {
         state = (run gs (run fs s).state).state;
@@ -110,12 +108,7 @@ module _ {V : Type 0} {values : Values V} where
       → (logs ≡ (run frames s).logs) × (m ≡ (run frames s).state) → log ≡ (frame f m).log
       → (logs ++ log ∷ [] ≡ (run (frames ++ f ∷ []) s).logs)
       × ((frame f m).state ≡ (run (frames ++ f ∷ []) s).state)
-  run_more frames f s logs log m so_far one =
-      let more = run_append frames (f ∷ []) s in
-      let last = λ (u : State values) (e : m ≡ u). ap (λ (v : State values). (frame f v).log) e in (
-        rw (so_far.0, one, last (run frames s).state so_far.1) (sym (ap (λ (r : AfterRun values). r.logs) more)),
-        ap (λ (v : State values). (frame f v).state) so_far.1 ∙ sym (ap (λ (r : AfterRun values). r.state) more),
-      )
+  run_more frames f s logs log m so_far one = rw (so_far.0, one, so_far.1, run_append frames (f ∷ []) s) (refl, refl)
 
   pub run_keeps : (fs : List (Frame V)) (s : State values) → SameSystems s (run fs s).state
   run_keeps [] s = grind arith

@@ -1,5 +1,5 @@
 -- Whatever a run does, each type's history goes on.
-use Rattle.std.proofs.Common.{List, None, Option, Some, [], append-nil, append_assoc, arith, length-append, map, suc, zero, ℕ, ◌∷◌, ◌≤◌}
+use Rattle.std.proofs.Common.{List, None, Option, Some, [], append-nil, append_assoc, arith, length-append, map, refl, suc, zero, ℕ, ◌∷◌, ◌≡◌, ◌≤◌}
 use Rattle.std.proofs.lemmas.{Bool.cases_Bool, Bool.Decides.eqb_tells}
 use Rattle.msg_buffer.specs.Prelude.{GoesOn, History, IsSound, clear, count, write}
 use Rattle.msg_buffer.proofs.Growth.{only_grows}
@@ -18,6 +18,19 @@ module _ {V : Type 0} where
 
   pub counts_more : (a b : History (Record V)) → GoesOn a b → count a ≤ count b
   counts_more a b x = grind (arith, length-append)
+
+-- What holds of a turn before its first op, and of one op more, holds of so many ops.
+module _ {V : Type 0} {values : Values V} (P : AfterProgram values → Type 0) (m : Meaning V) (w : WorldState values)
+    (first : P (after_at_most 0 (next_op m) m.writer m.places w))
+    (more : (op : Op V) (far : AfterProgram values) → next_op m far.replies ≡ Some op → P far → P (one_more (Some op) m.writer far))
+  where
+    one_op : (o : Option (Op V)) (far : AfterProgram values) → next_op m far.replies ≡ o → P far → P (one_more o m.writer far)
+    one_op None far is so = so
+    one_op (Some op) far is so = more op far is so
+
+    pub by_ops : (n : ℕ) → P (after_at_most n (next_op m) m.writer m.places w)
+    by_ops zero = first
+    by_ops (suc n) = one_op _ (after_at_most n (next_op m) m.writer m.places w) refl (by_ops n)
 
 -- ---- what changes keep
 
@@ -46,20 +59,12 @@ module _ {V : Type 0} {values : Values V} (R : History (Record V) → History (R
   op_changes (Drain t) writer places w = one_changes w t _ (kept.drained (w.histories t))
   op_changes op writer places w = λ t. kept.same _
 
-  more_changes : (o : Option (Op V)) (writer : ℕ) (far : AfterProgram values) → InEach R far.state (one_more o writer far).state
-  more_changes None writer far = λ t. kept.same _
-  more_changes (Some op) writer far = op_changes op writer far.places far.state
-
-  ops_change : (n : ℕ) (m : Meaning V) (w : WorldState values)
-      → InEach R w (after_at_most n (next_op m) m.writer m.places w).state
-  ops_change zero m w t = kept.same _
-  ops_change (suc n) m w t =
-      let far : AfterProgram values = after_at_most n (next_op m) m.writer m.places w in
-      kept.further _ _ _ (ops_change n m w t) (more_changes (next_op m far.replies) m.writer far t)
-
   pub job_changes : (j : Job V) (w : WorldState values) → InEach R w (after_job j w).state
   unfolding turn
-  job_changes j w t = grind (arith, cases_Bool, kept.same (w.histories t), ops_change MAX_OPS j.system w t)
+  job_changes j w t =
+      let ops = by_ops (λ (far : AfterProgram values). R (w.histories t) (far.state.histories t)) j.system w (kept.same _)
+      (λ op far is so. kept.further _ _ _ so (op_changes op j.system.writer far.places far.state t)) MAX_OPS in
+      grind (arith, cases_Bool, kept.same (w.histories t), ops)
 
   pub turns_change : (order : List ℕ) (s : State values) → InEach R s.world (after_turns_of order s).state.world
   turns_change [] s t = kept.same _
@@ -78,13 +83,7 @@ module _ {V : Type 0} where
   abbrev pub Grows : History (Record V) → History (Record V) → Type 0
   Grows a b = IsSound a → GoesOn a b
 
-module _ {V : Type 0} {values : Values V} where
-  -- each sound history of the first world goes on in the second
-  abbrev pub WorldGoesOn : WorldState values → WorldState values → Type 0
-  WorldGoesOn w v = InEach Grows w v
-
-module _ {V : Type 0} where
-  pub grown : IsKept (Grows {V = V})
+  pub grown : IsKept Grows
   grown = record {
     same = stays;
     further = λ a b c x y sound. goes_further a b c (x sound) (y (x sound).sound);
@@ -93,6 +92,10 @@ module _ {V : Type 0} where
   }
 
 module _ {V : Type 0} {values : Values V} where
+  -- each sound history of the first world goes on in the second
+  abbrev pub WorldGoesOn : WorldState values → WorldState values → Type 0
+  WorldGoesOn w v = InEach Grows w v
+
   pub before_goes_on : (posts : List (ℕ × V)) (s : State values) → WorldGoesOn s.world (before_turns posts s).world
   before_goes_on posts s t sound =
       let posted = posts_change Grows grown posts (after_update s.world) t in

@@ -1,7 +1,7 @@
 -- Two lawful orders of turns leave the same.
-use Rattle.std.proofs.Common.{All, AllPairs, Bool, Contains, IsPermutation, IsTrue, List, [], arith, get_or, length, refl, sym, ℕ, ◌++◌, ◌<◌, ◌↔◌, ◌∙◌, ◌∷◌, ◌≡◌, ◌≢◌, ◌⊎◌}
+use Rattle.std.proofs.Common.{All, AllPairs, Bool, Contains, IsPermutation, IsTrue, List, [], arith, get_or, length, refl, ℕ, ◌++◌, ◌<◌, ◌↔◌, ◌∙◌, ◌∷◌, ◌≡◌, ◌≢◌, ◌⊎◌}
 use Rattle.std.proofs.lemmas.{Bool.cases_order, Grind.get_or_default_zero}
-use Rattle.std.proofs.lemmas.List.Elements.{All-append, All-contains, All-tail, Contains-append_left, Contains-get_or}
+use Rattle.std.proofs.lemmas.List.Elements.{All-contains, All-tail, Contains-append_left, Contains-get_or}
 use Rattle.std.proofs.lemmas.List.Sorted.{Contains-permutation, IsPermutation-cons, IsPermutation-middle, IsPermutation-refl, IsPermutation-sym, IsPermutation-trans}
 use Rattle.std.proofs.lemmas.Option.{get_or_from_slice_get, slice_get_within}
 use Rattle.msg_world.specs.{Prelude.Conflict, Prelude.Values, declared.access.Access.Access}
@@ -10,8 +10,9 @@ use Rattle.msg_order.specs.Prelude.{Graph, IsLawfulOrder, Path, TellsConflicts, 
 use Rattle.msg_system.specs.Prelude.{JobFootprint}
 use Rattle.msg_frames.specs.{Frames.settled_order, Frames.turn_order, Prelude.AreAccessesOf, Prelude.FramesAgreeInLawfulOrders, Prelude.State, Prelude.Turn, Prelude.after_turn_of, Prelude.after_turns_of, Prelude.are_in_conflict, Prelude.before_turns, Prelude.join_flags, Prelude.logged_turn}
 use Rattle.msg_frames.proofs.TurnsCommute.{turns_commute}
-use Rattle.msg_frames.proofs.ElementsAndPairs.{Cut, cut, pairs_head, pairs_middle, pairs_right, pairs_tail}
+use Rattle.msg_frames.proofs.ElementsAndPairs.{Cut, cut, pairs_head, pairs_middle, pairs_tail}
 use Rattle.msg_frames.proofs.Functions.{conflicts_tell, order_among, order_is}
+use Rattle.msg_frames.proofs.ReplaysTellTheSame.{once_moved}
 use Rattle.msg_frames.proofs.SystemsStay.{accesses_stay, before_keeps, joined_below, no_cycle_stays, one_turn_keeps, uses_stay}
 
 -- in either order of turns the same is left, and the turns are the same
@@ -57,12 +58,11 @@ without : (xs : List ℕ) (y : ℕ) (ys : List ℕ) → AllPairs (λ i j. i ≢ 
     → Contains (xs ++ ys) i ↔ (Contains (xs ++ y ∷ ys) i × (i ≢ y))
 without xs y ys once i =
     let moved = IsPermutation-middle xs y ys in
-    let after = pairs_head (λ i j. i ≢ j) y ys (pairs_right (λ i j. i ≢ j) xs (y ∷ ys) once) in
-    let others : All (λ x. x ≢ y) (xs ++ ys) = All-append (λ x. x ≢ y) xs ys
-    (pairs_middle (λ i j. i ≢ j) xs y ys once).0 (λ k d lt e. after k d lt (sym e)) in
+    let others = pairs_head (λ i j. i ≢ j) y (xs ++ ys)
+    (once_moved (y ∷ xs ++ ys) (xs ++ y ∷ ys) (IsPermutation-sym _ _ moved) once) in
     let back = Contains-permutation _ _ i (IsPermutation-sym _ _ moved) in
     let front = Contains-permutation _ _ i moved in
-    let differs = All-contains (λ x. x ≢ y) (xs ++ ys) i others in
+    let differs = All-contains (λ x. y ≢ x) (xs ++ ys) i others in
     grind (arith, back, front, differs, Contains-tail y (xs ++ ys) i, Contains-cases y (xs ++ ys) i)
 
 -- The systems of J are below, and two of them in conflict are joined by a path.

@@ -1,5 +1,5 @@
 -- What a reader goes past by an op, by a turn and by a job.
-use Rattle.std.proofs.Common.{All, List, None, Option, Some, [], ap, arith, cond, filter, flat_map, map, refl, suc, sym, zero, ℕ, ◌++◌, ◌+◌, ◌==◌, ◌∙◌, ◌∷◌, ◌≡◌, ◌≤◌}
+use Rattle.std.proofs.Common.{All, List, None, Option, Some, [], ap, arith, cond, filter, flat_map, map, refl, ℕ, ◌++◌, ◌+◌, ◌==◌, ◌∙◌, ◌∷◌, ◌≡◌, ◌≤◌}
 use Rattle.std.proofs.lemmas.{Bool.cases_Bool, Bool.Decides.eqb_tells, Grind.flat_map-append, List.append-nil, List.length-map, List.map-append, List.map-id, List.Elements.All-append, List.Elements.All-cons, List.Elements.All-nil, List.Elements.All-weaker, Simd.map-map}
 use Rattle.msg_buffer.specs.Prelude.{Fits, GoesOn, History, IsSound, Stretch, Tile, count, given, message_of, next_place, pass_over, read}
 use Rattle.msg_buffer.proofs.Tiles.{clears_fit, reads_fit}
@@ -8,7 +8,7 @@ use Rattle.msg_system.specs.{declared.limits.TheConstants.MAX_OPS, declared.op.O
 use Rattle.msg_system.specs.Prelude.{AfterOp, AfterProgram, Job, Meaning, Step, after_at_most, after_job, after_op, next_op, one_more, took, turn, with_place}
 use Rattle.msg_system.specs.declared.op.Op.TheVariants.{Clear, Forward, Read, Sum}
 use Rattle.msg_frames.specs.Prelude.{GivesItsStretch, Moment, ReadEntry, entries_at, entry_for, entry_of_read, moments_at}
-use Rattle.msg_frames.proofs.HistoriesGrow.{Grows, counts_more, goes_further, grown, op_changes, stays}
+use Rattle.msg_frames.proofs.HistoriesGrow.{Grows, by_ops, counts_more, goes_further, grown, op_changes, stays}
 
 module _ {V : Type 0} {values : Values V} where
   -- these steps, each beside who took it
@@ -87,23 +87,20 @@ module _ {V : Type 0} {values : Values V} where
   moments_of t xs = flat_map (moments_at t) xs
 
   -- the moments of the next op
-  abbrev pub next_moments : ℕ → Option (Op V) → ℕ → AfterProgram values → List (Moment V)
-  next_moments t None writer far = []
-  next_moments t (Some op) writer far =
+  abbrev pub next_moments : ℕ → Op V → ℕ → AfterProgram values → List (Moment V)
+  next_moments t op writer far =
       map (λ e. record { history = far.state.histories t; place = far.places t; entry = e })
       (entry_for t op (after_op op writer far.places far.state).reply)
 
   -- one op more
-  more_are : (t : ℕ) (o : Option (Op V)) (writer : ℕ) (far : AfterProgram values)
-      → moments_of t (one_more o writer far).steps ≡ moments_of t far.steps ++ next_moments t o writer far
-  more_are t None writer far = sym (append-nil (moments_of t far.steps))
-  more_are t (Some op) writer far =
+  more_are : (t : ℕ) (op : Op V) (writer : ℕ) (far : AfterProgram values)
+      → moments_of t (one_more (Some op) writer far).steps ≡ moments_of t far.steps ++ next_moments t op writer far
+  more_are t op writer far =
       let here : AfterOp values = after_op op writer far.places far.state in
       let done : Step values = record { op = op; places = far.places; world = far.state; reply = here.reply } in
       flat_map-append (moments_at t) far.steps (done ∷ [])
       ∙ ap (λ (ms : List (Moment V)). moments_of t far.steps ++ ms) (append-nil (moments_at t done))
 
-module _ {V : Type 0} {values : Values V} where
   module _ (t : ℕ) where
     -- an op that reads type u
     of_type : (u : ℕ) (w : WorldState values) (v : History (Record V)) (ps : ℕ → ℕ) (e : ReadEntry V) (q : ℕ)
@@ -123,35 +120,32 @@ module _ {V : Type 0} {values : Values V} where
         (passes_one (ps t) h (record { stretch = read h (ps t) limit; given = Some _ }) _ law.0 (law.2 within)
         (ap (map message_of) law.1) (grows sound)))
 
-    pub next_passes : (o : Option (Op V)) (writer : ℕ) (far : AfterProgram values) →
-        let more = one_more o writer far in
-        GoesPast t far.places far.state (next_moments t o writer far) more.places more.state
-    next_passes None writer far = λ sound within. passes_nothing _ _ _ within (stays _ sound)
-    next_passes (Some (Read u limit)) writer far = of_read u far.state far.state far.places limit (stays _)
-    next_passes (Some (Clear u)) writer far = λ sound within.
+    pub next_passes : (op : Op V) (writer : ℕ) (far : AfterProgram values) →
+        let more = one_more (Some op) writer far in
+        GoesPast t far.places far.state (next_moments t op writer far) more.places more.state
+    next_passes (Read u limit) writer far = of_read u far.state far.state far.places limit (stays _)
+    next_passes (Clear u) writer far = λ sound within.
         let h : History (Record V) = far.state.histories t in
         let law = clears_fit h (far.places t) sound in
         let entry : ReadEntry V = record { stretch = pass_over h (far.places t); given = None } in
         of_type u far.state _ far.places _ _ within (stays _ sound) (λ e. rw (e, ← law.1 within)
         (passes_one (far.places t) h entry _ law.0 (omega (arith, law.1 within)) tt (stays _ sound)))
-    next_passes (Some (Forward u v)) writer far =
+    next_passes (Forward u v) writer far =
         of_read u far.state (after_op (Forward u v) writer far.places far.state).state far.places None
         (op_changes Grows grown (Forward u v) writer far.places far.state t)
-    next_passes (Some (Sum u r)) writer far = of_read u far.state far.state far.places None (stays _)
-    next_passes (Some op) writer far = λ sound within.
+    next_passes (Sum u r) writer far = of_read u far.state far.state far.places None (stays _)
+    next_passes op writer far = λ sound within.
         let goes = op_changes Grows grown op writer far.places far.state t sound in
         grind (arith, cases_Bool, passes_nothing (far.places t) (far.state.histories t) _ within goes)
 
     pub first_passes : (n : ℕ) (m : Meaning V) (w : WorldState values) →
         let far = after_at_most n (next_op m) m.writer m.places w in
         GoesPast t m.places w (moments_of t far.steps) far.places far.state
-    first_passes zero m w sound within = passes_nothing _ _ _ within (stays _ sound)
-    first_passes (suc n) m w sound within =
-        let far : AfterProgram values = after_at_most n (next_op m) m.writer m.places w in
-        let so_far = first_passes n m w sound within in
-        rw (more_are t (next_op m far.replies) m.writer far)
-        (passes_further _ _ _ _ _ _ _ _ so_far
-        (next_passes (next_op m far.replies) m.writer far so_far.goes_on.sound so_far.within))
+    first_passes n m w sound within =
+        let so_far = λ (far : AfterProgram values).
+        Passes (m.places t) (w.histories t) (moments_of t far.steps) (far.places t) (far.state.histories t) in
+        by_ops so_far m w (passes_nothing _ _ _ within (stays _ sound)) (λ op far is so. rw (more_are t op m.writer far)
+        (passes_further _ _ _ _ _ _ _ _ so (next_passes op m.writer far so.goes_on.sound so.within))) n
 
     turn_passes : (m : Meaning V) (w : WorldState values)
         → GoesPast t m.places w (moments_of t (turn m w).steps) (turn m w).places (turn m w).state

@@ -1,17 +1,17 @@
 -- What a reader goes past over a run of frames.
 use Rattle.std.proofs.Common.{IsTrue, List, [], arith, if◌then◌else◌, refl, ℕ, ◌++◌, ◌<◌, ◌∙◌, ◌∷◌, ◌≡◌}
 use Rattle.msg_order.specs.Prelude.{has_joined}
-use Rattle.std.proofs.lemmas.{Bool.cases_Bool, Grind.flat_map-append}
+use Rattle.std.proofs.lemmas.{Bool.cases_Bool}
 use Rattle.msg_buffer.specs.Prelude.{GoesOn, History}
 use Rattle.msg_system.specs.Prelude.{Step}
 use Rattle.msg_world.specs.{Prelude.Values, Prelude.WorldState, Prelude.after_update, declared.record.Record.Record}
 use Rattle.msg_frames.specs.Frames.{turn_order}
-use Rattle.msg_frames.specs.Prelude.{Frame, IsSoundState, Moment, RunsAreComplete, State, Totals, after_posts, before_turns, found_at, frame, join_flags, moments, moments_at, post_steps, reader_place, run, totals_from, turns_steps}
+use Rattle.msg_frames.specs.Prelude.{Frame, IsSoundState, Moment, RunsAreComplete, State, Totals, after_posts, before_turns, found_at, frame, join_flags, moments, post_steps, reader_place, run, totals_from, turns_steps}
 use Rattle.msg_frames.proofs.{EntriesAddUp.with_entries-none, SystemsStay.turns_keep, WrittenOnce.run_writes}
 use Rattle.msg_frames.proofs.BeforeTurns.{Prepares, comes, prepares, stood, waits}
 use Rattle.msg_frames.proofs.HistoriesGrow.{goes_further, stays}
 use Rattle.msg_frames.proofs.ReaderOverJob.{moments_of, passes_nothing, steps_of}
-use Rattle.msg_frames.proofs.ReaderOverTurns.{ReadsFrom, reads_further, steps_of-append, turns_moments, turns_read, turns_skip}
+use Rattle.msg_frames.proofs.ReaderOverTurns.{ReadsFrom, own-append, reads_further, turns_moments, turns_read, turns_skip}
 use Rattle.msg_frames.proofs.StatesStaySound.{joined_alike, frame_sound, has_no_turn, prepared_sound}
 use Rattle.msg_frames.proofs.TellsEachOnce.{are_true, tells_once, tiles_rise}
 
@@ -29,17 +29,10 @@ module _ {V : Type 0} {values : Values V} where
       let posts : List (ℕ × Step values) = post_steps f.posts (after_update s.world) in
       let turns : List (ℕ × Step values) = turns_steps (turn_order b) b in
       let rest : List (ℕ × Step values) = (run fs (frame f s).state).steps in
-      rw (
-        steps_of-append i (posts ++ turns) rest,
-        steps_of-append i posts turns,
-        flat_map-append (moments_at t) (steps_of i posts ++ steps_of i turns) (steps_of i rest),
-        flat_map-append (moments_at t) (steps_of i posts) (steps_of i turns),
-        posts_pass i t f.posts (after_update s.world),
-      ) refl
+      rw (own-append i t (posts ++ turns) rest, own-append i t posts turns, posts_pass i t f.posts (after_update s.world)) refl
 
--- ---- a reader that joins in the run, or had joined
+  -- ---- a reader that joins in the run, or had joined
 
-module _ {V : Type 0} {values : Values V} where
   -- a reader's moments from a history on are its moments from an earlier history on
   reads_since : (i t place : ℕ) (had : Totals) (a b : History (Record V)) (ms : List (Moment V)) (u : State values) → GoesOn a b
       → ReadsFrom i t place had b ms u → ReadsFrom i t place had a ms u

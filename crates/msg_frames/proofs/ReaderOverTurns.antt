@@ -46,23 +46,19 @@ module _ {V : Type 0} {values : Values V} where
   of_one i j [] = grind (arith, cases_Bool)
   of_one i j (x ∷ xs) = grind (arith, cases_Bool, of_one i j xs)
 
-  pub steps_of-append : (i : ℕ) (xs ys : List (ℕ × Step values)) → steps_of i (xs ++ ys) ≡ steps_of i xs ++ steps_of i ys
-  steps_of-append i xs ys =
+  -- the moments of system i among these steps and those
+  pub own-append : (i t : ℕ) (xs ys : List (ℕ × Step values))
+      → moments_of t (steps_of i (xs ++ ys)) ≡ moments_of t (steps_of i xs) ++ moments_of t (steps_of i ys)
+  own-append i t xs ys =
       let own = λ (x : ℕ × Step values). x.0 == i in
-      rw (filter-append own xs ys, map-append (λ (x : ℕ × Step values). x.1) (filter own xs) (filter own ys)) refl
+      rw (filter-append own xs ys, map-append (λ (x : ℕ × Step values). x.1) (filter own xs) (filter own ys))
+      (flat_map-append (moments_at t) (steps_of i xs) (steps_of i ys))
 
   pub turns_further : (i t j : ℕ) (js : List ℕ) (s : State values)
       → turns_moments i t (j ∷ js) s ≡ own_moments i t j s ++ turns_moments i t js (after_turn_of j s)
   turns_further i t j js s =
       let xs : List (Step values) = (after_job (s.members j).job s.world).steps in
-      let ys : List (ℕ × Step values) = turns_steps js (after_turn_of j s) in
-      grind (
-        arith,
-        cases_Bool,
-        steps_of-append i (by_system j xs) ys,
-        of_one i j xs,
-        flat_map-append (moments_at t) (steps_of i (by_system j xs)) (steps_of i ys),
-      )
+      grind (arith, cases_Bool, own-append i t (by_system j xs) (turns_steps js (after_turn_of j s)), of_one i j xs)
 
   pub turn_reads : (i t j : ℕ) (s : State values) → IsSound (s.world.histories t)
       → reader_place s i t ≤ count (s.world.histories t) → Reads i t s (own_moments i t j s) (after_turn_of j s)

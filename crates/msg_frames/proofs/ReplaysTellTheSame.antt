@@ -51,7 +51,7 @@ module _ {X Y : Type 0} (key : X → ℕ) (f : X → List Y) (i : ℕ) where
       grind (arith, cases_Bool (list_any test xs), some, one, other, moves, same, none_told, eqb-true)
 
 -- numbers that differ stay so when they change places
-once_moved : (xs ys : List ℕ) → IsPermutation xs ys → AllPairs (λ a b. a ≢ b) ys → AllPairs (λ a b. a ≢ b) xs
+pub once_moved : (xs ys : List ℕ) → IsPermutation xs ys → AllPairs (λ a b. a ≢ b) ys → AllPairs (λ a b. a ≢ b) xs
 once_moved xs ys moved once =
     AllPairs-from_IsDistinct Decides-eqb xs (IsDistinct-IsPermutation eqb (λ a b. grind (arith, eqb_tells a b, eqb_tells b a)) ys xs
     (IsPermutation-sym xs ys moved) (IsDistinct-from_AllPairs Decides-eqb ys once))

@@ -1,8 +1,8 @@
 -- The entries of a reader tell each number once, in order, and they are true.
-use Rattle.std.proofs.Common.{All, IfSome, List, None, Option, Some, [], ap, arith, drop, flat_map, length, map, option_map, refl, slice_get, suc, take, zero, ℕ, ◌++◌, ◌+◌, ◌-◌, ◌∷◌, ◌≡◌, ◌≤◌}
+use Rattle.std.proofs.Common.{All, IfSome, List, None, Option, Some, [], ap, arith, drop, flat_map, get_or, length, map, option_map, refl, slice_get, suc, take, zero, ℕ, ◌++◌, ◌+◌, ◌-◌, ◌∷◌, ◌≡◌, ◌≤◌}
 use Rattle.std.specs.List.{range_with_len}
-use Rattle.std.proofs.lemmas.{List.drop-append-le, List.drop-map, List.drop_more, List.length-append, List.length-drop, List.take-append-le, List.take-map, List.Elements.All-cons, List.Elements.All-head, List.Elements.All-nil, List.Elements.All-tail, Option.slice_get-get_or}
-use Rattle.msg_buffer.specs.Prelude.{Entry as Written, GoesOn, History, Stretch, Tile, count, next_place}
+use Rattle.std.proofs.lemmas.{List.drop-append-le, List.drop-map, List.drop_more, List.length-append, List.length-drop, List.take-append-le, List.take-map, Option.slice_get-get_or}
+use Rattle.msg_buffer.specs.Prelude.{Entry as Written, Fits, GoesOn, History, Stretch, Tile, count, next_place}
 use Rattle.msg_buffer.proofs.Numbers.{instances-numbered, messages-numbered}
 use Rattle.msg_world.specs.declared.record.Record.{Record}
 use Rattle.msg_frames.specs.Prelude.{GivesItsStretch, IsTrueEntry, Moment, message_numbered, messages_of, entry_numbers}
@@ -36,9 +36,8 @@ module _ {V : Type 0} where
       let begin : s.first - s.missed ≡ p = omega (arith, tile.0.first) in
       rw (rest, here, all, begin) refl
 
--- ---- the messages of a stretch are what was written
+  -- ---- the messages of a stretch are what was written
 
-module _ {V : Type 0} where
   abbrev message_in : Written (Record V) → Record V
   message_in e = e.message
 
@@ -66,21 +65,26 @@ module _ {V : Type 0} (h last : History (Record V)) (s : Stretch) (goes : GoesOn
       (read_range last.entries s.first s.number
       (omega (arith, ap length goes.entries, length-append h.entries goes.more)))
 
+-- each stretch of a tile fits where the one before it ended
+pub tile_fits : {V : Type 0} (p : ℕ) (ms : List (Moment V)) (q : ℕ) → Tile p (map tile_of ms) q
+    → All (λ m. (place : ℕ) × ((p ≤ place) × Fits m.history place m.entry.stretch)) ms
+tile_fits p [] q tile k d lt = absurd (omega arith)
+tile_fits p (m ∷ ms) q tile zero d lt = (p, (omega arith, tile.0))
+tile_fits p (m ∷ ms) q tile (suc k) d lt =
+    let r = tile_fits (next_place m.entry.stretch) ms q tile.1 k d (omega arith) in
+    (r.0, (omega (arith, r.1.0, tile.0.first), r.1.1))
+
 module _ {V : Type 0} (last : History (Record V)) where
   pub are_true : (p : ℕ) (ms : List (Moment V)) (q : ℕ) → Tile p (map tile_of ms) q
       → All Begins ms → All GivesItsStretch ms → All (λ m. GoesOn m.history last) ms → All IsWritten ms
       → All (IsTrueEntry last) ms
-  are_true p [] q tile begins gives goes written = All-nil (IsTrueEntry last)
-  are_true p (m ∷ ms) q tile begins gives goes written =
-      let s : Stretch = m.entry.stretch in
-      let wrote = All-head IsWritten m ms written in
-      All-cons (IsTrueEntry last) m ms
-      (record {
-        begins = All-head Begins m ms begins;
-        passed = λ n c. let at = range-Contains _ _ _ c in tile.0.passed n at.0 at.1;
-        missed = λ n c. grind (arith, range-Contains _ _ _ c, wrote, tile.0.missed n, tile.0.first);
-        gave = gave_as_written m.history last s (All-head (λ m. GoesOn m.history last) m ms goes) wrote m.entry.given
-            (All-head GivesItsStretch m ms gives);
-      })
-      (are_true (next_place s) ms q tile.1 (All-tail Begins m ms begins) (All-tail GivesItsStretch m ms gives)
-      (All-tail (λ m. GoesOn m.history last) m ms goes) (All-tail IsWritten m ms written))
+  are_true p ms q tile begins gives goes written k d lt =
+      let m : Moment V = get_or ms k d in
+      let fits = (tile_fits p ms q tile k d lt).1.1 in
+      let wrote = written k d lt in
+      record {
+        begins = begins k d lt;
+        passed = λ n c. let at = range-Contains _ _ _ c in fits.passed n at.0 at.1;
+        missed = λ n c. grind (arith, range-Contains _ _ _ c, wrote, fits.missed n, fits.first);
+        gave = gave_as_written m.history last m.entry.stretch (goes k d lt) wrote m.entry.given (gives k d lt);
+      }

@@ -1,16 +1,16 @@
 -- Each type's list grows by exactly what the steps tell.
-use Rattle.std.proofs.Common.{Contains, IsTrue, List, None, Option, Some, [], ap, append-nil, append_assoc, arith, length, map, refl, suc, sym, zero, ℕ, ◌++◌, ◌+◌, ◌∙◌, ◌∷◌, ◌≡◌}
+use Rattle.std.proofs.Common.{Contains, IsTrue, List, None, [], ap, append-nil, append_assoc, arith, length, map, refl, sym, ℕ, ◌++◌, ◌+◌, ◌∙◌, ◌∷◌, ◌≡◌}
 use Rattle.std.specs.List.{enumerate_from}
 use Rattle.std.proofs.lemmas.{Bool.cases_Bool, Bool.Decides.eqb_tells, Grind.flat_map-append, List.length-map, List.map-append}
 use Rattle.msg_buffer.specs.Prelude.{Entry, History, count, has_room, stamped, write}
 use Rattle.msg_world.specs.{Prelude.Values, Prelude.WorldState, Prelude.after_update, Prelude.by, declared.record.Record.Record, declared.record.TheConstants.HOST}
 use Rattle.msg_system.specs.{declared.limits.TheConstants.MAX_OPS, declared.op.Op.Op}
 use Rattle.msg_system.specs.declared.op.Op.TheVariants.{Batch, Drain, Forward, Write}
-use Rattle.msg_system.specs.Prelude.{AfterOp, AfterProgram, Job, Meaning, Step, after_at_most, after_job, after_op, again_by, next_op, one_more, took, turn, wrote}
+use Rattle.msg_system.specs.Prelude.{AfterOp, AfterProgram, Job, Step, after_job, after_op, again_by, took, turn, wrote}
 use Rattle.msg_frames.specs.Frames.{turn_order}
 use Rattle.msg_frames.specs.Prelude.{Frame, IsSoundState, IsWrittenOnce, State, after_posts, after_turn_of, after_turns_of, all_written, before_turns, frame, post_steps, run, turns_steps}
 use Rattle.msg_order.proofs.Elements.{Contains-head, Contains-tail}
-use Rattle.msg_frames.proofs.{BeforeTurns.prepares, ReaderOverJob.by_system, StatesStaySound.frame_sound, StatesStaySound.prepared_sound, StatesStaySound.turn_below, SystemsStay.joining_world, SystemsStay.one_turn_keeps}
+use Rattle.msg_frames.proofs.{BeforeTurns.prepares, HistoriesGrow.by_ops, ReaderOverJob.by_system, StatesStaySound.frame_sound, StatesStaySound.prepared_sound, StatesStaySound.turn_below, SystemsStay.joining_world, SystemsStay.one_turn_keeps}
 
 enumerate_from-append : {X : Type 0} (n : ℕ) (xs ys : List X)
     → enumerate_from n (xs ++ ys) ≡ enumerate_from n xs ++ enumerate_from (n + length xs) ys
@@ -51,42 +51,27 @@ module _ {V : Type 0} {values : Values V} (t : ℕ) where
   op_writes (Batch u vs) i places w =
       grind (arith, append-nil, cases_Bool, eqb_tells, wrote_more (w.histories u) (map (by i) vs))
   op_writes (Forward a u) i places w =
-      grind (
-        arith,
-        append-nil,
-        cases_Bool,
-        eqb_tells,
-        wrote_more (w.histories u) (again_by i (took (w.histories a) (places a) None).items),
-      )
+      let more = wrote_more (w.histories u) (again_by i (took (w.histories a) (places a) None).items) in
+      grind (arith, append-nil, cases_Bool, eqb_tells, more)
   op_writes (Drain u) i places w = grind (arith, append-nil, eqb_tells)
   op_writes op i places w = grind (arith, append-nil)
 
   no_steps : (w : WorldState values) → IsWrittenOnce t w [] w
   no_steps w = record { grew = sym (append-nil (all_written (w.histories t))) }
 
-  one_step : (o : Option (Op V)) (i : ℕ) (far : AfterProgram values) (w : WorldState values)
-      → IsWrittenOnce t w (by_system i far.steps) far.state
-      → IsWrittenOnce t w (by_system i (one_more o i far).steps) (one_more o i far).state
-  one_step None i far w so = so
-  one_step (Some op) i far w so =
-      let here : AfterOp values = after_op op i far.places far.state in
-      let done : Step values = record { op = op; places = far.places; world = far.state; reply = here.reply } in
-      rw (map-append {B = ℕ × Step values} (λ (x : Step values). (i, x)) far.steps (done ∷ []))
-      (written_further t w (by_system i far.steps) far.state (by_system i (done ∷ [])) here.state so
-      (record { grew = rw (append-nil (wrote t i op here.reply)) (op_writes op i far.places far.state) }))
-
-  first_write : (n : ℕ) (m : Meaning V) (w : WorldState values) →
-      let far = after_at_most n (next_op m) m.writer m.places w in
-      IsWrittenOnce t w (by_system m.writer far.steps) far.state
-  first_write zero m w = no_steps w
-  first_write (suc n) m w =
-      let far : AfterProgram values = after_at_most n (next_op m) m.writer m.places w in
-      one_step (next_op m far.replies) m.writer far w (first_write n m w)
-
   job_writes : (i : ℕ) (j : Job V) (w : WorldState values) → j.system.writer ≡ i
       → IsWrittenOnce t w (by_system i (after_job j w).steps) (after_job j w).state
   unfolding turn
-  job_writes i j w is = grind (arith, cases_Bool, is, no_steps w, first_write MAX_OPS j.system w)
+  job_writes i j w is =
+      let m = j.system in
+      let ops = by_ops (λ (far : AfterProgram values). IsWrittenOnce t w (by_system m.writer far.steps) far.state) m w (no_steps w)
+      (λ op far next so.
+      let here : AfterOp values = after_op op m.writer far.places far.state in
+      let done : Step values = record { op = op; places = far.places; world = far.state; reply = here.reply } in
+      rw (map-append {B = ℕ × Step values} (λ (x : Step values). (m.writer, x)) far.steps (done ∷ []))
+      (written_further t w (by_system m.writer far.steps) far.state (by_system m.writer (done ∷ [])) here.state so
+      (record { grew = rw (append-nil (wrote t m.writer op here.reply)) (op_writes op m.writer far.places far.state) }))) MAX_OPS in
+      grind (arith, cases_Bool, is, no_steps w, ops)
 
   pub turns_write : (is : List ℕ) (s : State values) → ((i : ℕ) → Contains is i → (s.members i).job.system.writer ≡ i)
       → IsWrittenOnce t s.world (turns_steps is s) (after_turns_of is s).state.world
@@ -107,23 +92,19 @@ module _ {V : Type 0} {values : Values V} (t : ℕ) where
       (record { grew = rw (append-nil (wrote t HOST (Write p.0 p.1) (after_op (Write p.0 p.1) HOST (λ t. 0) w).reply)) here })
       (posts_write ps next)
 
-  update_keeps : (w : WorldState values) → all_written ((after_update w).histories t) ≡ all_written (w.histories t)
-  update_keeps w = grind (arith, cases_Bool)
-
   pub before_writes : (posts : List (ℕ × V)) (s : State values)
       → IsWrittenOnce t s.world (post_steps posts (after_update s.world)) (before_turns posts s).world
   before_writes posts s = record {
-    grew = rw (joining_world s) (rw (update_keeps s.world) at (posts_write posts (after_update s.world)).grew);
+    grew = grind (arith, cases_Bool, joining_world s, (posts_write posts (after_update s.world)).grew);
   }
 
-  module _ where
-    pub run_writes : (frames : List (Frame V)) (s : State values) → IsSoundState s
-        → IsWrittenOnce t s.world (run frames s).steps (run frames s).state.world
-    run_writes [] s sound = no_steps s.world
-    run_writes (f ∷ fs) s sound =
-        let b : State values = before_turns f.posts s in
-        let ready : IsSoundState b = prepared_sound s b sound (prepares f.posts s) in
-        let own = λ (i : ℕ) (at : Contains (turn_order b) i). ready.writers i (turn_below b i at) in
-        let rest = run_writes fs (frame f s).state (frame_sound f s sound) in
-        written_further t _ _ _ ((run fs (frame f s).state).steps) _
-        (written_further t _ _ _ _ _ (before_writes f.posts s) (turns_write (turn_order b) b own)) rest
+  pub run_writes : (frames : List (Frame V)) (s : State values) → IsSoundState s
+      → IsWrittenOnce t s.world (run frames s).steps (run frames s).state.world
+  run_writes [] s sound = no_steps s.world
+  run_writes (f ∷ fs) s sound =
+      let b : State values = before_turns f.posts s in
+      let ready : IsSoundState b = prepared_sound s b sound (prepares f.posts s) in
+      let own = λ (i : ℕ) (at : Contains (turn_order b) i). ready.writers i (turn_below b i at) in
+      let rest = run_writes fs (frame f s).state (frame_sound f s sound) in
+      written_further t _ _ _ ((run fs (frame f s).state).steps) _
+      (written_further t _ _ _ _ _ (before_writes f.posts s) (turns_write (turn_order b) b own)) rest

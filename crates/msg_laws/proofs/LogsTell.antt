@@ -1,12 +1,12 @@
 -- What the logs of a run tell of a reader is what it went past.
 use Rattle.msg_frames.proofs.{EntriesOfSteps.job_logged, ReaderOverJob.entries_are, ReaderOverRun.run_further, ReaderOverTurns.answers_among, ReaderOverTurns.own_moments, ReaderOverTurns.turns_further, ReaderOverTurns.turns_moments, SystemsStay.before_keeps, SystemsStay.one_turn_keeps}
 use Rattle.msg_frames.specs.{Frames.turn_order, declared.frame.Frame.Frame}
-use Rattle.msg_frames.specs.Prelude.{Moment, State, after_turn_of, after_turns_of, answers_in, before_turns, entries_of_turns, frame, logged_turn, moments, outcome_of, replies_of, run}
+use Rattle.msg_frames.specs.Prelude.{Moment, State, after_turn_of, after_turns_of, answers_in, before_turns, entries_of_turns, frame, logged_turn, moments, replies_of, run}
 use Rattle.msg_laws.specs.Prelude.{LogsTellEntries}
-use Rattle.msg_system.specs.{Prelude.Job, Prelude.Needs, Prelude.Rule, Prelude.after_job, declared.reply.Reply.Reply}
-use Rattle.msg_world.specs.Prelude.{Values, WorldState}
-use Rattle.std.proofs.Common.{List, [], append_assoc, arith, cond, inl, inr, map, refl, sym, ℕ, ◌++◌, ◌==◌, ◌∷◌, ◌≡◌}
-use Rattle.std.proofs.lemmas.{Bool.cases_Bool, Bool.cases_eq, Bool.eq-eqb, Bool.ne_eqb, Bool.Decides.eqb_tells, List.map-append}
+use Rattle.msg_system.specs.{Prelude.Needs, Prelude.Rule, Prelude.after_job, declared.reply.Reply.Reply}
+use Rattle.msg_world.specs.Prelude.{Values}
+use Rattle.std.proofs.Common.{List, [], append_assoc, arith, cond, map, refl, ℕ, ◌++◌, ◌==◌, ◌∷◌, ◌≡◌}
+use Rattle.std.proofs.lemmas.{Bool.cases_Bool, Bool.Decides.eqb_tells, List.map-append}
 
 module _ {V : Type 0} where
   -- a rule, after turns that were answered so
@@ -34,19 +34,11 @@ module _ {V : Type 0} {values : Values V} where
       let m = (a.members i).job.system in
       grind (arith, append_assoc, entries_of_turns-append t m.needs m.rule xs ys, map-append)
 
-  -- after a job, the rule of its system also takes in the replies of that job
-  job_rule : (j : Job V) (w : WorldState values) → (after_job j w).job.system.rule
-      ≡ after_told (replies_of (outcome_of (after_job j w).replies)) j.system.rule
-  job_rule j w = grind (arith, cases_Bool)
-
   turn_tells : (i t j : ℕ) (s : State values) → Tells i t s (cond (j == i) (replies_of (logged_turn s j).outcome) [])
       (own_moments i t j s) (after_turn_of j s)
   turn_tells i t j s = record {
     entries = grind (arith, eqb_tells, job_logged t (s.members i).job s.world, entries_are t (after_job (s.members i).job s.world).steps);
-    rule = elim (cases_eq j i) [
-      | inl e ↦ rw (eq-eqb j i e, eq-eqb i j (sym e)) (rw e (job_rule (s.members i).job s.world))
-      | inr ne ↦ rw (ne_eqb j i ne, ne_eqb i j (λ x. ne (sym x))) refl
-    ];
+    rule = grind (arith, cases_Bool, eqb_tells j i, eqb_tells i j);
     needs = ((one_turn_keeps j s).members i).needs;
   }
 

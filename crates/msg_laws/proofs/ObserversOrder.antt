@@ -1,10 +1,10 @@
 -- The order of turns with an observer and without it: system n, which nothing comes after.
-use Rattle.std.proofs.Common.{All, Bool, Contains, List, [], ap, append-nil, arith, cond, false, filter, flat_map, inl, inr, length, map, not, refl, suc, sym, zero, ℕ, ◌&&◌, ◌++◌, ◌+◌, ◌-◌, ◌<◌, ◌==◌, ◌∙◌, ◌∷◌, ◌≡◌, ◌≢◌, ◌≤◌}
+use Rattle.std.proofs.Common.{All, Bool, Contains, List, [], ap, append-nil, arith, cond, false, filter, flat_map, inl, inr, length, map, not, refl, suc, zero, ℕ, ◌&&◌, ◌++◌, ◌+◌, ◌-◌, ◌<◌, ◌==◌, ◌∙◌, ◌∷◌, ◌≡◌, ◌≢◌, ◌≤◌}
 use Rattle.std.specs.Bool.{⊤}
 use Rattle.std.specs.List.{concat, range_with_len}
-use Rattle.std.proofs.lemmas.{Grind.flat_map-append, Bool.cases_Bool, Bool.cases_eq, Bool.eq-eqb, Bool.ne_eqb, Bool.Decides.eqb_tells}
-use Rattle.std.proofs.lemmas.List.{FromFn.length-range_with_len, Elements.All-head, Elements.All-tail, Filters.length-filter_both, Elements.filter-append, nil_from_length}
-use Rattle.msg_order.proofs.Elements.{Contains-head, Contains-tail, flat_map-Contains, map-Contains, range-Contains, range_more}
+use Rattle.std.proofs.lemmas.{Bool.cases_Bool, Bool.cases_eq, Bool.eq-eqb, Bool.ne_eqb, Bool.Decides.eqb_tells}
+use Rattle.std.proofs.lemmas.List.{Elements.All-head, Elements.All-tail, Filters.length-filter_both, Elements.filter-append, nil_from_length}
+use Rattle.msg_order.proofs.{BatchLevels.blocked, BatchLevels.few_left, BatchLevels.ready, Elements.Contains-head, Elements.Contains-tail, SettledPairs.pairs-Contains, SettledPairs.pairs_until, SettledPairs.pairs_until-more, SettledPairs.row}
 use Rattle.msg_order.specs.Prelude.{Graph, batches_of, follows, has_joined, pairs, path, rules_among, settle, settled, turns}
 use Rattle.msg_order.specs.declared.rule.Rule.{Rule}
 
@@ -87,15 +87,6 @@ module _ (n : ℕ) where
 
   -- ---- the pairs
 
-  abbrev row : ℕ → ℕ → Graph
-  row m i = map (λ j. (i, j)) (range_with_len (i + 1) (m - (i + 1)))
-
-  pairs_within : (m : ℕ) (p : ℕ × ℕ) → Contains (pairs m) p → (p.0 < p.1) × (p.1 < m)
-  pairs_within m p h =
-      let r = flat_map-Contains (row m) (range_with_len 0 m) p h in
-      let k = map-Contains (λ (j : ℕ). (r.0, j)) (range_with_len (r.0 + 1) (m - (r.0 + 1))) p r.1.1 in
-      grind (arith, k, range-Contains (r.0 + 1) (m - (r.0 + 1)) k.0)
-
   row_cut : (i a k : ℕ) → a + k ≡ n → filter (λ (p : ℕ × ℕ). other p.1) (map (λ j. (i, j)) (range_with_len a (suc k)))
       ≡ map (λ j. (i, j)) (range_with_len a k)
   row_cut i a zero e = grind (arith, eqb_tells, e)
@@ -111,10 +102,10 @@ module _ (n : ℕ) where
 
   pairs_cut : filter (λ (p : ℕ × ℕ). other p.1) (pairs (suc n)) ≡ pairs n
   pairs_cut =
-      let longer : range_with_len 0 (suc n) ≡ range_with_len 0 n ++ n ∷ [] = grind (arith, range_more n) in
-      let split : pairs (suc n) ≡ flat_map (row (suc n)) (range_with_len 0 n ++ n ∷ []) = ap (flat_map (row (suc n))) longer in
+      let next : suc n ≡ n + 1 = omega arith in
+      let split : pairs (suc n) ≡ pairs_until (suc n) (n + 1) = ap (pairs_until (suc n)) next in
       let none : suc n - (n + 1) ≡ 0 = omega arith in
-      rw (split, flat_map-append, filter-append, rows_cut 0 n (omega arith), none, append-nil) refl
+      rw (split, pairs_until-more (suc n) n, filter-append, rows_cut 0 n (omega arith), none, append-nil) refl
 
   -- ---- batches
 
@@ -133,13 +124,7 @@ module _ (n : ℕ) where
 abbrev layers : ℕ → Graph → List ℕ → List ℕ
 layers m g left = concat (batches_of m g left)
 
-abbrev first : Graph → List ℕ → List ℕ
-first g left = filter (λ k. not (follows g left k)) left
-
-abbrev rest : Graph → List ℕ → List ℕ
-rest g left = filter (follows g left) left
-
-layers_more : (m : ℕ) (g : Graph) (left : List ℕ) → layers (suc m) g left ≡ first g left ++ layers m g (rest g left)
+layers_more : (m : ℕ) (g : Graph) (left : List ℕ) → layers (suc m) g left ≡ ready g left ++ layers m g (blocked g left)
 layers_more zero g [] = refl
 layers_more (suc m) g [] = refl
 layers_more m g (i ∷ is) = refl
@@ -149,25 +134,19 @@ all_follow : (p : ℕ → Bool) (xs : List ℕ) → filter (λ k. not (p k)) xs 
 all_follow p [] none = refl
 all_follow p (x ∷ xs) none = grind (arith, cases_Bool (p x), none, all_follow p xs)
 
-layers_stuck : (m : ℕ) (g : Graph) (left : List ℕ) → first g left ≡ [] → layers m g left ≡ []
-layers_stuck zero g left none = refl
-layers_stuck (suc m) g left none =
-    let same : rest g left ≡ left = all_follow (follows g left) left none in
-    rw (layers_more m g left, none, same) (layers_stuck m g left none)
-
 -- so many batches as there are systems are enough
 layers_enough : (m : ℕ) (g : Graph) (left : List ℕ) → length left ≤ m → layers (suc m) g left ≡ layers m g left
 layers_enough zero g [] few = refl
 layers_enough zero g (i ∷ is) few = absurd (omega arith)
 layers_enough (suc m) g left few =
-    elim (cases_eq (length (first g left)) 0) [
+    elim (cases_eq (length (ready g left)) 0) [
       | inl is ↦
-          let none : first g left ≡ [] = nil_from_length (first g left) is in
-          layers_stuck (suc (suc m)) g left none ∙ sym (layers_stuck (suc m) g left none)
+          let none : ready g left ≡ [] = nil_from_length (ready g left) is in
+          rw (layers_more (suc m) g left, none, all_follow (follows g left) left none) refl
       | inr isnt ↦
           let all = length-filter_both (λ k. not (follows g left k)) (follows g left) (λ k. grind (arith, cases_Bool)) left in
-          let fewer : length (rest g left) ≤ m = omega (arith, all, isnt, few) in
-          rw (layers_more (suc m) g left, layers_more m g left, layers_enough m g (rest g left) fewer) refl
+          let fewer : length (blocked g left) ≤ m = omega (arith, all, isnt, few) in
+          rw (layers_more (suc m) g left, layers_more m g left, layers_enough m g (blocked g left) fewer) refl
     ]
 
 module _ (n : ℕ) where
@@ -178,7 +157,7 @@ module _ (n : ℕ) where
       let one = filter_cut n (λ k. not (follows g left k)) (λ k. not (follows (cut n g) (others n left) k))
       (λ k ne. ap not (same k ne)) left in
       let two = filter_cut n (follows g left) (follows (cut n g) (others n left)) same left in
-      rw (layers_more m g left, layers_more m (cut n g) (others n left), filter-append, one, layers_cut m g (rest g left) b, two) refl
+      rw (layers_more m g left, layers_more m (cut n g) (others n left), filter-append, one, layers_cut m g (blocked g left) b, two) refl
 
   range_cut : (a k : ℕ) → a + k ≡ n → others n (range_with_len a (suc k)) ≡ range_with_len a k
   range_cut a zero e = grind (arith, eqb_tells, e)
@@ -196,7 +175,7 @@ module _ (n : ℕ) (c d : ℕ → ℕ → Bool) (with without : List Bool) (long
       let both = settle_cut n (λ i j. (has_joined with i && has_joined with j) && c i j)
       (λ i j. (has_joined without i && has_joined without j) && d i j) (pairs (suc n)) (rules_among with rules)
       (IsBehind_rules n rules behind with) (λ p m.
-      let within = pairs_within n (suc n) p m in
+      let within = pairs-Contains (suc n) p.0 p.1 m in
       let first : p.0 ≢ n = omega (arith, within) in (
         first,
         λ isnt. grind (arith, same p.0 first, same p.1 isnt, alike p.0 p.1 (omega (arith, within)) (omega (arith, within, isnt))),
@@ -209,10 +188,8 @@ module _ (n : ℕ) (c d : ℕ → ℕ → Bool) (with without : List Bool) (long
       let joined : others n (filter (has_joined with) (range_with_len 0 (suc n))) ≡ left =
       filter_cut n (has_joined with) (has_joined without) same (range_with_len 0 (suc n))
       ∙ ap (filter (has_joined without)) (range_cut n 0 n (omega arith)) in
-      let number = length-filter_both (has_joined without) (λ k. not (has_joined without k)) (λ k. refl)
-      (range_with_len 0 n) in
       rw (is, long, short, layers_cut n (suc n) g (filter (has_joined with) (range_with_len 0 (suc n))) b, joined)
-      (layers_enough n (cut n g) left (omega (arith, number, length-range_with_len 0 n)))
+      (layers_enough n (cut n g) left (few_left (has_joined without) n))
 
   pub turns_cut : others n (turns (settled c rules with) with) ≡ turns (settled d fewer_rules without) without
   turns_cut = turns_of (settled c rules with) (settled d fewer_rules without) settled_is.0 settled_is.1

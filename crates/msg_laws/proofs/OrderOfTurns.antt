@@ -7,9 +7,9 @@ use Rattle.msg_order.specs.Prelude.{NoneConflict, Path, batches, has_joined}
 use Rattle.msg_system.proofs.FootprintsHold.{job_footprint}
 use Rattle.msg_system.specs.Prelude.{Needs, needs_any}
 use Rattle.msg_world.specs.{Prelude.Values, declared.part.Part.Part}
-use Rattle.std.proofs.Common.{All, Bool, IsTrue, List, [], ap, arith, get_or-append-add, inl, inr, length, length-append, refl, ℕ, ◌&&◌, ◌++◌, ◌+◌, ◌<◌, ◌∷◌, ◌≡◌, ◌≢◌, ◌⊎◌}
+use Rattle.std.proofs.Common.{All, Bool, IsTrue, List, [], ap, arith, get_or-append-add, length, length-append, refl, ℕ, ◌&&◌, ◌++◌, ◌+◌, ◌<◌, ◌∷◌, ◌≡◌, ◌≢◌, ◌⊎◌}
 use Rattle.std.proofs.Math.Bool.{or_comm}
-use Rattle.std.proofs.lemmas.{Bool.cases_order, List.get_or_append_left, List.Elements.All-tail}
+use Rattle.std.proofs.lemmas.{List.get_or_append_left, List.Elements.All-tail}
 use Rattle.std.specs.List.{concat, list_any}
 
 -- needs are in conflict with others if those are with them
@@ -23,14 +23,8 @@ module _ {V : Type 0} {values : Values V} where
       → Path (settled_order s) i j ⊎ Path (settled_order s) j i
   unfolding settled_order
   in_conflict s i j ne at_i at_j conflict =
-      let orders = settled_orders s.rules (join_flags s) (are_in_conflict s) in
-      elim (cases_order i j) [
-        | inl same ↦ absurd (ne same)
-        | inr (inl lt) ↦ orders i j lt at_i at_j conflict
-        | inr (inr lt) ↦
-            let either = conflict_either (member_needs (s.members j)) (member_needs (s.members i)) in
-            elim (orders j i lt at_j at_i (rw either conflict)) [ inl back ↦ inr back | inr on ↦ inl on ]
-      ]
+      settled_orders s.rules (join_flags s) (are_in_conflict s) i j ne at_i at_j conflict
+      (rw (conflict_either (member_needs (s.members j)) (member_needs (s.members i))) conflict)
 
   -- how those that have joined are ordered
   pub are_ordered : TurnsAreInOrder values

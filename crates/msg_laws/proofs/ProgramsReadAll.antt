@@ -3,8 +3,8 @@ use Rattle.std.proofs.Common.{All, Contains, IsTrue, List, [], arith, length, re
 use Rattle.msg_order.specs.Prelude.{has_joined}
 use Rattle.std.proofs.lemmas.{Bool.cases_Bool, Bool.false≢true, List.Elements.All-cons, List.Elements.All-nil}
 use Rattle.std.specs.List.{list_any}
-use Rattle.msg_world.specs.Prelude.{Values, WorldState}
-use Rattle.msg_system.specs.{Prelude.Job, Prelude.after_job, Prelude.of_program, declared.limits.TheConstants.MAX_OPS, declared.program.Program.Program}
+use Rattle.msg_world.specs.Prelude.{Values}
+use Rattle.msg_system.specs.{Prelude.Job, Prelude.of_program, declared.limits.TheConstants.MAX_OPS, declared.program.Program.Program}
 use Rattle.msg_system.proofs.Turns.{in_order}
 use Rattle.msg_frames.proofs.BeforeTurns.{Prepares, comes, prepares, stood, waits}
 use Rattle.msg_frames.proofs.{Functions.order_is, ReaderOverTurns.one_member, SystemsStay.no_cycle_stays}
@@ -17,16 +17,13 @@ IsProgram program writer j = j.system ≡ of_program program writer j.system.pla
 
 module _ {V : Type 0} {values : Values V} (program : Program V) (writer : ℕ)
     (few : length program.ops ≤ MAX_OPS) where
-  job_stays : (j : Job V) (w : WorldState values) → IsProgram program writer j
-      → IsProgram program writer (after_job j w).job
-  job_stays j w is = grind (arith, cases_Bool, is, in_order program writer j.system.places w few)
-
   turns_stay : (i : ℕ) (order : List ℕ) (s : State values) → IsProgram program writer (s.members i).job
       → IsProgram program writer ((after_turns_of order s).state.members i).job
   turns_stay i [] s is = is
   turns_stay i (j ∷ js) s is =
       turns_stay i js (after_turn_of j s)
-      (one_member (λ m. IsProgram program writer m.job) j i s (λ e. job_stays (s.members i).job s.world is) (λ ne. is))
+      (one_member (λ m. IsProgram program writer m.job) j i s (λ e. grind (arith, cases_Bool, is, in_order program writer (s.members i).job.system.places s.world few))
+      (λ ne. is))
 
   frame_stays : (f : Frame V) (s : State values) (i : ℕ) → IsProgram program writer (s.members i).job
       → IsProgram program writer ((frame f s).state.members i).job

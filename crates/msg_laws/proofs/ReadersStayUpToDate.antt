@@ -1,9 +1,9 @@
 -- A reader that reads all in each frame is up to date, and so it misses nothing.
-use Rattle.std.proofs.Common.{All, Contains, IsTrue, List, [], arith, inl, inr, map, refl, suc, ℕ, ◌++◌, ◌<◌, ◌∷◌, ◌≡◌, ◌≢◌, ◌≤◌}
+use Rattle.std.proofs.Common.{All, Contains, IsTrue, List, [], arith, inl, inr, map, refl, ℕ, ◌++◌, ◌<◌, ◌∷◌, ◌≡◌, ◌≢◌, ◌≤◌}
 use Rattle.msg_order.specs.Prelude.{has_joined}
 use Rattle.std.proofs.lemmas.{Bool.Decides.nat_tests, List.map-append}
 use Rattle.std.proofs.lemmas.Bool.{cases_Bool, cases_eq, false≢true}
-use Rattle.std.proofs.lemmas.List.Elements.{All-append, All-cons, All-head, All-map, All-nil, All-tail}
+use Rattle.std.proofs.lemmas.List.Elements.{All-append, All-map, All-nil}
 use Rattle.std.proofs.lemmas.Option.{same_Some, slice_get_cases, slice_get_within}
 use Rattle.msg_buffer.specs.Prelude.{Fits, GoesOn, History, IsPresent, Stretch, Tile, count, next_place, update}
 use Rattle.msg_world.specs.{Prelude.Values, Prelude.after_update, declared.record.Record.Record}
@@ -14,6 +14,7 @@ use Rattle.msg_frames.proofs.HistoriesGrow.{counts_more, frame_goes_on, grown, p
 use Rattle.msg_frames.proofs.ReaderOverJob.{IsWritten, tile_of}
 use Rattle.msg_frames.proofs.ReaderOverTurns.{turns_moments}
 use Rattle.msg_frames.proofs.StatesStaySound.{joined_alike, frame_sound, has_no_turn}
+use Rattle.msg_frames.proofs.TellsEachOnce.{tile_fits}
 use Rattle.msg_frames.proofs.SystemsStay.{frame_keeps, joining_world, turns_keep}
 use Rattle.msg_frames.specs.{Frames.turn_order, declared.frame.Frame.Frame, declared.log.Outcome.TheVariants.Skipped}
 use Rattle.msg_frames.specs.Prelude.{IsSoundState, Moment, State, after_joining, after_turns_of, before_turns, frame, join_flags, moments, reader_place, run}
@@ -38,12 +39,9 @@ module _ {V : Type 0} where
   tile_misses_none : (p place : ℕ) (ms : List (Moment V)) (to : ℕ) → Tile place (map tile_of ms) to → All IsWritten ms
       → All (λ m. (n : ℕ) → p ≤ n → n < count m.history → IsPresent m.history n) ms → p ≤ place
       → All (λ m. m.entry.stretch.missed ≡ 0) ms
-  tile_misses_none p place [] to tile written there above = All-nil (λ m. m.entry.stretch.missed ≡ 0)
-  tile_misses_none p place (m ∷ ms) to tile written there above =
-      let rest = tile_misses_none p (next_place m.entry.stretch) ms to tile.1 (All-tail IsWritten m ms written) in
-      let here = none_missed m.history place m.entry.stretch tile.0 (All-head IsWritten m ms written) in
-      All-cons (λ m. m.entry.stretch.missed ≡ 0) m ms (here (λ n from lt. there 0 m (omega arith) n (omega (arith, above, from)) lt))
-      (rest (λ k d lt. there (suc k) d (omega arith)) (omega (arith, tile.0.first)))
+  tile_misses_none p place ms to tile written there above k d lt =
+      let fits = tile_fits place ms to tile k d lt in
+      none_missed _ fits.0 _ fits.1.1 (written k d lt) (λ n from. there k d lt n (omega (arith, fits.1.0, from, above)))
 
 module _ {V : Type 0} {values : Values V} where
   pub runs_go_on : ListsOnlyGrow values

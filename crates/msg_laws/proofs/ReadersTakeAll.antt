@@ -27,8 +27,8 @@ module _ {V : Type 0} {values : Values V} (t : ℕ) where
       → c ≤ (one_more o m.writer far).places t
   more_takes None m far c at sound within less so is = so is
   more_takes (Some op) m far c at sound within less so is =
-      let next = next_passes t (Some op) m.writer far sound within in
-      let rise = tiles_rise (far.places t) (next_moments t (Some op) m.writer far) _ next.tile in
+      let next = next_passes t op m.writer far sound within in
+      let rise = tiles_rise (far.places t) (next_moments t op m.writer far) _ next.tile in
       grind (arith, list_any-append, op_takes_all, ops_answered-snoc, or_cases, rise)
 
   first_takes : (n : ℕ) (m : Meaning V) (w : WorldState values) → IsSound (w.histories t) → m.places t ≤ count (w.histories t) →

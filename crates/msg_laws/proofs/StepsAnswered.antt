@@ -1,12 +1,12 @@
 -- The steps of a run have the replies of its logs.
-use Rattle.msg_frames.proofs.ReaderOverJob.{by_system}
+use Rattle.msg_frames.proofs.{HistoriesGrow.by_ops, ReaderOverJob.by_system}
 use Rattle.msg_frames.specs.{Frames.turn_order, declared.frame.Frame.Frame, declared.log.Turn.Turn}
 use Rattle.msg_frames.specs.Prelude.{State, after_posts, after_turn_of, after_turns_of, before_turns, frame, outcome_of, post_replies, post_steps, replies_of, turns_steps}
 use Rattle.msg_laws.specs.Prelude.{AreAnswered, done_in}
 use Rattle.msg_system.proofs.WholeTurns.{op_is_done}
-use Rattle.msg_system.specs.{Prelude.AfterProgram, Prelude.Job, Prelude.Meaning, Prelude.Step, Prelude.after_at_most, Prelude.after_job, Prelude.next_op, Prelude.one_more, Prelude.refusal, Prelude.turn, declared.limits.TheConstants.MAX_OPS, declared.op.Op.Op, declared.reply.Reply.Reply}
+use Rattle.msg_system.specs.{Prelude.AfterProgram, Prelude.Job, Prelude.Meaning, Prelude.Step, Prelude.after_at_most, Prelude.after_job, Prelude.next_op, Prelude.refusal, Prelude.turn, declared.limits.TheConstants.MAX_OPS, declared.op.Op.Op, declared.reply.Reply.Reply}
 use Rattle.msg_world.specs.{Prelude.Values, Prelude.WorldState, Prelude.after_update, declared.record.TheConstants.HOST}
-use Rattle.std.proofs.Common.{List, None, Option, Some, [], append_assoc, arith, flat_map, length, map, nat_lt, option_map, option_to_list, refl, suc, zero, ℕ, ◌++◌, ◌∷◌, ◌≡◌}
+use Rattle.std.proofs.Common.{List, None, Option, Some, [], append_assoc, arith, flat_map, length, map, nat_lt, option_map, option_to_list, refl, ℕ, ◌++◌, ◌∷◌, ◌≡◌}
 use Rattle.std.proofs.lemmas.{Bool.cases_Bool, List.Elements.filter-append, List.append-nil, List.map-append}
 
 module _ {V : Type 0} where
@@ -32,18 +32,10 @@ module _ {V : Type 0} {values : Values V} where
   Answers i far = (map answer_to (by_system i far.steps) ≡ answers_by i far.replies)
       × (done_in far.replies ≡ far.replies)
 
-  one_answered : (i : ℕ) (o : Option (Op V)) (writer : ℕ) (far : AfterProgram values) → Answers i far
-      → Answers i (one_more o writer far)
-  one_answered i None writer far so = so
-  one_answered i (Some op) writer far so =
-      (grind (arith, map-append, so.0), rw (filter-append, so.1, op_is_done op writer far.places far.state) refl)
-
   first_answered : (i n : ℕ) (m : Meaning V) (w : WorldState values)
       → Answers i (after_at_most n (next_op m) m.writer m.places w)
-  first_answered i zero m w = (refl, refl)
-  first_answered i (suc n) m w =
-      let far : AfterProgram values = after_at_most n (next_op m) m.writer m.places w in
-      one_answered i (next_op m far.replies) m.writer far (first_answered i n m w)
+  first_answered i n m w = by_ops (Answers i) m w (refl, refl) (λ op far is so.
+      (grind (arith, map-append, so.0), rw (filter-append, so.1, op_is_done op m.writer far.places far.state) refl)) n
 
   job_answered : (i : ℕ) (j : Job V) (w : WorldState values) → map answer_to (by_system i (after_job j w).steps)
       ≡ told_in (record { system = i; outcome = outcome_of (after_job j w).replies })

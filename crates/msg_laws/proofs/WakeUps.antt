@@ -2,7 +2,6 @@
 use Rattle.std.proofs.Common.{IsTrue, List, [], arith, inl, inr, length, refl, ℕ, ◌++◌, ◌<◌, ◌∙◌, ◌∷◌, ◌≡◌, ◌≢◌, ◌≤◌, ◌⊎◌}
 use Rattle.msg_order.specs.Prelude.{has_joined}
 use Rattle.std.proofs.lemmas.{Bool.cases_Bool, Bool.cases_lt, Bool.false≢true, Bool.Decides.nat_tests, List.get_or_append_left, List.Elements.All-nil, List.Elements.Contains-append_right, Option.get_or_from_slice_get, Option.slice_get_cases}
-use Rattle.std.specs.List.{list_any}
 use Rattle.msg_buffer.specs.Prelude.{GoesOn, History, IsPresent, IsSound, count, unread}
 use Rattle.msg_buffer.proofs.{Presence.not_present, Unread.length-unread}
 use Rattle.msg_world.specs.{Prelude.Values, Prelude.WorldState, declared.record.Record.Record}
@@ -13,7 +12,7 @@ use Rattle.msg_frames.specs.Prelude.{IsSoundState, State, after_turns_of, before
 use Rattle.msg_laws.proofs.{ProgramsReadAll.has_turn, ReadersTakeAll.job_takes}
 use Rattle.msg_laws.proofs.OneTurn.{goes_from_turn, goes_to_turn, in_log, job_left, member_found, within_turn}
 use Rattle.msg_laws.proofs.ReadersStayUpToDate.{Between, all_there, between, joined_by_turn, misses_none, past_frame}
-use Rattle.msg_laws.specs.Prelude.{IsSkipped, IsUpToDate, IsWokenBy, NoWakeUpIsLost, NothingDrained, NothingUnread, ReadsAllIfWoken, WhoIsWokenStaysSo, WhoSleepsHasNothingUnread, reads_all}
+use Rattle.msg_laws.specs.Prelude.{IsSkipped, IsUpToDate, IsWokenBy, NoWakeUpIsLost, NothingDrained, NothingUnread, ReadsAllIfWoken, WhoIsWokenStaysSo, WhoSleepsHasNothingUnread}
 use Rattle.msg_order.proofs.Elements.{Contains-head}
 
 -- ---- what is gone stays gone
@@ -54,19 +53,6 @@ module _ {V : Type 0} {values : Values V} (t : ℕ) where
               not_present (w.histories t) n sound (omega (arith, unread_too, none, after, lt))
         ]
 
-    -- it goes past all that there is, or it was skipped since nothing was unread
-    came_or_slept : IsSound (w.histories t) → j.system.places t ≤ count (w.histories t)
-        → Gone (j.system.places t) c (w.histories t)
-        → (outcome_of (after_job j w).replies ≢ Skipped → IsTrue (list_any (reads_all t) (after_job j w).job.system.last))
-        → (count (w.histories t) ≤ (after_job j w).job.system.places t) ⊎ (((after_job j w).job.system.places t
-        ≡ j.system.places t) × Gone (j.system.places t) (count (w.histories t)) (w.histories t))
-    came_or_slept sound within gone reads = elim (cases_Bool (all_hold j.conditions w)) [
-      | inl holds ↦
-          let ran : outcome_of (after_job j w).replies ≢ Skipped = grind (arith, holds) in
-          inl (job_takes t j w sound within ran (reads ran))
-      | inr fails ↦ inr (grind (arith, fails), slept sound gone (grind (arith, fails)))
-    ]
-
 -- ---- a frame
 
 module _ {V : Type 0} {values : Values V} (f : Frame V) (s : State values) (i t : ℕ) (sound : IsSoundState s)
@@ -103,11 +89,16 @@ module _ {V : Type 0} {values : Values V} (f : Frame V) (s : State values) (i t 
         × Gone (reader_place s i t) (count (found.world.histories t)) (found.world.histories t))
     took_or_slept =
         let j : Job V = (found.members i).job in
-        let here = came_or_slept t j found.world woken.place waits to_turn.sound
-        (within_turn f s i earlier later is t sound below) gone
-        (λ ran. rw (← job_left f s i earlier later is)
-        (reads (λ skipped. ran (in_log f s i earlier later is (λ turn. turn.system ≡ i → turn.outcome ≡ Skipped) skipped refl)))) in
-        rw (reader_place, job_left f s i earlier later is, ← stood) here
+        let log = in_log f s i earlier later is (λ turn. turn.system ≡ i → turn.outcome ≡ Skipped) in
+        let left = job_left f s i earlier later is in
+        rw (reader_place, left, ← stood) (elim (cases_Bool (all_hold j.conditions found.world)) [
+          | inl holds ↦
+              let ran : outcome_of (after_job j found.world).replies ≢ Skipped = grind (arith, holds) in
+              inl (job_takes t j found.world to_turn.sound (within_turn f s i earlier later is t sound below) ran
+              (rw (← left) (reads (λ skipped. ran (log skipped refl)))))
+          | inr fails ↦
+              inr (grind (arith, fails), slept t j found.world woken.place waits to_turn.sound gone (grind (arith, fails)))
+        ])
 
     stays_woken : IsWokenBy t i u
     stays_woken = record {

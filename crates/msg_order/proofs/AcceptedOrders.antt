@@ -1,9 +1,9 @@
 -- An order is lawful just if its systems can be taken one after the other, each with none left before it.
 use Rattle.std.proofs.Common.{Bool, List, arith, false, get_or, inl, inr, length, not, true, ℕ, ◌&&◌, ◌+◌, ◌<◌, ◌==◌, ◌≡◌, ◌⊎◌}
 use Rattle.std.specs.List.{list_any, range_with_len}
-use Rattle.std.proofs.lemmas.{Bool.cases_Bool, Bool.cases_eq, Bool.Decides.eqb_tells, List.get_or_default}
+use Rattle.std.proofs.lemmas.{Bool.cases_Bool, Bool.cases_eq, Bool.Decides.eqb_tells, List.get_or_default, Option.get_or_from_slice_get, Option.slice_get_within}
 use Rattle.msg_order.specs.Prelude.{Graph, IsEdge, IsLawfulOrder, StandsBefore, has_joined}
-use Rattle.msg_order.proofs.{SystemSets.below_some, SystemSets.some_below, TurnOrders.of_place, TurnOrders.one_place, TurnOrders.place_of, TurnOrders.places_of, TurnOrders.stands}
+use Rattle.msg_order.proofs.{SystemSets.below_some, SystemSets.some_below, TurnOrders.of_place, TurnOrders.one_place, TurnOrders.place_of, TurnOrders.stands}
 
 -- i stands among the first k, or not
 pub find_place : (order : List ℕ) (i k : ℕ) → ((a : ℕ) × ((a < k) × (get_or order a 0 ≡ i)))
@@ -23,10 +23,6 @@ pub record AreTaken (g : Graph) (joined : List Bool) (order : List ℕ) (k : ℕ
   pub once : (a b : ℕ) → a < b → b < k → get_or order a 0 ≡ get_or order b 0 → ⊥
   pub before : (b : ℕ) → b < k → (i : ℕ) → has_joined joined i ≡ true → IsEdge g i (get_or order b 0) → (a : ℕ)
       × ((a < b) × (get_or order a 0 ≡ i))
-
-pub taken_first : (g : Graph) (joined : List Bool) (left : ℕ → Bool) (order : List ℕ)
-    → ((i : ℕ) → has_joined joined i ≡ left i) → AreTaken g joined order 0 left
-taken_first g joined left order s = grind arith
 
 pub taken_next : (g : Graph) (joined : List Bool) (left next : ℕ → Bool) (order : List ℕ) (k s : ℕ) → s
     ≡ get_or order k 0 → left s ≡ true → ((i : ℕ) → left i ≡ true → IsEdge g i s → ⊥)
@@ -64,10 +60,5 @@ goes_on g joined left order k l t w =
       grind (arith, find_place order s k, t.stays s, w.of_joined s, of_place order s k, w.once),
       λ i on e.
           let b : StandsBefore order i s = w.kept i s e in
-          grind (arith, places_of order i s b, one_place order b.later k w.once, t.is_left i on),
+          grind (arith, b, get_or_from_slice_get, slice_get_within, one_place order b.later k w.once, t.is_left i on),
     )
-
--- and has none left at its end
-pub not_all : (g : Graph) (joined : List Bool) (left : ℕ → Bool) (order : List ℕ) (i : ℕ) → left i ≡ true
-    → AreTaken g joined order (length order) left → IsLawfulOrder g joined order → ⊥
-not_all g joined left order i on t w = grind (arith, t.is_left i, w.of_joined i, place_of order i)

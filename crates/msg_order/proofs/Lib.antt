@@ -4,12 +4,12 @@ mod SystemSets
 mod Chains
 pub mod PathTest
 -- The settled order
-mod SettledPairs
+pub mod SettledPairs
 pub mod SetPaths
 mod UserRows
 pub mod SettledOrders
 -- Batches and turns
-mod BatchLevels
+pub mod BatchLevels
 pub mod TurnOrders
 -- What a plan says
 pub mod PlanViews

@@ -1,29 +1,23 @@
 -- The code's sets as the paths of a graph.
-use Rattle.std.proofs.Common.{Bool, IsFalse, IsTrue, List, MatchOption, None, Option, Some, [], arith, cond, false, get_or, length, map, refl, replicate, suc, sym, take, true, zero, ℕ, ◌&&◌, ◌++◌, ◌+◌, ◌-◌, ◌<◌, ◌==◌, ◌||◌, ◌↔◌, ◌∙◌, ◌∷◌, ◌≡◌, ◌≤◌}
+use Rattle.std.proofs.Common.{Bool, IsTrue, List, MatchOption, None, Option, Some, [], arith, cond, false, get_or, length, map, nat_lt, not, refl, replicate, sym, take, true, ℕ, ◌&&◌, ◌++◌, ◌+◌, ◌-◌, ◌<◌, ◌==◌, ◌||◌, ◌∙◌, ◌∷◌, ◌≡◌, ◌≤◌}
 use Rattle.std.specs.List.{list_any, range_with_len}
-use Rattle.std.proofs.lemmas.{Bool.Decides.eqb_tells, Simd.get_or-replicate}
-use Rattle.std.proofs.lemmas.Bool.{and_parts, cases_Bool, cases_eq, cases_lt, eq-eqb, eqb-true, false_from_ne_true, false≢true, or_cases, or_left, or_right}
+use Rattle.std.proofs.lemmas.{Bool.Decides.eqb_tells, Bool.Decides.nat_tests, List.length-replicate, List.get_or-replicate, List.take-replicate}
+use Rattle.std.proofs.lemmas.Bool.{and_parts, cases_Bool, cases_lt, eq-eqb, eqb-true, false_from_ne_true, false≢true, or_cases, or_left, or_right}
 use Rattle.std.proofs.lemmas.List.{append-nil, get_or-map, get_or-take, get_or_past, length-map, take-map}
-use Rattle.std.proofs.lemmas.List.Elements.{All-head, All-tail, Contains-append_left, Contains-push, Contains-push_cases, filter_more}
+use Rattle.std.proofs.lemmas.List.Elements.{All-tail, Contains-append_left, Contains-push, Contains-push_cases, filter_more}
 use Rattle.msg_order.specs.Graph.{path}
-use Rattle.msg_order.specs.Prelude.{Graph, IsAcyclic, IsLowestOnCycle, NameSystemsBelow, Rule, SystemSet, TellsConflicts, edges_of, has_joined, rules_among, settle}
-use Rattle.msg_order.specs.inner.Paths.{AreInConflict, ArePaths, AreStarts, comes_before, conflict_among, set_at}
+use Rattle.msg_order.specs.Prelude.{Graph, IsAcyclic, IsLowestOnCycle, NameSystemsBelow, NamesBelow, Rule, SystemSet, edges_of, has_joined, rules_among, settle}
+use Rattle.msg_order.specs.inner.Paths.{ArePaths, AreStarts, comes_before, set_at}
 use Rattle.msg_order.specs.inner.SystemSet.{has, meets, no_set}
-use Rattle.msg_world.specs.{declared.access.Access.Access, declared.limits.TheConstants.MAX_SYSTEMS}
+use Rattle.msg_world.specs.{declared.limits.TheConstants.MAX_SYSTEMS}
 use Rattle.msg_order.proofs.Elements.{Contains-cases, Contains-list_any, Contains-range, Contains-tail, list_any-Contains, range-Contains}
 use Rattle.msg_order.proofs.PathTest.{no_Path, path_trans, same_paths, same_test, to_Path}
-use Rattle.msg_order.proofs.SettledPairs.{grown_paths, pairs_until, pairs_until-more, reaches, settle_append, settle_row}
+use Rattle.msg_order.proofs.SettledPairs.{gains_edge, pairs_until, pairs_until-more, reaches, row_paths, settle_append}
 use Rattle.msg_order.proofs.SystemSets.{has-no_set, meets-found, meets-true}
 
 -- past the last set there is none
-pub set_past : (before : List SystemSet) (j : ℕ) → length before ≤ j → set_at before j ≡ no_set
-set_past before j h = get_or_past before j no_set h
-
 pub none_past : (before : List SystemSet) (i j : ℕ) → length before ≤ j → comes_before before i j ≡ false
-none_past before i j h = grind (arith, set_past, has-no_set)
-
-pub meets-no_set : (t : SystemSet) → meets no_set t ≡ false
-meets-no_set t = grind (arith, false_from_ne_true, has-no_set, meets-true)
+none_past before i j h = grind (arith, get_or_past before j no_set h, has-no_set)
 
 -- what `add_edges` says of its sets
 abbrev pub AddsEdges : List SystemSet → ℕ → SystemSet → List SystemSet → Type 0
@@ -34,7 +28,7 @@ AddsEdges before from to new = (i j : ℕ) → comes_before new i j
 -- past the last set nothing meets
 pub meets_past : (before : List SystemSet) (to : SystemSet) (j : ℕ) → length before ≤ j
     → meets (set_at before j) to ≡ false
-meets_past before to j h = grind (arith, meets-no_set, set_past)
+meets_past before to j h = grind (arith, false_from_ne_true, get_or_past before j no_set h, has-no_set, meets-true)
 
 -- a set that lies within the list, with what paths lead to from it, does so too
 pub reached_in : (before : List SystemSet) (to reached : SystemSet)
@@ -92,50 +86,25 @@ rule_more joined rules k d h i j =
     let last = path-at_end (rules_among joined (take k rules)) (f (get_or rules k d)) i j in
     grind (arith, more, last, length-map rules f, get_or-map f rules k d (f d) h, take-map f, append-nil)
 
--- one more number is in the set, or is not, as the property says
-pub gains_one : (P : ℕ → Type 0) {old new : ℕ → Bool} (j : ℕ) → ((k : ℕ) → new k ≡ (k == j || old k))
-    → ((k : ℕ) → IsTrue (old k) ↔ ((k < j) × P k)) → P j → (k : ℕ) → IsTrue (new k) ↔ ((k < j + 1) × P k)
-gains_one P j step told holds k = grind (arith, eqb_tells, cases_eq, step k, told k)
-
-pub gains_none : (P : ℕ → Type 0) {old : ℕ → Bool} (j : ℕ) → ((k : ℕ) → IsTrue (old k) ↔ ((k < j) × P k)) → (P j → ⊥)
-    → (k : ℕ) → IsTrue (old k) ↔ ((k < j + 1) × P k)
-gains_none P j told fails k = grind (arith, cases_eq, told k)
-
 -- the pairs of system i with the later ones, of which the set `later` has those in conflict, as `later_conflicts` says
 pub row_settles : (conflict : ℕ → ℕ → Bool) (g : Graph) (n i : ℕ) (before new : List SystemSet) (later : SystemSet)
     → n ≤ MAX_SYSTEMS → i < n → ((j : ℕ) → IsTrue (conflict i j) → j < n)
-    → ((j : ℕ) → IsTrue (has later j) ↔ ((i < j) × (IsTrue (conflict i j) × IsFalse (has (set_at before i) j))))
+    → ((j : ℕ) → has later j ≡ (nat_lt i j && (conflict i j && not (has (set_at before i) j))))
     → AddsEdges before i later new
     → ArePaths (settle conflict g (pairs_until n i)) before → ArePaths (settle conflict g (pairs_until n (i + 1))) new
 row_settles conflict g n i before new later few lt below tells adds way =
     let h : Graph = settle conflict g (pairs_until n i) in
     let js : List ℕ = range_with_len (i + 1) (n - (i + 1)) in
-    let found : (j : ℕ) → has later j ≡ true → (i < j) × ((j < n) × (IsTrue (conflict i j) × (path h j i ≡ false))) = λ j t.
-    grind (arith, tells j, below j, way j i) in
-    let tests : (k : ℕ) → (has later k || meets (set_at before k) later) ≡ list_any (reaches (has later) h k) js = λ k.
-    let here = list_any-Contains (reaches (has later) h k) js in
-    let from = Contains-list_any (reaches (has later) h k) js in
+    let gains : (j : ℕ) → has later j ≡ gains_edge conflict h i j = λ j. rw (tells j, way j i) refl in
+    let tests : (k : ℕ) → (has later k || meets (set_at before k) later) ≡ list_any (reaches conflict h i k) js = λ k.
+    let here = list_any-Contains (reaches conflict h i k) js in
+    let from = Contains-list_any (reaches conflict h i k) js in
     let meet = meets-found (set_at before k) later in
     let inside = λ (t : ℕ). (Contains-range (i + 1) (n - (i + 1)) t) in
-    same_test _ _ (λ e. grind (arith, eqb_tells, meets-true (set_at before k) later, way, here, found, inside))
-    (λ e. let r = from e in grind (arith, eqb_tells, r.1.1, found r.0, way r.0 k, meet)) in
-    let row_is = settle_row conflict h i (has later) js (λ j c. grind (arith, range-Contains (i + 1) (n - (i + 1)) j c))
-    (λ k up. same_test _ _ (λ e. grind (arith, found k e)) (λ e. grind (arith, cases_Bool (path h k i), and_parts, tells k, way k i))) in
-    rw (pairs_until-more n i, settle_append, row_is) (λ x k.
-    let grows = grown_paths h i (has later) js (λ t e. grind (arith, found t e)) x k in
-    grind (arith, adds x k, way x, tests k, grows))
-
--- the test is that of two that have joined and are in conflict
-pub tells_among : (accesses : List Access) (joined : List Bool) (conflict : ℕ → ℕ → Bool)
-    → TellsConflicts accesses joined conflict → (i j : ℕ)
-    → IsTrue (conflict_among joined conflict i j) ↔ AreInConflict accesses joined i j
-tells_among accesses joined conflict tells i j = (
-  λ t.
-      let joins = and_parts (has_joined joined i && has_joined joined j) (conflict i j) t in
-      let both = and_parts (has_joined joined i) (has_joined joined j) joins.0 in
-      record { first_joined = both.0; second_joined = both.1; conflict = (tells i j both.0 both.1).0 joins.1 },
-  λ c. grind (arith, (tells i j c.first_joined c.second_joined).1 c.conflict),
-)
+    same_test _ _ (λ e. grind (arith, eqb_tells, meets-true (set_at before k) later, way, here, gains, nat_tests, below, inside))
+    (λ e. let r = from e in grind (arith, eqb_tells, r.1.1, gains r.0, cases_Bool, below r.0, way r.0 k, meet)) in
+    rw (pairs_until-more n i, settle_append) (λ x k.
+    grind (arith, adds x k, way x, tests k, row_paths conflict h i js (λ j c. grind (arith, range-Contains (i + 1) (n - (i + 1)) j c)) x k))
 
 -- a system that has joined has a place in the list
 pub joined_in : (joined : List Bool) (i : ℕ) → has_joined joined i ≡ true → i < length joined
@@ -156,17 +125,14 @@ pub all_rules : (m n : ℕ) (rules : List Rule) → n ≤ m → NameSystemsBelow
     → rules_among (take n (replicate m true)) rules ≡ edges_of rules
 all_rules m n [] le below = refl
 all_rules m n (rule ∷ rules) le below =
-    let P : Rule → Type 0 = λ r. (r.earlier < n) × (r.later < n) in
-    let here = All-head P rule rules below in
-    let rest = all_rules m n rules le (All-tail P rule rules below) in
-    let joined : (i : ℕ) → i < n → has_joined (take n (replicate m true)) i ≡ true = λ i lt.
-    grind (arith, get_or-take, get_or-replicate) in
-    rw (joined rule.earlier here.0, joined rule.later here.1, rest) refl
+    let here : NamesBelow n rule = below 0 rule (omega arith) in
+    let rest = all_rules m n rules le (All-tail (NamesBelow n) rule rules below) in
+    grind (arith, get_or-take, get_or-replicate, here, rest)
 
--- sets that were just made
-pub sets_empty : (m n : ℕ) (set : SystemSet) → ((k : ℕ) → has set k ≡ false) → ArePaths [] (take n (replicate m set))
-sets_empty zero zero set none i j = has-no_set i
-sets_empty (suc m) zero set none i j = has-no_set i
-sets_empty zero (suc n) set none i j = has-no_set i
-sets_empty (suc m) (suc n) set none i zero = none i
-sets_empty (suc m) (suc n) set none i (suc j) = sets_empty m n set none i j
+-- nobody is in sets that were just made
+pub none_in_sets : (n : ℕ) (set : SystemSet) → ((k : ℕ) → has set k ≡ false) → ArePaths [] (replicate n set)
+none_in_sets n set none k t =
+    grind (arith, cases_lt t n, get_or-replicate n t set no_set, get_or_past (replicate n set) t no_set, length-replicate, has-no_set, none k)
+
+pub sets_empty : (m n : ℕ) (set : SystemSet) → n ≤ m → ((k : ℕ) → has set k ≡ false) → ArePaths [] (take n (replicate m set))
+sets_empty m n set few none = rw (take-replicate n m set few) (none_in_sets n set none)

@@ -1,6 +1,6 @@
 -- The settled order: where it leads, whom it orders, and that any test of conflicts makes the same.
-use Rattle.std.proofs.Common.{Bool, IsTrue, List, ap, arith, false, inl, inr, le_refl, length, replicate, take, true, ℕ, ◌∙◌, ◌&&◌, ◌<◌, ◌↔◌, ◌≡◌, ◌⊎◌}
-use Rattle.std.proofs.lemmas.{Bool.and_from, Bool.and_parts, Bool.cases_Bool, Bool.cases_lt, Bool.cases_order, Bool.Decides.eqb_tells, Bool.false≢true, List.get_or-replicate, List.get_or-take, List.get_or_past}
+use Rattle.std.proofs.Common.{Bool, IsTrue, List, ap, arith, false, inl, inr, length, ℕ, ◌&&◌, ◌<◌, ◌↔◌, ◌≡◌, ◌≢◌, ◌⊎◌}
+use Rattle.std.proofs.lemmas.{Bool.and_from, Bool.and_parts, Bool.cases_Bool, Bool.cases_order, Bool.Decides.eqb_tells}
 use Rattle.msg_world.specs.{Prelude.Conflict, declared.access.Access.Access}
 use Rattle.msg_world.proofs.{Bits.share_bit-and, Conflicts.collides, Conflicts.conflicts_lem}
 use Rattle.msg_order.specs.inner.Paths.{conflict_among}
@@ -8,7 +8,7 @@ use Rattle.msg_order.specs.Prelude.{ConflictingSystemsAreOrdered, FewerSystemsMa
 use Rattle.msg_order.proofs.Chains.{path_grows}
 use Rattle.msg_order.proofs.Elements.{Contains-cases, Contains-filter, filter-Contains}
 use Rattle.msg_order.proofs.PathTest.{no_Path, no_path, path_trans, same_test, to_Path}
-use Rattle.msg_order.proofs.SetPaths.{all_rules, joined_in, tells_among}
+use Rattle.msg_order.proofs.SetPaths.{joined_in}
 use Rattle.msg_order.proofs.SettledPairs.{Contains-pairs, pairs-Contains, settle_covers, settle_keeps}
 
 module _ (rules : List Rule) (joined : List Bool) (conflict : ℕ → ℕ → Bool) where
@@ -28,16 +28,23 @@ module _ (rules : List Rule) (joined : List Bool) (conflict : ℕ → ℕ → Bo
       grind (arith, cases_Bool, eqb_tells, free, back, path_trans k, rises))
       (λ k. no_path _ k k (free k)) i)
 
-  -- one of two in conflict comes before the other
-  pub settled_orders : (i j : ℕ) → i < j → IsTrue (has_joined joined i) → IsTrue (has_joined joined j)
-      → IsTrue (conflict i j)
+  orders_up : (i j : ℕ) → i < j → IsTrue (has_joined joined i) → IsTrue (has_joined joined j) → IsTrue (conflict i j)
       → Path (settled conflict rules joined) i j ⊎ Path (settled conflict rules joined) j i
-  settled_orders i j lt at_i at_j is =
+  orders_up i j lt at_i at_j is =
       elim (settle_covers (conflict_among joined conflict) (pairs (length joined)) (rules_among joined rules) i j
       (Contains-pairs (length joined) i j lt (joined_in joined j at_j)) (and_from _ _ (and_from _ _ at_i at_j) is)) [
         | inl p ↦ inl (to_Path _ i j p)
         | inr p ↦ inr (to_Path _ j i p)
       ]
+
+  -- one of two in conflict comes before the other
+  pub settled_orders : (i j : ℕ) → i ≢ j → IsTrue (has_joined joined i) → IsTrue (has_joined joined j)
+      → IsTrue (conflict i j) → IsTrue (conflict j i)
+      → Path (settled conflict rules joined) i j ⊎ Path (settled conflict rules joined) j i
+  settled_orders i j ne at_i at_j is back =
+      let up = λ (lt : i < j). orders_up i j lt at_i at_j is in
+      let down = λ (lt : j < i). orders_up j i lt at_j at_i back in
+      grind (arith, cases_order i j, up, down)
 
 -- rules that make no cycle among some systems make none among fewer
 pub fewer_make_none : FewerSystemsMakeNoCycle
@@ -51,12 +58,8 @@ fewer_make_none rules joined fewer among free i p =
 -- if rules make no cycle, they make none among those that have joined
 pub none_more : (n : ℕ) (rules : List Rule) → NameSystemsBelow n rules → IsAcyclic (edges_of rules) → (joined : List Bool)
     → length joined ≡ n → IsAcyclic (rules_among joined rules)
-none_more n rules below none joined size =
-    fewer_make_none rules (take n (replicate n true)) joined
-    (λ i has.
-    let lt : i < n = grind (arith, cases_lt, false≢true, get_or_past) in
-    get_or-take n (replicate n true) i false lt ∙ get_or-replicate n i true false lt)
-    (rw (all_rules n n rules (le_refl n) below) none)
+none_more n rules below none joined size i p = none i (path_grows (rules_among joined rules) (edges_of rules)
+    (λ a b e. (filter-Contains _ (edges_of rules) (a, b) e).0) i i p)
 
 -- ---- tests of conflicts
 
@@ -80,16 +83,13 @@ some_test accesses joined = (
 pub settled_only : (accesses : List Access) (rules : List Rule) (joined : List Bool) (a b : ℕ → ℕ → Bool)
     → TellsConflicts accesses joined a → TellsConflicts accesses joined b → settled a rules joined ≡ settled b rules joined
 settled_only accesses rules joined a b tells_a tells_b =
-    let here = tells_among accesses joined a tells_a in
-    let there = tells_among accesses joined b tells_b in
+    let alike = λ (i j : ℕ) (at_i : IsTrue (has_joined joined i)) (at_j : IsTrue (has_joined joined j)). same_test (a i j) (b i j)
+    (λ t. (tells_b i j at_i at_j).1 ((tells_a i j at_i at_j).0 t)) (λ t. (tells_a i j at_i at_j).1 ((tells_b i j at_i at_j).0 t)) in
     let same = λ (i j : ℕ). same_test (conflict_among joined a i j) (conflict_among joined b i j)
-    (λ t. (there i j).1 ((here i j).0 t)) (λ t. (here i j).1 ((there i j).0 t)) in
+    (λ t. grind (arith, cases_Bool, alike i j, t)) (λ t. grind (arith, cases_Bool, alike i j, t)) in
     ap (λ (test : ℕ → ℕ → Bool). settle test (rules_among joined rules) (pairs (length joined))) (λ k i j. same i j k)
 
 pub conflicts_ordered : ConflictingSystemsAreOrdered
 conflicts_ordered accesses rules joined conflict tells i j ne at_i at_j c =
-    let orders = settled_orders rules joined conflict in
     let back : Conflict (access_of accesses j) (access_of accesses i) = (c.0, grind (arith, c.1)) in
-    let up = λ (lt : i < j). orders i j lt at_i at_j ((tells i j at_i at_j).1 c) in
-    let down = λ (lt : j < i). orders j i lt at_j at_i ((tells j i at_j at_i).1 back) in
-    grind (arith, cases_order i j, up, down)
+    settled_orders rules joined conflict i j ne at_i at_j ((tells i j at_i at_j).1 c) ((tells j i at_j at_i).1 back)

@@ -1,7 +1,7 @@
 -- Pairs taken in turn: what they add, keep and reach.
-use Rattle.std.proofs.Common.{Bool, Contains, IsTrue, List, [], ap, arith, cond, false, flat_map, inl, inr, map, not, refl, sym, true, ℕ, ◌&&◌, ◌++◌, ◌+◌, ◌-◌, ◌<◌, ◌==◌, ◌||◌, ◌∙◌, ◌∷◌, ◌≡◌, ◌≢◌, ◌⊎◌}
+use Rattle.std.proofs.Common.{Bool, Contains, IsTrue, List, [], ap, arith, cond, false, flat_map, inl, inr, map, nat_lt, not, refl, true, ℕ, ◌&&◌, ◌++◌, ◌+◌, ◌-◌, ◌<◌, ◌==◌, ◌||◌, ◌∷◌, ◌≡◌, ◌⊎◌}
 use Rattle.std.specs.List.{list_any, range_with_len}
-use Rattle.std.proofs.lemmas.{Bool.and_parts, Bool.cases_Bool, Bool.Decides.eqb_tells, Grind.flat_map-append, List.append-nil}
+use Rattle.std.proofs.lemmas.{Bool.and_parts, Bool.cases_Bool, Bool.Decides.eqb_tells, Bool.Decides.nat_tests, Grind.flat_map-append, List.append-nil}
 use Rattle.msg_order.specs.{Graph.path, Prelude.Graph, Prelude.pairs, Prelude.settle}
 use Rattle.msg_order.proofs.Elements.{Contains-cases, Contains-flat_map, Contains-head, Contains-map, Contains-range, Contains-tail, flat_map-Contains, map-Contains, not_in_none, range-Contains, range_more}
 
@@ -57,49 +57,31 @@ Contains-pairs n i j h l =
     (Contains-map (λ (k : ℕ). (i, k)) (range_with_len (i + 1) (n - (i + 1))) j
     (Contains-range (i + 1) (n - (i + 1)) j (omega arith) (omega arith)))
 
--- The graph with an edge from i to each of these systems for which the test holds.
-abbrev pub grown : ℕ → (ℕ → Bool) → List ℕ → Graph → Graph
-grown i test [] g = g
-grown i test (j ∷ js) g = grown i test js (cond (test j) ((i, j) ∷ g) g)
+-- of the pair of i and a later system t: it is in conflict, and no path leads back, so it gains its edge
+abbrev pub gains_edge : (ℕ → ℕ → Bool) → Graph → ℕ → ℕ → Bool
+gains_edge conflict g i t = nat_lt i t && (conflict i t && not (path g t i))
 
--- What the test holds of has no path to i, and isn't i.
-abbrev pub AreFree : Graph → ℕ → (ℕ → Bool) → Type 0
-AreFree g i test = (t : ℕ) → test t ≡ true → (t ≢ i) × (path g t i ≡ false)
+-- t gains an edge from i, and is k or one from which a path leads to k
+abbrev pub reaches : (ℕ → ℕ → Bool) → Graph → ℕ → ℕ → ℕ → Bool
+reaches conflict g i k t = gains_edge conflict g i t && (k == t || path g t k)
 
--- the test holds of k, or of one from which a path leads to k
-abbrev pub reaches : (ℕ → Bool) → Graph → ℕ → ℕ → Bool
-reaches test g k t = test t && (k == t || path g t k)
+-- an edge to one that gains it leaves the others so: it makes no new path to i
+same_reach : (conflict : ℕ → ℕ → Bool) (g : Graph) (i j k : ℕ) → i < j → path g j i ≡ false → (t : ℕ)
+    → reaches conflict ((i, j) ∷ g) i k t ≡ reaches conflict g i k t
+same_reach conflict g i j k lt free t = grind (arith, cases_Bool, nat_tests)
 
-same_reach : (g : Graph) (i j k : ℕ) (test : ℕ → Bool) → AreFree g i test → (t : ℕ) → reaches test ((i, j) ∷ g) k t
-    ≡ reaches test g k t
-same_reach g i j k test f t = grind (arith, cases_Bool, eqb_tells)
-
-pub grown_paths : (g : Graph) (i : ℕ) (test : ℕ → Bool) (js : List ℕ) → AreFree g i test → (x k : ℕ)
-    → path (grown i test js g) x k ≡ (path g x k || ((x == i || path g x i) && list_any (reaches test g k) js))
-grown_paths g i test [] f x k = grind (arith, cases_Bool)
-grown_paths g i test (j ∷ js) f x k = elim (cases_Bool (test j)) [
-  | inr e ↦ rw e (grown_paths g i test js f x k)
-  | inl e ↦
-      let h : Graph = (i, j) ∷ g in
-      let same = ap (λ (p : ℕ → Bool). list_any p js) (λ n t. same_reach g i j k test f t n) in
-      -- an edge to one of them leaves them so
-      let still_free : AreFree h i test = λ t s. grind (arith, eqb_tells, e, f j, f t) in
-      grind (arith, e, grown_paths h i test js still_free x k, same, eqb_tells, f j)
-]
-
--- by a test of the later systems that gain an edge from i, whichever of them did before
-pub settle_row : (conflict : ℕ → ℕ → Bool) (g : Graph) (i : ℕ) (test : ℕ → Bool) (js : List ℕ)
-    → ((j : ℕ) → Contains js j → i < j) → ((k : ℕ) → i < k → test k ≡ (conflict i k && not (path g k i)))
-    → settle conflict g (map (λ k. (i, k)) js) ≡ grown i test js g
-settle_row conflict g i test [] up h = refl
-settle_row conflict g i test (j ∷ js) up h =
+-- the paths, once the pairs of i with these later systems were taken in turn
+pub row_paths : (conflict : ℕ → ℕ → Bool) (g : Graph) (i : ℕ) (js : List ℕ) → ((j : ℕ) → Contains js j → i < j) → (x k : ℕ)
+    → path (settle conflict g (map (λ j. (i, j)) js)) x k
+    ≡ (path g x k || ((x == i || path g x i) && list_any (reaches conflict g i k) js))
+row_paths conflict g i [] up x k = grind (arith, cases_Bool)
+row_paths conflict g i (j ∷ js) up x k =
     let lt : i < j = up j (Contains-head j js) in
-    let later : (k : ℕ) → Contains js k → i < k = λ k c. up k (Contains-tail j js k c) in
-    let same : settle conflict g ((i, j) ∷ map (λ k. (i, k)) js)
-    ≡ settle conflict (cond (test j) ((i, j) ∷ g) g) (map (λ k. (i, k)) js) =
-    ap (λ b. settle conflict (cond b ((i, j) ∷ g) g) (map (λ k. (i, k)) js)) (sym (h j lt)) in
-    same ∙ elim (cases_Bool (test j)) [
-      | inl e ↦ rw e (settle_row conflict ((i, j) ∷ g) i test js later
-          (λ k l. grind (arith, h k l, h j lt, e, eqb_tells, cases_Bool)))
-      | inr e ↦ rw e (settle_row conflict g i test js later h)
+    let later = λ (t : ℕ) (c : Contains js t). up t (Contains-tail j js t c) in
+    elim (cases_Bool (conflict i j && not (path g j i))) [
+      | inr e ↦ rw e (grind (arith, cases_Bool, nat_tests, e, lt, row_paths conflict g i js later x k))
+      | inl e ↦
+          let free : path g j i ≡ false = grind (arith, cases_Bool, e) in
+          let same = ap (λ (p : ℕ → Bool). list_any p js) (λ n t. same_reach conflict g i j k lt free t n) in
+          rw e (grind (arith, cases_Bool, nat_tests, e, lt, free, same, row_paths conflict ((i, j) ∷ g) i js later x k))
     ]

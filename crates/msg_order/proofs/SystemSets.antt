@@ -78,29 +78,29 @@ words-share xs ys i r k h e t = grind (arith, has_bit-and)
 further_on : (k t : ℕ) → k % 64 + t < 64 → ((k + t) / 64 ≡ k / 64) × ((k + t) % 64 ≡ k % 64 + t)
 further_on k t h = (omega arith, omega arith)
 
+-- bit q of all the words
+abbrev pub bit_of : List ℕ → ℕ → Bool
+bit_of words q = has_bit (get_or words (q / 64) 0) (q % 64)
+
 module _ (words : List ℕ) (k : ℕ) (fits : get_or words (k / 64) 0 < 2 ^ 64) where
   -- the next bit that is set in the word of k, from k on
-  module _ (some : get_or words (k / 64) 0 / 2 ^ (k % 64) ≢ 0) where
-    pub next_in_word : k % 64 + trailing_zeros w64 (get_or words (k / 64) 0 / 2 ^ (k % 64)) < 64
-    next_in_word = next_is_below (get_or words (k / 64) 0) (k % 64) fits some
-
-    pub next_there : (let n : ℕ = k + trailing_zeros w64 (get_or words (k / 64) 0 / 2 ^ (k % 64)) in
-        has_bit (get_or words (n / 64) 0) (n % 64) ≡ true)
-    next_there =
-        let at = further_on k _ next_in_word in
-        rw (at.0, at.1) (next_is_set (get_or words (k / 64) 0) (k % 64) fits some)
-
-    pub none_till_next : (q : ℕ) → k ≤ q → q < k + trailing_zeros w64 (get_or words (k / 64) 0 / 2 ^ (k % 64))
-        → has_bit (get_or words (q / 64) 0) (q % 64) ≡ false
-    none_till_next q le lt =
-        let below = next_in_word in
-        let word : q / 64 ≡ k / 64 = omega (arith, below) in
-        rw word (none_before_next (get_or words (k / 64) 0) (k % 64) fits some (q % 64) (omega (arith, below))
-        (omega (arith, below)))
+  pub next_in_word : get_or words (k / 64) 0 / 2 ^ (k % 64) ≢ 0 →
+      let t = trailing_zeros w64 (get_or words (k / 64) 0 / 2 ^ (k % 64)) in
+      (k % 64 + t < 64) × (bit_of words (k + t) ≡ true) × ((q : ℕ) → k ≤ q → q < k + t → bit_of words q ≡ false)
+  next_in_word some =
+      let below = next_is_below (get_or words (k / 64) 0) (k % 64) fits some in
+      let at = further_on k _ below in (
+        below,
+        rw (at.0, at.1) (next_is_set (get_or words (k / 64) 0) (k % 64) fits some),
+        λ q le lt.
+            let word : q / 64 ≡ k / 64 = omega (arith, below) in
+            rw word (none_before_next (get_or words (k / 64) 0) (k % 64) fits some (q % 64) (omega (arith, below))
+            (omega (arith, below))),
+      )
 
   -- if none is set, none is before the next word
   pub none_in_word : get_or words (k / 64) 0 / 2 ^ (k % 64) ≡ 0 → (q : ℕ) → k ≤ q → q < (k / 64 + 1) * 64
-      → has_bit (get_or words (q / 64) 0) (q % 64) ≡ false
+      → bit_of words q ≡ false
   none_in_word gone q le lt =
       let word : q / 64 ≡ k / 64 = omega arith in
       rw word (none_from (get_or words (k / 64) 0) (k % 64) gone (q % 64) (omega arith))

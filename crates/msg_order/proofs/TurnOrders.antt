@@ -14,16 +14,6 @@ pub stands : (order : List ℕ) (i j a b : ℕ) → a < b → b < length order �
     → StandsBefore order i j
 stands order i j a b lt l x y = grind (arith, slice_get-get_or)
 
--- the places of the two, below the length
-pub record Places (order : List ℕ) (i j a b : ℕ) : Type 0 where
-  pub in_order : a < b
-  pub below : b < length order
-  pub first : get_or order a 0 ≡ i
-  pub second : get_or order b 0 ≡ j
-
-pub places_of : (order : List ℕ) (i j : ℕ) (s : StandsBefore order i j) → Places order i j s.earlier s.later
-places_of order i j s = grind (arith, slice_get_within, get_or_from_slice_get)
-
 pub place_of : (order : List ℕ) (i : ℕ) → Contains order i → (a : ℕ) × ((a < length order) × (get_or order a 0 ≡ i))
 place_of order i h = (h.0, (h.1, sym (get_or_default_zero order h.0 i h.1) ∙ h.2))
 
@@ -39,7 +29,7 @@ stands_along : (order : List ℕ) (i j k : ℕ) → AllPairs (λ i j. i ≢ j) o
     → StandsBefore order k j → StandsBefore order i j
 stands_along order i j k once s t =
     let one = one_place order s.later t.earlier once in
-    grind (arith, places_of order i k s, places_of order k j t, one, stands order i j s.earlier t.later)
+    grind (arith, get_or_from_slice_get, slice_get_within, s, t, one, stands order i j s.earlier t.later)
 
 -- a lawful order keeps paths too
 pub kept_along : (g : Graph) (joined : List Bool) (order : List ℕ) → IsLawfulOrder g joined order → (i j : ℕ)

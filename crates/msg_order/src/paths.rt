@@ -1,7 +1,7 @@
 // The paths of a growing graph: before each system those from which a path leads to it.
-ghost use Rattle.std.specs.Prelude.{◌≡◌, ◌==◌, ◌||◌, ◌&&◌, ℕ, ◌<◌, ◌≤◌, ◌↔◌, [], true, false, length, nat_le, IsTrue, IsFalse, MatchOption};
-ghost use Rattle.msg_order.specs.Prelude.{Graph, IsAcyclic, IsLowestOnCycle, NameSystemsBelow, rules_among};
-ghost use Rattle.msg_order.specs.inner.Paths.{AreInConflict, ArePaths, AreSettled, AreStarts, comes_before, set_at};
+ghost use Rattle.std.specs.Prelude.{◌≡◌, ◌==◌, ◌||◌, ◌&&◌, ℕ, ◌<◌, ◌≤◌, [], true, false, length, nat_le, nat_lt, not, Bool, MatchOption};
+ghost use Rattle.msg_order.specs.Prelude.{Graph, IsAcyclic, IsLowestOnCycle, NameSystemsBelow, TellsConflicts, rules_among};
+ghost use Rattle.msg_order.specs.inner.Paths.{ArePaths, AreSettled, AreStarts, comes_before, conflict_among, set_at};
 ghost use Rattle.msg_order.specs.inner.SystemSet.{has, meets};
 ghost use Rattle.msg_order.specs.inner.Users.{AreUsers};
 
@@ -125,9 +125,9 @@ fn later_conflicts(
     requires passed { (j : ℕ) → has passed.now j ≡ nat_le j i }
     requires one_each { length joined.now ≡ length accesses.now }
     requires is_system { i < length accesses.now }
-    ensures { (j : ℕ)
-        → IsTrue (has result j)
-        ↔ ((i < j) × (AreInConflict accesses.now joined.now i j × IsFalse (has before.now j))) }
+    ensures { (conflict : ℕ → ℕ → Bool) → TellsConflicts accesses.now joined.now conflict
+        → (j : ℕ) → has result j
+        ≡ (nat_lt i j && (conflict_among joined.now conflict i j && not (has before.now j))) }
 {
     if !joined[i] {
         return SystemSet::empty();

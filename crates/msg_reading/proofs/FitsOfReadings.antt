@@ -1,8 +1,8 @@
 -- What holds of all that a reading gives.
-use Rattle.std.proofs.Common.{◌≡◌, ℕ, suc, ◌+◌, ◌≤◌, List, [], ◌∷◌, length, refl, ap, arith, Bool, true, false, All, Ok, Err, IfOk, Option, Some, None, nat_le, zero-add, if◌then◌else◌}
+use Rattle.std.proofs.Common.{◌≡◌, ℕ, suc, ◌+◌, ◌≤◌, List, [], ◌∷◌, length, refl, ap, arith, Bool, true, false, All, Ok, Err, IfOk, nat_le, zero-add, if◌then◌else◌}
 use Rattle.std.proofs.lemmas.{Bool.leb-true, List.Elements.All-cons, List.Elements.All-nil, Result.IfOk-at_ok, Result.IfOk-weaker}
 use Rattle.serde_json.specs.Data.{Data}
-use Rattle.msg_json.specs.Prelude.{Reading, elements, found, inside, is_list, list_up_to, wanted, ◌>>=◌}
+use Rattle.msg_json.specs.Prelude.{Reading, elements, inside, is_list, list_up_to, wanted, ◌>>=◌}
 use Rattle.msg_json.specs.declared.location.PathStep.{PathStep}
 use Rattle.msg_json.specs.declared.reason.Reason.{Reason}
 use Rattle.msg_reading.specs.Prelude.{Declared, each_from, each_of}
@@ -13,23 +13,17 @@ pub in_then : {X A : Type 0} (P : A → Type 0) (r : Reading X) (g : X → Readi
 in_then P (Ok x) g h = h x refl
 in_then P (Err e) g h = tt
 
--- it holds of what is read at a place within the file
-pub within : {A : Type 0} (P : A → Type 0) (step : PathStep) (r : Reading A) → IfOk r P
-    → IfOk (inside step r) P
-within P step (Ok a) h = h
-within P step (Err e) h = tt
+-- it holds of what the second gives for what the first gave, read at a place
+pub of_part : {X A : Type 0} (Q : X → Type 0) (P : A → Type 0) (step : PathStep) (r : Reading X) (g : X → Reading A)
+    → IfOk r Q → ((x : X) → Q x → IfOk (g x) P) → IfOk (inside step r >>= g) P
+of_part Q P step (Ok x) g of h = h x of
+of_part Q P step (Err e) g of h = tt
 
 -- it holds of either
 pub either : {A : Type 0} (P : A → Type 0) (b : Bool) (r s : Reading A) → IfOk r P → IfOk s P
     → IfOk (if b then r else s) P
 either P true r s h k = h
 either P false r s h k = k
-
--- it holds of what was found, if it holds of what is there
-pub of_found : {A : Type 0} (P : A → Type 0) (o : Option A) (why : Reason) → ((a : A) → o ≡ Some a → P a)
-    → IfOk (found o why) P
-of_found P None why h = tt
-of_found P (Some a) why h = h a refl
 
 -- what is wanted holds
 pub of_wanted : {A : Type 0} (P : A → Type 0) (b : Bool) (why : Reason) (g : Unit {0} → Reading A)

@@ -1,13 +1,13 @@
 -- A scenario that was read can be run, if no program clashes and its rules make no cycle.
 use Rattle.std.proofs.Common.{◌≡◌, ℕ, ℤ, ◌+◌, ◌≤◌, ◌<◌, List, length, refl, Option, Some, Ok, arith, All, IfOk, IsTrue, option_and_then}
 use Rattle.std.proofs.lemmas.{Grind.common_steps, Result.IfOk-at_ok}
-use Rattle.serde_json.specs.{Data.Data, Data.number, Data.unsigned, Find.as_i64}
+use Rattle.serde_json.specs.{Data.Data}
 use Rattle.msg_system.specs.Prelude.{FitsWorld, job_needs}
 use Rattle.msg_system.specs.{declared.condition.Condition.Condition, declared.op.Op.Op}
 use Rattle.msg_order.specs.Prelude.{IsAcyclic, NameSystemsBelow, NamesBelow, edges_of}
 use Rattle.msg_frames.specs.declared.frame.Frame.{Frame}
-use Rattle.msg_json.specs.declared.location.TheConstants.{SCENARIO_KEYS, SYSTEM_KEYS}
-use Rattle.msg_json.specs.Prelude.{Reading, at_key, elements, in_element, in_item, in_key, in_part, known_keys, limit, not_negative, number_of, only_below, whole, Text}
+use Rattle.msg_json.specs.declared.location.TheConstants.{SCENARIO_KEYS}
+use Rattle.msg_json.specs.Prelude.{Reading, at_key, in_key, known_keys, only_below, Text}
 use Rattle.msg_json.specs.declared.location.Key.TheVariants as key
 use Rattle.msg_json.specs.declared.location.PathStep.TheVariants as step
 use Rattle.msg_reading.specs.{Prelude.IsRunnable, Prelude.fits_kind, declared.kind.Kind.Kind, declared.scenario.Scenario.Scenario, declared.scenario.SystemSpec.SystemSpec}
@@ -17,7 +17,7 @@ use Rattle.msg_world.specs.declared.limits.TheConstants.{MAX_RESOURCES, MAX_SYST
 use Rattle.msg_reading.specs.declared.limits.TheConstants.{MAX_CONDITIONS, MAX_FRAMES, MAX_POSTS, MAX_RULES}
 use Rattle.msg_reading.specs.ScenarioFormat as Spec
 use Rattle.msg_reading.specs.Prelude.{Declared, NoneClash, frames_of, held_of, resources_of, rules_of, scenario_of, systems_of, types_of}
-use Rattle.msg_reading.proofs.FitsOfReadings.{in_then, list_fits, of_found, of_wanted, within}
+use Rattle.msg_reading.proofs.FitsOfReadings.{in_then, list_fits, of_part}
 use Rattle.msg_reading.proofs.WhatIsUsedIsThere.{ConditionFits, HasNames, OpFits, condition_fits, job_fits, op_fits, post_fits, rule_fits}
 
 -- ---- types and resources
@@ -27,23 +27,11 @@ OneMore Inv k x = Unit {0} × Inv (k + 1) x.1
 
 type_fits : (names : Declared) (k : ℕ) (d : Data) → HasNames k 0 0 names
     → IfOk (Spec.type_at names k d) (OneMore (λ n. HasNames n 0 0) k)
-type_fits names k d has =
-    let Fits = OneMore {A = Text × ℕ} (λ n. HasNames n 0 0) k in
-    within Fits (step.Element k) (Spec.type_of names d) (in_then Fits (Spec.two (elements d)) _ (λ pair _.
-    in_then Fits (Spec.text_and_number 0 pair.0 pair.1) _ (λ p _.
-    in_then Fits (in_part 0 (Spec.new_name names.types p.0)) _ (λ name _.
-    in_then Fits (in_part 1 (limit p.1)) _ (λ most _.
-    (tt, record { types = grind (arith, common_steps, has); resources = has.resources; systems = has.systems }))))))
+type_fits names k d has = grind (arith, common_steps, has)
 
 resource_fits : (t : ℕ) (names : Declared) (k : ℕ) (d : Data) → HasNames t k 0 names
     → IfOk (Spec.resource_at names k d) (OneMore (λ n. HasNames t n 0) k)
-resource_fits t names k d has =
-    let Fits = OneMore {A = Text × ℤ} (λ n. HasNames t n 0) k in
-    within Fits (step.Element k) (Spec.resource_of names d) (in_then Fits (Spec.two (elements d)) _ (λ pair _.
-    in_then Fits (Spec.text_and_number 0 pair.0 pair.1) _ (λ p _.
-    in_then Fits (in_part 0 (Spec.new_name names.resources p.0)) _ (λ name _.
-    in_then Fits (in_part 1 (whole p.1)) _ (λ v _.
-    (tt, record { types = has.types; resources = grind (arith, common_steps, has); systems = has.systems }))))))
+resource_fits t names k d has = grind (arith, common_steps, has)
 
 -- ---- systems
 
@@ -57,8 +45,7 @@ pub record SystemFits (t r : ℕ) (x : SystemSpec) : Type 0 where
 -- elements that declare no name leave the names as they were
 kept : {A : Type 0} (P : A → Type 0) (Inv : Declared → Type 0) (names : Declared) (r : Reading A) → Inv names → IfOk r P
     → IfOk (Spec.keeping names r) (λ x. P x.0 × Inv x.1)
-kept {A} P Inv names r inv h =
-    in_then (λ (x : A × Declared). P x.0 × Inv x.1) r _ (λ a is. (IfOk-at_ok P is h, inv))
+kept P Inv names r inv h = grind arith
 
 module _ (t r n : ℕ) where
   abbrev Known : Declared → Type 0
@@ -69,21 +56,16 @@ module _ (t r n : ℕ) where
 
   ops_fit : (names : Declared) (kind : Kind) (d : Data) → Known names → IfOk (Spec.ops_of names kind d) (OpsFit kind)
   ops_fit names kind d known =
-      let all = list_fits Spec.op_at (OpFits t r) (λ k. Known)
-      (λ m k e h. kept (OpFits t r) Known m (in_item k (Spec.op_of m e)) h
-      (within (OpFits t r) (step.Item k) (Spec.op_of m e) (op_fits t r n m h e))) MAX_OPS names d known in
-      in_then (OpsFit kind) (Spec.each_of MAX_OPS Spec.op_at names d) _ (λ x is.
-      let fit = IfOk-at_ok _ is all in
-      of_wanted (OpsFit kind) (fits_kind kind x.0) _ _ (λ as_kind. (fit.0, fit.1, fit.2, as_kind)))
+      let all = list_fits Spec.op_at (OpFits t r) (λ k. Known) (λ m k e h. grind (arith, op_fits t r n m h e)) MAX_OPS names d known in
+      grind (arith, all)
 
   abbrev ConditionsFit : List (Condition ℤ) × Declared → Type 0
   ConditionsFit x = All (ConditionFits t r) x.0 × (length x.0 ≤ MAX_CONDITIONS) × Known x.1
 
   conditions_fit : (names : Declared) (d : Data) → Known names → IfOk (Spec.conditions_of names d) ConditionsFit
-  conditions_fit names d known = list_fits Spec.condition_at (ConditionFits t r) (λ k. Known)
-      (λ m k e h. kept (ConditionFits t r) Known m (in_item k (Spec.condition_of m e)) h
-      (within (ConditionFits t r) (step.Item k) (Spec.condition_of m e) (condition_fits t r n m h e))) MAX_CONDITIONS names
-      (Spec.value_or key.If Spec.nothing d) known
+  conditions_fit names d known =
+      list_fits Spec.condition_at (ConditionFits t r) (λ k. Known) (λ m k e h. grind (arith, condition_fits t r n m h e))
+      MAX_CONDITIONS names (Spec.value_or key.If Spec.nothing d) known
 
   abbrev IsJoinFrame : ℕ → Type 0
   IsJoinFrame j = (1 ≤ j) × (j ≤ LAST_JOIN)
@@ -93,9 +75,7 @@ module _ (t r n : ℕ) where
   from_one_to o j h = grind arith
 
   join_fits : (d : Data) → IfOk (Spec.join_of d) IsJoinFrame
-  join_fits d =
-      in_then IsJoinFrame (number_of (Spec.value_or key.Join (number (unsigned 1)) d)) _ (λ m _.
-      of_found IsJoinFrame _ _ (from_one_to (option_and_then not_negative (as_i64 m))))
+  join_fits d = grind (arith, from_one_to)
 
   abbrev SystemRead : SystemSpec × Declared → Type 0
   SystemRead x = SystemFits t r x.0 × Known x.1
@@ -104,14 +84,9 @@ module _ (t r n : ℕ) where
       → IfOk (Spec.program_of names name ops d) SystemRead
   program_fits names name ops d known =
       in_then SystemRead (in_key key.Kind (Spec.kind_of d)) _ (λ kind _.
-      in_then SystemRead (in_key key.Ops (Spec.ops_of names kind ops)) _ (λ os os_is.
-      let op = IfOk-at_ok (OpsFit kind) os_is (within (OpsFit kind) (step.Key key.Ops) (Spec.ops_of names kind ops)
-      (ops_fit names kind ops known)) in
-      in_then SystemRead (in_key key.If (Spec.conditions_of os.1 d)) _ (λ cs cs_is.
-      let condition = IfOk-at_ok ConditionsFit cs_is (within ConditionsFit (step.Key key.If) (Spec.conditions_of os.1 d)
-      (conditions_fit os.1 d op.2)) in
-      in_then SystemRead (in_key key.Join (Spec.join_of d)) _ (λ j j_is.
-      let join = IfOk-at_ok IsJoinFrame j_is (within IsJoinFrame (step.Key key.Join) (Spec.join_of d) (join_fits d)) in
+      of_part (OpsFit kind) SystemRead (step.Key key.Ops) (Spec.ops_of names kind ops) _ (ops_fit names kind ops known) (λ os op.
+      of_part ConditionsFit SystemRead (step.Key key.If) (Spec.conditions_of os.1 d) _ (conditions_fit os.1 d op.2) (λ cs condition.
+      of_part IsJoinFrame SystemRead (step.Key key.Join) (Spec.join_of d) _ (join_fits d) (λ j join.
       in_then SystemRead (in_key key.Start (Spec.start_of d)) _ (λ st _. (
         record {
           few_ops = op.1;
@@ -125,12 +100,7 @@ module _ (t r n : ℕ) where
 system_fits : (t r : ℕ) (names : Declared) (n : ℕ) (d : Data) → HasNames t r n names
     → IfOk (Spec.system_at names n d) (SystemRead t r (n + 1))
 system_fits t r names n d has =
-    let Fits = SystemRead t r (n + 1) in
-    within Fits (step.Element n) (Spec.system_of names d) (in_then Fits (known_keys SYSTEM_KEYS.now d) _ (λ _ _.
-    in_then Fits (at_key key.Name d) _ (λ name _. in_then Fits (at_key key.Ops d) _ (λ ops _.
-    in_then Fits (in_key key.Name (Spec.system_name names name)) _ (λ text _.
-    program_fits t r (n + 1) (Spec.with_system names text) text ops d
-    (record { types = has.types; resources = has.resources; systems = grind (arith, common_steps, has) }))))))
+    grind (arith, common_steps, has, program_fits t r (n + 1))
 
 -- ---- rules and frames
 
@@ -138,8 +108,7 @@ rules_fit : (t r n : ℕ) (names : Declared) (d : Data) → HasNames t r n names
     → IfOk (Spec.each_of MAX_RULES Spec.rule_at names d)
     (λ x. All (NamesBelow n) x.0 × (length x.0 ≤ MAX_RULES) × HasNames t r n x.1)
 rules_fit t r n names d has = list_fits Spec.rule_at (NamesBelow n) (λ k. HasNames t r n)
-    (λ m k e h. kept (NamesBelow n) (HasNames t r n) m (in_element k (Spec.rule_of m e)) h
-    (within (NamesBelow n) (step.Element k) (Spec.rule_of m e) (rule_fits t r n m h e))) MAX_RULES names d has
+    (λ m k e h. grind (arith, rule_fits t r n m h e)) MAX_RULES names d has
 
 abbrev FrameFits : ℕ → Frame ℤ → Type 0
 FrameFits t frame = All (λ p. p.0 < t) frame.posts
@@ -150,18 +119,15 @@ module _ (t r n : ℕ) where
 
   pub posts_fit : (names : Declared) (d : Data) → HasNames t r n names → IfOk (Spec.frame_of names d) FrameRead
   posts_fit names d has =
-      let IsPost = λ (p : ℕ × ℤ). p.0 < t in
-      let all = list_fits Spec.post_at IsPost (λ k. HasNames t r n)
-      (λ m k e h. kept IsPost (HasNames t r n) m (in_item k (Spec.post_of m e)) h
-      (within IsPost (step.Item k) (Spec.post_of m e) (post_fits t r n m h e))) MAX_POSTS names d has in
-      in_then FrameRead (Spec.each_of MAX_POSTS Spec.post_at names d) _ (λ x is.
-      let fit = IfOk-at_ok _ is all in (fit.0, fit.2))
+      let all = list_fits Spec.post_at (λ p. p.0 < t) (λ k. HasNames t r n) (λ m k e h. grind (arith, post_fits t r n m h e))
+      MAX_POSTS names d has in
+      grind (arith, all)
 
   frames_fit : (names : Declared) (d : Data) → HasNames t r n names
       → IfOk (Spec.each_of MAX_FRAMES Spec.frame_at names d)
       (λ x. All (FrameFits t) x.0 × (length x.0 ≤ MAX_FRAMES) × HasNames t r n x.1)
   frames_fit names d has = list_fits Spec.frame_at (FrameFits t) (λ k. HasNames t r n)
-      (λ m k e h. within FrameRead (step.Element k) (Spec.frame_of m e) (posts_fit m e h)) MAX_FRAMES names d has
+      (λ m k e h. grind (arith, posts_fit m e h)) MAX_FRAMES names d has
 
 -- ---- the whole
 
@@ -177,28 +143,23 @@ unfolding types_of resources_of held_of systems_of rules_of frames_of
 in_turn_whole types systems frames d =
     let resources_in = Spec.value_or key.Resources Spec.nothing d in
     let rules_in = Spec.value_or key.Rules Spec.nothing d in
-    in_then IsWhole (types_of Spec.no_names types) _ (λ ts ts_is.
-    let type = IfOk-at_ok _ ts_is (within _ (step.Section key.Types) (Spec.each_of MAX_TYPES Spec.type_at Spec.no_names types)
+    of_part _ IsWhole (step.Section key.Types) (Spec.each_of MAX_TYPES Spec.type_at Spec.no_names types) _
     (list_fits Spec.type_at (λ _. Unit {0}) (λ k. HasNames k 0 0) type_fits MAX_TYPES Spec.no_names types
-    (record { types = refl; resources = refl; systems = refl }))) in
-    in_then IsWhole (resources_of ts.1 d) _ (λ rs rs_is.
-    let resource = IfOk-at_ok _ rs_is (within _ (step.Section key.Resources) (Spec.each_of MAX_RESOURCES Spec.resource_at ts.1 resources_in)
-    (list_fits Spec.resource_at (λ _. Unit {0}) (λ k. HasNames (length ts.0) k 0) (resource_fits (length ts.0)) MAX_RESOURCES ts.1
-    resources_in type.2)) in
-    in_then IsWhole (held_of d) _ (λ held _.
-    in_then IsWhole (systems_of rs.1 systems) _ (λ ss ss_is.
+    (record { types = refl; resources = refl; systems = refl })) (λ ts type.
     let t = length ts.0 in
+    of_part _ IsWhole (step.Section key.Resources) (Spec.each_of MAX_RESOURCES Spec.resource_at ts.1 resources_in) _
+    (list_fits Spec.resource_at (λ _. Unit {0}) (λ k. HasNames t k 0) (resource_fits t) MAX_RESOURCES ts.1 resources_in type.2)
+    (λ rs resource.
     let r = length rs.0 in
-    let system = IfOk-at_ok _ ss_is (within _ (step.Section key.Systems) (Spec.each_of MAX_SYSTEMS Spec.system_at rs.1 systems)
+    in_then IsWhole (held_of d) _ (λ held _.
+    of_part _ IsWhole (step.Section key.Systems) (Spec.each_of MAX_SYSTEMS Spec.system_at rs.1 systems) _
     (list_fits Spec.system_at (SystemFits t r) (λ k. HasNames t r k) (λ m k e h. system_fits t r m k e h) MAX_SYSTEMS rs.1 systems
-    resource.2)) in
+    resource.2) (λ ss system.
     let n = length ss.0 in
-    in_then IsWhole (rules_of ss.1 d) _ (λ us us_is.
-    let rule = IfOk-at_ok _ us_is (within _ (step.Section key.Rules) (Spec.each_of MAX_RULES Spec.rule_at ss.1 rules_in)
-    (rules_fit t r n ss.1 rules_in system.2)) in
-    in_then IsWhole (frames_of us.1 frames) _ (λ fs fs_is.
-    let frame = IfOk-at_ok _ fs_is (within _ (step.Section key.Frames) (Spec.each_of MAX_FRAMES Spec.frame_at us.1 frames)
-    (frames_fit t r n us.1 frames rule.2)) in
+    of_part _ IsWhole (step.Section key.Rules) (Spec.each_of MAX_RULES Spec.rule_at ss.1 rules_in) _
+    (rules_fit t r n ss.1 rules_in system.2) (λ us rule.
+    of_part _ IsWhole (step.Section key.Frames) (Spec.each_of MAX_FRAMES Spec.frame_at us.1 frames) _
+    (frames_fit t r n us.1 frames rule.2) (λ fs frame.
     record {
       few_systems = system.1;
       rules_in_range = rule.0;

@@ -60,25 +60,16 @@ ended fault = Err fault
 
 -- if it ends in a text, that is no run fault
 no_run : (fault : ReportFault) (run : RunFault) → EndsInText (Err fault) → ended fault ≢ ended (report_fault.Run run)
-no_run fault run in_text is = elim in_text [
-  | inl write ↦ absurd cc
-  | inr memory ↦ absurd cc
-]
+no_run fault run in_text is = grind arith
 
 -- one that comes to its end doesn't end in a text
 not_in_text : (u : Unit {0}) → ¬ EndsInText (Ok u)
-not_in_text u in_text = elim in_text [
-  | inl write ↦ absurd cc
-  | inr memory ↦ absurd cc
-]
+not_in_text u in_text = grind arith
 
 -- by its fault
 pub in_text_by : (fault : ReportFault) → (fault ≡ report_fault.Write) ⊎ (fault ≡ report_fault.NoMemory)
     → EndsInText (Err fault)
-in_text_by fault is = elim is [
-  | inl write ↦ inl (ap Err write)
-  | inr memory ↦ inr (ap Err memory)
-]
+in_text_by fault is = grind arith
 
 -- ---- runs
 
@@ -141,16 +132,6 @@ module _ {S : Type 0} (contents : S → Option (List ℕ)) (failures : S → ℕ
 
   module _ (k : ℕ) (old now : S) (e : EngineOf X ℤ)
       (far : ReportSoFar contents failures meaning s first k old now e) where
-    -- what a put of the next text does to the failures
-    module _ (fault : ReportFault) (after : S)
-        (write : ended fault ≡ ended report_fault.Write → failures after ≡ one_failure_more (failures now))
-        (memory : ended fault ≡ ended report_fault.NoMemory → after ≡ now) where
-      failed : ended fault ≡ ended report_fault.Write → failures after ≡ one_failure_more (failures old)
-      failed is = rw (← far.quiet) (write is)
-
-      silent : ended fault ≡ ended report_fault.NoMemory → failures after ≡ failures old
-      silent is = ap failures (memory is) ∙ far.quiet
-
     -- ---- a frame
 
     -- the frame after the first k was run, and its text isn't put yet
@@ -226,7 +207,7 @@ module _ {S : Type 0} (contents : S → Option (List ℕ)) (failures : S → ℕ
           )
           (inl (AppendsPrefix_after (contents old) (contents now) (contents after) texts here [] _
           (text_now ∙ sym (append-nil (texts ++ here))) far.printed puts))
-          (failed fault after write memory) (silent fault after write memory) far.begun one.stands
+          (λ is. rw (← far.quiet) (write is)) (λ is. ap failures (memory is) ∙ far.quiet) far.begun one.stands
           (omega (arith, counted, far.counted, many_now))
 
     -- ---- no memory
@@ -344,7 +325,7 @@ module _ {S : Type 0} (contents : S → Option (List ℕ)) (failures : S → ℕ
           far.printed part)
           (rest ++ part.0, rw (← append_assoc, ← whole) trans)
           (inr (many ∙ all, (part.0, trans)))
-          (failed fault after write memory) (silent fault after write memory) far.begun far.stands
+          (λ is. rw (← far.quiet) (write is)) (λ is. ap failures (memory is) ∙ far.quiet) far.begun far.stands
           (omega (arith, far.counted, many))
 
       -- what came of the put of their lines

@@ -101,7 +101,12 @@ impl Habit {
         ensures pause { self.new.pause ≡ (if self.new.pays then self.old.pause / 2
             else min (max (self.old.pause * 2) 1) LONGEST_PAUSE) }
         ensures in_place { self.new.in_place ≡ (if self.new.pays then 0 else self.new.pause) }
-        ensures tried { self.new.tried ≡ size }
+        ensures tried { self.new ≡ record self.old {
+          pays = self.new.pays;
+          pause = self.new.pause;
+          in_place = self.new.in_place;
+          tried = size;
+        } }
     {
         let by_others = (size / u64::from(self.jobs.max(1))).saturating_mul(u64::from(self.others));
         self.tried = size;
@@ -131,8 +136,12 @@ impl Habit {
         ensures at_once { self.new.at_once
             ≡ (if nat_le (own + own) jobs && nat_le self.old.at_once (came + came)
             then max came 1 else 1) }
-        ensures jobs { self.new.jobs ≡ jobs }
-        ensures others { self.new.others ≡ jobs - own }
+        ensures jobs { self.new ≡ record self.old {
+          at_once = self.new.at_once;
+          jobs = jobs;
+          others = jobs - own;
+          many = self.new.many;
+        } }
         ensures many { 2 < workers → self.new.many
             ≡ (nat_lt own jobs && nat_le jobs (4 * (jobs - own))) }
     {

@@ -1,6 +1,6 @@
-ghost use Rattle.std.specs.Prelude.{◌≡◌, ◌<◌, ◌≤◌, ◌⊎◌, [], IfSome, Some, None, true, IfOk, IfErr, OnOk, codes, string_bytes};
+ghost use Rattle.std.specs.Prelude.{◌≡◌, ◌<◌, ◌≤◌, ◌⊎◌, [], IfSome, Some, None, true, IfOk, IfErr, OnOk, codes, option_and_then, string_bytes};
 ghost use Rattle.clap.specs.Words.{fault_of, takes, first_of, rows_of, found_of, subcommand_rows_of};
-ghost use Rattle.msg_command.specs.Prelude.{AsksForNone, IsInRange, IsWordFaultOf, asked, asked_by, frame_asked, is_asked, msgrun_app, number_in, request_of, texts_of, workers_asked};
+ghost use Rattle.msg_command.specs.Prelude.{AsksForNone, IsInRange, IsWordFaultOf, asked, asked_by, is_asked, msgrun_app, number_in, request_of, texts_of};
 
 use crate::limits::{LAST_FRAME, MAX_WORKERS};
 use crate::words::command::matches;
@@ -43,7 +43,7 @@ fn action_of(alloc: Global, matches: &ArgMatches<'_>) -> Result<Action, WordFaul
     }
     if name == "run" {
         let file = file_of(alloc, inner)?;
-        let workers = workers_of(inner)?;
+        let workers = number_of(inner, "workers", MAX_WORKERS)?;
         let json = is_given(inner, "json");
         return Ok(Action::Run {
             file,
@@ -57,13 +57,13 @@ fn action_of(alloc: Global, matches: &ArgMatches<'_>) -> Result<Action, WordFaul
     }
     if name == "plan" {
         let file = file_of(alloc, inner)?;
-        let frame = frame_of(inner)?;
+        let frame = number_of(inner, "frame", LAST_FRAME)?;
         let dot = is_given(inner, "dot");
         return Ok(Action::Plan { file, frame, dot });
     }
     if name == "serve" {
         let file = file_of(alloc, inner)?;
-        let workers = workers_of(inner)?;
+        let workers = number_of(inner, "workers", MAX_WORKERS)?;
         return Ok(Action::Serve { file, workers });
     }
     Err(WordFault::Bad)
@@ -81,28 +81,18 @@ fn file_of(alloc: Global, inner: &ArgMatches<'_>) -> Result<String, WordFault>
     String::from_str(alloc, file).map_err(|_| WordFault::NoMemory)
 }
 
+/// The number from 1 to `most` that an option has.
 #[tactic(auto, using(crate::proofs::RowValues::row_value))]
-fn workers_of(inner: &ArgMatches<'_>) -> Result<u32, WordFault>
-    ensures number { IfOk result (λ n. workers_asked (rows_of (found_of inner.now)) ≡ Some n) }
+fn number_of(inner: &ArgMatches<'_>, option: &str, most: u32) -> Result<u32, WordFault>
+    ensures number { IfOk result (λ n. option_and_then (number_in most)
+        (first_of option.now (rows_of (found_of inner.now))) ≡ Some n) }
     ensures some { IfOk result (λ n. 0 < n) }
-    ensures at_most { IfOk result (λ n. n ≤ MAX_WORKERS) }
-    ensures refused { IfErr result (λ e. (e ≡ WordFault.Bad)
-        × (workers_asked (rows_of (found_of inner.now)) ≡ None)) }
+    ensures at_most { IfOk result (λ n. n ≤ most) }
+    ensures refused { IfErr result (λ e. (e ≡ WordFault.Bad) × (option_and_then (number_in most)
+        (first_of option.now (rows_of (found_of inner.now))) ≡ None)) }
 {
-    let text = inner.get_str("workers").ok_or(WordFault::Bad)?;
-    number_in(text, MAX_WORKERS).ok_or(WordFault::Bad)
-}
-
-#[tactic(auto, using(crate::proofs::RowValues::row_value))]
-fn frame_of(inner: &ArgMatches<'_>) -> Result<u32, WordFault>
-    ensures number { IfOk result (λ n. frame_asked (rows_of (found_of inner.now)) ≡ Some n) }
-    ensures some { IfOk result (λ n. 0 < n) }
-    ensures at_most { IfOk result (λ n. n ≤ LAST_FRAME) }
-    ensures refused { IfErr result (λ e. (e ≡ WordFault.Bad)
-        × (frame_asked (rows_of (found_of inner.now)) ≡ None)) }
-{
-    let text = inner.get_str("frame").ok_or(WordFault::Bad)?;
-    number_in(text, LAST_FRAME).ok_or(WordFault::Bad)
+    let text = inner.get_str(option).ok_or(WordFault::Bad)?;
+    number_in(text, most).ok_or(WordFault::Bad)
 }
 
 #[tactic(auto, using(crate::proofs::RowValues::row_value))]

@@ -1,12 +1,12 @@
 -- What the parts of a new engine are.
-use Rattle.std.specs.Prelude.{◌≡◌, ℕ, ◌<◌, List, length, map, nat_le, Option, Some, slice_get, IsSomeAnd}
+use Rattle.std.specs.Prelude.{◌≡◌, ℕ, List, length, map, nat_le, Option, Some, slice_get, IsSomeAnd}
 use Rattle.std.specs.Global.{Box}
 use Rattle.msg_world.specs.declared.access.Access.{Access}
 use Rattle.msg_order.specs.declared.rule.Rule.{Rule}
 use Rattle.msg_order.specs.Prelude.{IsPlanOf}
 use Rattle.msg_system.specs.Prelude.{IsAccessOf, Meaning, with_conditions}
-use Rattle.msg_exec.specs.{declared.job.GuardedSystem.GuardedSystem, Jobs.job_state, Keeping.totals_at, Building.EachIs, declared.building.Prepared.Prepared}
-use Rattle.msg_frames.specs.{declared.place.Place.Place, declared.totals.Totals.Totals}
+use Rattle.msg_exec.specs.{declared.job.GuardedSystem.GuardedSystem, Jobs.job_state, Lender.TotalsStand, Building.EachIs, declared.building.Prepared.Prepared}
+use Rattle.msg_frames.specs.declared.place.Place.{Place}
 use Rattle.msg_frames.specs.Prelude.{new_job, no_totals}
 
 module _ {S V : Type 0} (meaning : S → Meaning V) where
@@ -22,11 +22,6 @@ module _ {S V : Type 0} (meaning : S → Meaning V) where
       → slice_get places i ≡ Some place
       → IsSomeAnd o (λ a. job_state meaning a.value ≡ new_job (meaning x) place)
 
--- totals of readers that haven't joined, one for each type
-pub record AreNoTotals (types : ℕ) (xs : List Totals) : Type 0 where
-  pub as_many : length xs ≡ types
-  pub each : (t : ℕ) → t < types → totals_at xs t ≡ no_totals
-
 module _ {S V : Type 0} (meaning : S → Meaning V) where
   -- What is reckoned of systems and of rules that make no cycle: the plan is that of the first
   -- frame.
@@ -38,4 +33,4 @@ module _ {S V : Type 0} (meaning : S → Meaning V) where
     pub joins : made.joins.items ≡ map (λ place. place.join) places
     pub plan : IsPlanOf made.accesses.items rules (map (λ j. nat_le j 1) made.joins.items) made.plan
     pub totals_each : length made.totals.items ≡ length systems
-    pub totals : EachIs (λ i w. AreNoTotals types w.items) made.totals.items
+    pub totals : EachIs (λ i w. TotalsStand types w.items (λ t. no_totals)) made.totals.items

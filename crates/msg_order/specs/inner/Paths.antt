@@ -1,9 +1,9 @@
 -- Paths as the sets of the code keep them: before each system those that precede it. No public
 -- contract cites these; that they are the paths of the definitions is proved.
-use Rattle.std.specs.Prelude.{Bool, IsTrue, List, filter, length, map, not, slice_index_or, true, ℕ, ◌&&◌, ◌<◌, ◌≡◌, ◌≤◌}
+use Rattle.std.specs.Prelude.{Bool, List, filter, length, map, not, slice_index_or, true, ℕ, ◌&&◌, ◌<◌, ◌≡◌, ◌≤◌}
 use Rattle.std.specs.List.{range_with_len}
-use Rattle.msg_world.specs.{Prelude.Conflict, declared.access.Access.Access, declared.limits.TheConstants.MAX_SYSTEMS}
-use Rattle.msg_order.specs.{Graph.Graph, Graph.path, Order.TellsConflicts, Order.access_of, Plan.PlanView, Plan.square, Settled.has_joined, Settled.pairs, Settled.settle, declared.system_set.SystemSet.SystemSet, inner.SystemSet.has, inner.SystemSet.meets, inner.SystemSet.no_set}
+use Rattle.msg_world.specs.{declared.access.Access.Access, declared.limits.TheConstants.MAX_SYSTEMS}
+use Rattle.msg_order.specs.{Graph.Graph, Graph.path, Order.TellsConflicts, Plan.PlanView, Plan.square, Settled.has_joined, Settled.pairs, Settled.settle, declared.system_set.SystemSet.SystemSet, inner.SystemSet.has, inner.SystemSet.meets, inner.SystemSet.no_set}
 
 -- the set of those before system j
 abbrev pub set_at : List SystemSet → ℕ → SystemSet
@@ -20,12 +20,6 @@ AreStarts before starts = (i j : ℕ) → comes_before before i j ≡ true → h
 -- the sets are the paths of g
 abbrev pub ArePaths : Graph → List SystemSet → Type 0
 ArePaths g before = (i j : ℕ) → comes_before before i j ≡ path g i j
-
--- systems i and j have joined, and their accesses conflict
-pub record AreInConflict (accesses : List Access) (joined : List Bool) (i j : ℕ) : Type 0 where
-  pub first_joined : IsTrue (has_joined joined i)
-  pub second_joined : IsTrue (has_joined joined j)
-  pub conflict : Conflict (access_of accesses i) (access_of accesses j)
 
 -- two that have joined are in conflict
 abbrev pub conflict_among : List Bool → (ℕ → ℕ → Bool) → ℕ → ℕ → Bool

@@ -1,5 +1,5 @@
 -- What a worker drew first, and what holds of it once it has ended.
-use Rattle.std.specs.Prelude.{◌≡◌, ◌+◌, ℕ, All, List, ◌∷◌, [], Option, Some, None, slice_get}
+use Rattle.std.specs.Prelude.{◌≡◌, ◌+◌, ℕ, List, ◌∷◌, [], Option, Some, None, slice_get, ⊤}
 use Rattle.msg_board.specs.Prelude.{BoardView, HasEnded, IsOf, PassState, jobs_of}
 use Rattle.msg_workers.specs.Work.{EachNewIs}
 
@@ -23,8 +23,6 @@ module _ {J : Type 0} where
 
   -- The passes were new and have ended. They are those of the workers `first`, `first + 1` and so
   -- on: of each job that a pass drew `Such` holds for its worker.
-  pub record HaveWorked (b : BoardView J) (Such : ℕ → J → Type 0) (first : ℕ)
-      (passes : List (PassState J)) : Type 0 where
-    pub ended : All (HasEnded b) passes
-    pub each : (k : ℕ) (p : PassState J) → slice_get passes k ≡ Some p
-        → EachNewIs (Such (first + k)) (jobs_of b) [] p.drawn
+  abbrev pub HaveWorked : BoardView J → (ℕ → J → Type 0) → ℕ → List (PassState J) → Type 0
+  HaveWorked b Such first [] = ⊤
+  HaveWorked b Such first (p ∷ ps) = HasWorked b (Such first) p × HaveWorked b Such (first + 1) ps

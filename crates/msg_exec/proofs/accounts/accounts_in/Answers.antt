@@ -6,10 +6,7 @@ use Rattle.msg_frames.specs.Prelude.{accounts_of_system}
 use Rattle.msg_exec.proofs.accounts.accounts_in.Goals as goal
 
 pub loop-i-preserved : goal.loop-i-preserved
-loop-i-preserved g c =
+loop-i-preserved g c s stands =
     let i = c.loop-i.i in
-    record {
-      so_far = λ s stands.
-          rw (range_more i, ← flat_map_more (accounts_of_system s) [] (range_with_len 0 i) i)
-          (rw (← c.loop-i.invariant.so_far s stands) (c.in_ok-add_accounts.ensures.added s stands));
-    }
+    rw (range_more i, ← flat_map_more (accounts_of_system s) [] (range_with_len 0 i) i)
+    (rw (← c.loop-i.invariant s stands) (c.in_ok-add_accounts.ensures.added s stands))

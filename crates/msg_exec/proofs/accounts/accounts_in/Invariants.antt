@@ -5,7 +5,5 @@ use Rattle.msg_exec.specs.Prelude.{CoreStands}
 use Rattle.msg_exec.proofs.accounts.accounts_in.Given as goal
 
 abbrev pub invariant-loop-i : goal.invariant-loop-i
-invariant-loop-i g l = record {
-  so_far : (s : State g.V.Value.values) → CoreStands g.S.SystemOf.meaning l.core s → l.accounts.items
-      ≡ flat_map (accounts_of_system s) (range_with_len 0 l.i);
-}
+invariant-loop-i g l = (s : State g.V.Value.values) → CoreStands g.S.SystemOf.meaning l.core s
+    → l.accounts.items ≡ flat_map (accounts_of_system s) (range_with_len 0 l.i)

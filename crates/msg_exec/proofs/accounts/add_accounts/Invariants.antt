@@ -5,7 +5,5 @@ use Rattle.msg_exec.proofs.AccountsTell.{accounts_below}
 use Rattle.msg_exec.proofs.accounts.add_accounts.Given as goal
 
 abbrev pub invariant-loop-t : goal.invariant-loop-t
-invariant-loop-t g l = record {
-  so_far : (s : State g.V.Value.values) → CoreStands g.S.SystemOf.meaning l.core s → l.accounts.items ≡ l.initial.accounts.items
-      ++ accounts_below s l.i l.t;
-}
+invariant-loop-t g l = (s : State g.V.Value.values) → CoreStands g.S.SystemOf.meaning l.core s
+    → l.accounts.items ≡ l.initial.accounts.items ++ accounts_below s l.i l.t

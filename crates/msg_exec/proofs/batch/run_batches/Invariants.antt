@@ -3,7 +3,7 @@ use Rattle.std.specs.List.{concat}
 use Rattle.msg_exec.specs.Prelude.{LenderStands}
 use Rattle.msg_workers.specs.Prelude.{EachPassedGate}
 use Rattle.msg_frames.specs.Prelude.{State}
-use Rattle.msg_exec.proofs.BatchAfterBatch.{HasTurned}
+use Rattle.msg_exec.specs.inner.Batches.{HasTurned}
 use Rattle.msg_exec.proofs.batch.run_batches.Given as goal
 
 abbrev pub invariant-loop-batch : goal.invariant-loop-batch

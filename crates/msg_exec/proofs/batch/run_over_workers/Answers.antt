@@ -9,27 +9,24 @@ pub run_side_by_side-requires-clause-few : goal.run_side_by_side-requires-clause
 run_side_by_side-requires-clause-few g c κs within =
     let many =
     AllZip-long (IsOut c.args.lender.now) c.args.batch.now c.in_ok-jobs.jobs.items c.in_ok-jobs.ensures.out.each in
-    let few = no_more_than c.args.batch.now c.requires.stands.0.systems c.requires.stands.1.1 c.requires.once in
-    omega (arith, many, few, c.requires.stands.1.0.accesses, c.requires.few)
+    let (s, is) = c.requires.batch in
+    omega (arith, many, no_more_than c.args.batch.now s.systems is.below is.once, is.stands.accesses, c.requires.few)
 
 pub run_side_by_side-requires-clause-may : goal.run_side_by_side-requires-clause-may
 run_side_by_side-requires-clause-may g c κs within =
-    let r = c.requires in
-    all_may_run g.S.SystemOf.meaning (is_batch g.S.SystemOf.meaning r.stands r.once r.apart r.stands.1.0)
-    c.in_ok-jobs.ensures.out
+    all_may_run g.S.SystemOf.meaning c.requires.batch.1 c.in_ok-jobs.ensures.out
 
 pub loop-result-init : goal.loop-result-init
 loop-result-init g c s stands =
-    let r = c.requires in
-    rw c.into_iter-result-iterator.ensures.into_iter_gives.0
-    (begin_home g.S.SystemOf.meaning (is_batch g.S.SystemOf.meaning r.stands r.once r.apart stands)
-    c.in_ok-jobs.ensures.out (all_back g.S.SystemOf.meaning (is_batch g.S.SystemOf.meaning r.stands r.once r.apart stands)
-    c.in_ok-jobs.ensures.out c.in_ok-results.ensures.run))
+    let m = g.S.SystemOf.meaning in
+    let of = is_batch m c.requires.batch.1 stands in
+    rw c.into_iter-result-iterator.ensures.into_iter_gives.0 (begin_home m of c.in_ok-jobs.ensures.out
+    (all_back m of c.in_ok-jobs.ensures.out c.in_ok-results.ensures.run))
 
 pub take_back-requires : goal.take_back-requires
 take_back-requires g c =
     let next = rw c.in_ok-done.was at c.in-Some.ensures.steps.0 in
-    let may = next_may_come g.S.SystemOf.meaning next (c.loop-result.invariant _ c.requires.stands.1.0) in
+    let may = next_may_come g.S.SystemOf.meaning next (c.loop-result.invariant _ c.requires.batch.1.stands) in
     record { systems = may.systems; totals = may.totals; apart = may.apart; few = may.few }
 
 pub loop-result-preserved : goal.loop-result-preserved
@@ -49,9 +46,8 @@ returns g c =
     let jobs = c.in_ok-jobs.jobs.items in
     let out = c.in_ok-jobs.ensures.out.each in
     record {
-      state = λ s stands. (all_came m none (far s stands)).0;
-      turns = λ s stands. (all_came m none (far s stands)).1;
-      accesses = (far _ c.requires.stands.1.0).half.accesses;
+      turned = λ s stands. all_came m none (far s stands);
+      accesses = (far _ c.requires.batch.1.stands).half.accesses;
       gate_passed = rw (AllZip-long (IsOut c.args.lender.now) batch jobs out) at
           (of_batch (PassedGate passed (min c.args.context.now.workers (length jobs))) c.args.lender.now batch jobs out
           c.in_ok-results.ensures.gate_passed);

@@ -18,12 +18,8 @@ loop-system-preserved g c =
       passed = rw next (All-push (g.G.Gate.passed c.args.gate.now 0) _ _ c.loop-system.invariant.passed
           c.pass.ensures.passed);
       turned = λ s stands.
-          rw next (turned_more g.S.SystemOf.meaning (_ ∷ []) (c.loop-system.invariant.turned s stands) ran.state
-          ran.logged);
+          rw next (turned_more g.S.SystemOf.meaning (_ ∷ []) (c.loop-system.invariant.turned s stands) ran.turned);
     }
 
-pub returns-clause-state : goal.returns-clause-state
-returns-clause-state g c s stands = grind (arith, take_all, c.loop-system.invariant.turned s stands)
-
-pub returns-clause-turns : goal.returns-clause-turns
-returns-clause-turns g c s stands = grind (arith, take_all, c.loop-system.invariant.turned s stands)
+pub returns-clause-turned : goal.returns-clause-turned
+returns-clause-turned g c s stands = grind (arith, take_all, c.loop-system.invariant.turned s stands)

@@ -1,7 +1,7 @@
 use Rattle.std.proofs.Common.{◌≡◌, take, All}
 use Rattle.msg_exec.specs.Prelude.{LenderStands}
 use Rattle.msg_frames.specs.Prelude.{State}
-use Rattle.msg_exec.proofs.BatchAfterBatch.{HasTurned}
+use Rattle.msg_exec.specs.inner.Batches.{HasTurned}
 use Rattle.msg_exec.proofs.batch.run_turns.Given as goal
 
 abbrev pub invariant-loop-system : goal.invariant-loop-system

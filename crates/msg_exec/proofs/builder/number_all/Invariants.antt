@@ -4,4 +4,4 @@ use Rattle.msg_exec.proofs.builder.number_all.Given as goal
 
 abbrev pub invariant-loop-i : goal.invariant-loop-i
 invariant-loop-i g l =
-    map g.S.SystemOf.meaning l.systems ≡ numbered_below 0 l.i (map g.S.SystemOf.meaning l.initial.systems)
+    map g.S.SystemOf.meaning l.systems.items ≡ numbered_below 0 l.i (map g.S.SystemOf.meaning l.initial.systems.items)

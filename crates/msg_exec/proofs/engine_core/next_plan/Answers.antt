@@ -2,7 +2,7 @@ use Rattle.std.proofs.Common.{refl, ◌≡◌, length, ap, ◌∙◌, arith, suc
 use Rattle.msg_frames.specs.Prelude.{after_joining, SameSystems}
 use Rattle.msg_frames.proofs.SystemsStay.{joining_keeps, joining_makes_no_frame}
 use Rattle.msg_exec.specs.inner.FrameSteps.{one_frame_more}
-use Rattle.msg_exec.proofs.{CoreRunsFrame.joined_by_frame, CoreRunsFrame.fixed_along, PostsAreWritten.if_refused}
+use Rattle.msg_exec.proofs.{CoreRunsFrame.joined_by_frame, CoreRunsFrame.fixed_along, ItemsOfLists.if_refused}
 use Rattle.msg_exec.specs.Prelude.{FixedParts}
 use Rattle.msg_exec.proofs.engine_core.next_plan.Goals as goal
 

@@ -45,11 +45,11 @@ returns g c =
           let has = c.in_ok-posts.ensures.opened s stands is in
           let same = in_turn g.S.SystemOf.meaning has stands.sound in
           frame_ran g.S.SystemOf.meaning has stands.sound
-          (rw same at (turns.state _ has.lender)) (rw same at (logged_in frame order s _ replies
-          c.from_vec.ensures.items has.posts (c.from_vec-2.ensures.items ∙ turns.turns _ has.lender))) turns.accesses;
+          (rw same at (turns.turned _ has.lender).state) (rw same at (logged_in frame order s _ replies
+          c.from_vec.ensures.items has.posts (c.from_vec-2.ensures.items ∙ (turns.turned _ has.lender).turns))) turns.accesses;
       gate_passed =
           let (s, (stands, is)) = c.requires.stands in
           let has = c.in_ok-posts.ensures.opened s stands is in
           rw (in_that_order frame order s _ (logged_in frame order s _ replies c.from_vec.ensures.items has.posts
-          (c.from_vec-2.ensures.items ∙ turns.turns _ has.lender))) turns.gate_passed;
+          (c.from_vec-2.ensures.items ∙ (turns.turned _ has.lender).turns))) turns.gate_passed;
     }

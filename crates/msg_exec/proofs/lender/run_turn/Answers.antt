@@ -1,6 +1,6 @@
 use Rattle.std.proofs.Common.{◌<◌, length, None, option_map, refl, sym, ap, ◌∙◌, arith}
 use Rattle.std.proofs.lemmas.List.{get_or-set_other, get_or-set_same, length-set}
-use Rattle.msg_exec.proofs.{BatchOfOne.may_come_home, BatchOfOne.may_take_turn, BatchOfOne.turn_is_logged, BatchOfOne.turn_taken}
+use Rattle.msg_exec.proofs.{BatchOfOne.may_come_home, BatchOfOne.may_take_turn, BatchOfOne.turn_taken}
 use Rattle.msg_exec.proofs.lender.run_turn.Goals as goal
 
 pub take_turn-requires : goal.take_turn-requires
@@ -20,27 +20,20 @@ enter_turn-requires g c =
       there = rw stands.totals lt;
     }
 
-pub returns-clause-state : goal.returns-clause-state
-returns-clause-state g c s stands =
+pub returns-clause-turned : goal.returns-clause-turned
+returns-clause-turned g c s stands =
     let lt = rw (sym c.requires.stands.1.0.accesses ∙ stands.accesses) at c.requires.stands.1.1 in
     let i = c.args.number in
     let systems = c.args.lender.now.systems.items in
     let there : i < length systems = omega (arith, lt, stands.systems) in
-    turn_taken g.S.SystemOf.meaning i stands lt c.index-access.ensures c.index_mut.ensures.value
+    rw c.in_ok-push.ensures.items (turn_taken g.S.SystemOf.meaning i stands lt c.index-access.ensures c.index_mut.ensures.value
     c.in-Some.is c.in_ok-taken.ensures.lent
     (rw (c.deref_mut-guarded.ensures.value, ← c.outcome_if-outcome.ensures.outcome) at c.in_ok-taken-2.ensures.took)
-    (record {
+    _ (record {
       as_many = length-set systems i _;
       system = rw (get_or-set_same systems i _ None there) refl;
       others = λ k other. ap (option_map _) (get_or-set_other systems i k _ None other);
       accesses = refl;
       taken_back = c.take_back.ensures.home;
       totals = c.enter_turn.ensures.entered;
-    })
-
-pub returns-clause-logged : goal.returns-clause-logged
-returns-clause-logged g c s stands =
-    let lt = rw (sym c.requires.stands.1.0.accesses ∙ stands.accesses) at c.requires.stands.1.1 in
-    rw (← turn_is_logged g.S.SystemOf.meaning c.args.number stands lt c.index-access.ensures c.index_mut.ensures.value
-    c.in-Some.is c.in_ok-taken.ensures.lent
-    (rw (c.deref_mut-guarded.ensures.value, ← c.outcome_if-outcome.ensures.outcome) at c.in_ok-taken-2.ensures.took)) c.in_ok-push.ensures.items
+    }))

@@ -1,9 +1,26 @@
-use Rattle.std.proofs.Common.{ℕ, ◌∙◌, refl, arith, take}
+use Rattle.std.proofs.Common.{◌≡◌, List, [], ◌∷◌, ◌++◌, ℕ, ◌∙◌, refl, arith, take}
 use Rattle.std.proofs.lemmas.{List.length_push, List.take_all, List.take_more, Option.slice_get_read}
-use Rattle.msg_world.specs.{declared.part.Part.TheVariants.OfType}
-use Rattle.msg_frames.specs.Prelude.{after_posts}
-use Rattle.msg_exec.proofs.PostsAreWritten.{if_refused, posted_more, replies_more}
+use Rattle.msg_world.specs.{declared.part.Part.TheVariants.OfType, declared.record.TheConstants.HOST, Prelude.WorldState, Prelude.by, Prelude.with_history, Prelude.Values}
+use Rattle.msg_buffer.specs.Prelude.{write}
+use Rattle.msg_system.specs.Prelude.{numbers_for, write_reply}
+use Rattle.msg_frames.specs.Prelude.{after_posts, post_replies}
+use Rattle.msg_exec.proofs.ItemsOfLists.{if_refused}
 use Rattle.msg_exec.proofs.posts.post_all.Goals as goal
+
+module _ {V : Type 0} {values : Values V} where
+  abbrev after_post : ℕ × V → WorldState values → WorldState values
+  after_post p w = with_history w p.0 (write (by HOST p.1 ∷ []) (w.histories p.0))
+
+  posted_more : (ps : List (ℕ × V)) (p : ℕ × V) (w : WorldState values) → after_posts (ps ++ p ∷ []) w
+      ≡ after_post p (after_posts ps w)
+  posted_more [] p w = refl
+  posted_more (q ∷ ps) p w = posted_more ps p (after_post q w)
+
+  replies_more : (ps : List (ℕ × V)) (p : ℕ × V) (w : WorldState values)
+      → post_replies (ps ++ p ∷ []) w ≡ post_replies ps w
+      ++ write_reply (numbers_for ((after_posts ps w).histories p.0) 1) ∷ []
+  replies_more [] p w = refl
+  replies_more (q ∷ ps) p w = rw (replies_more ps p (after_post q w)) refl
 
 pub post-requires : goal.post-requires
 post-requires g c =

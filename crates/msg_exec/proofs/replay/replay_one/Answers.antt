@@ -30,12 +30,12 @@ returns g c = record {
       let lawful = c.requires.lawful s stands is in
       let bt : State g.V.Value.values = before_turns frame.posts s in
       let told = logged_in frame order s _ c.in_ok-posts.posts.items c.from_vec.ensures.items has.posts
-      (c.from_vec-2.ensures.items ∙ c.in_ok-run_turns.ensures.turns bt has.lender
+      (c.from_vec-2.ensures.items ∙ (c.in_ok-run_turns.ensures.turned bt has.lender).turns
       ∙ ap (λ ts. ts ++ (after_turns_of order bt).turns) c.in_ok-turns.ensures.empty) in
       let alike = frames_agree job_footprint frame s c.args.core.now.lender.accesses.items order
       stands.sound.uses stands.sound.no_cycle (accesses_of m stands) lawful in
       frame_ran m has stands.sound
-      (rw alike.0 at (c.in_ok-run_turns.ensures.state bt has.lender))
+      (rw alike.0 at (c.in_ok-run_turns.ensures.turned bt has.lender).state)
       (record {
         lawful = lawful;
         tells = record {

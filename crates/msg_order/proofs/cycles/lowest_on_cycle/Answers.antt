@@ -5,19 +5,14 @@ use Rattle.msg_order.proofs.SetPaths.{all_rules, sets_empty}
 use Rattle.msg_order.proofs.cycles.lowest_on_cycle.Goals as goal
 
 pub follow_rules-requires-clause-none_yet : goal.follow_rules-requires-clause-none_yet
-follow_rules-requires-clause-none_yet c = sets_empty MAX_SYSTEMS c.args.systems c.empty-before.result c.empty-before.ensures
-
-pub returns-clause-lowest : goal.returns-clause-lowest
-returns-clause-lowest c =
-    let all = all_rules MAX_SYSTEMS c.args.systems c.args.rules.now c.requires.few c.requires.in_range in
-    let found = rw all at c.follow_rules.ensures in
-    grind arith
+follow_rules-requires-clause-none_yet c = sets_empty MAX_SYSTEMS c.args.systems c.empty-before.result c.requires.few c.empty-before.ensures
 
 if_none : (g : Graph) (before : List SystemSet) (found : Option ℕ)
     → MatchOption found (IsAcyclic g × ArePaths g before) (IsLowestOnCycle g) → IfNone found (IsAcyclic g)
 if_none g before found h = grind arith
 
-pub returns-clause-acyclic : goal.returns-clause-acyclic
-returns-clause-acyclic c =
+pub returns : goal.returns
+returns c =
     let all = all_rules MAX_SYSTEMS c.args.systems c.args.rules.now c.requires.few c.requires.in_range in
-    rw (← all) (if_none _ c.follow_rules.new.before c.follow_rules.result c.follow_rules.ensures)
+    let found = rw all at c.follow_rules.ensures in
+    record { lowest = grind arith; acyclic = if_none _ c.follow_rules.new.before _ found }

@@ -1,25 +1,15 @@
-use Rattle.std.proofs.Common.{IsTrue, arith, not, rules, sym, ◌∙◌}
-use Rattle.std.proofs.lemmas.Bool.{Decides.nat_tests, and_from, and_parts, cases_Bool}
+use Rattle.std.proofs.Common.{IsTrue, arith, rules, ◌&&◌, ◌≡◌}
+use Rattle.std.proofs.lemmas.Bool.{Decides.nat_tests, and_parts, cases_Bool}
 use Rattle.msg_order.specs.{Prelude.has_joined, inner.SystemSet.has}
+use Rattle.msg_order.proofs.PathTest.{same_test}
 use Rattle.msg_order.proofs.paths.later_conflicts.Goals as goal
 
 pub returns : goal.returns
-returns c j =
-    let later = has c.in_conflict_with-later.result j in
-    let passed = has c.args.passed.now j in
-    let rest = has c.remove_all.new.self j in
-    let before = has c.args.before.now j in
-    let here : IsTrue (has_joined c.args.joined.now c.args.i) = search rules in
-    let told = c.in_conflict_with-later.ensures c.args.accesses.now c.args.joined.now c.requires.users j in (
-      λ t.
-          let both = and_parts rest (not before) (sym (c.remove_all-2.ensures j) ∙ t) in
-          let new = and_parts later (not passed) (sym (c.remove_all.ensures j) ∙ both.0) in
-          let is = told.0 new.0 in (
-            grind (arith, nat_tests, new.1, c.requires.passed j),
-            (record { first_joined = here; second_joined = is.0; conflict = is.1 }, grind (arith, cases_Bool before, both.1)),
-          ),
-      λ e. c.remove_all-2.ensures j ∙ and_from rest (not before)
-          (c.remove_all.ensures j ∙ and_from later (not passed) (told.1 (e.1.0.second_joined, e.1.0.conflict))
-          (grind (arith, nat_tests, e.0, c.requires.passed j)))
-          (grind (arith, cases_Bool before, e.1.1)),
-    )
+returns c conflict tells j =
+    let i = c.args.i in
+    let here : IsTrue (has_joined c.args.joined.now i) = search rules in
+    let told = c.in_conflict_with-later.ensures c.args.accesses.now c.args.joined.now c.requires.users j in
+    let same : has c.in_conflict_with-later.result j ≡ (has_joined c.args.joined.now j && conflict i j) = same_test _ _
+    (λ t. let is = told.0 t in grind (arith, is.0, (tells i j here is.0).1 is.1))
+    (λ t. let both = and_parts (has_joined c.args.joined.now j) (conflict i j) t in told.1 (both.0, (tells i j here both.0).0 both.1)) in
+    grind (arith, nat_tests, cases_Bool, same, here, c.requires.passed j, c.remove_all.ensures j, c.remove_all-2.ensures j)

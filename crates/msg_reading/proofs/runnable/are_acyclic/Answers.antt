@@ -1,15 +1,12 @@
-use Rattle.std.proofs.Common.{◌≡◌, ℕ, Bool, true, false, not, Option, None, Some, is_some, IfNone, IfSome, IsTrue, ◌↔◌, refl, sym}
-use Rattle.std.proofs.lemmas.Bool.{false≢true}
+use Rattle.std.proofs.Common.{arith, ◌≡◌, ℕ, Bool, true, false, not, Option, None, Some, is_some, IfNone, IfSome, IsTrue, ◌↔◌}
 use Rattle.msg_order.specs.Prelude.{Graph, IsAcyclic, IsLowestOnCycle}
 use Rattle.msg_reading.proofs.runnable.are_acyclic.Goals as goal
 
 told : (g : Graph) (found : Option ℕ) (none : Bool) → is_some found ≡ not none → IfSome found (IsLowestOnCycle g)
     → IfNone found (IsAcyclic g) → IsTrue none ↔ IsAcyclic g
-told g None true is lowest acyclic = (λ none. acyclic, λ free. refl)
-told g None false is lowest acyclic = absurd (false≢true is)
-told g (Some s) true is lowest acyclic = absurd (false≢true (sym is))
-told g (Some s) false is lowest acyclic =
-    (λ none. absurd (false≢true none), λ free. absurd (free s lowest.on_cycle))
+told g None none is lowest acyclic = grind arith
+told g (Some s) true is lowest acyclic = cc
+told g (Some s) false is lowest acyclic = (λ none. cc, λ free. absurd (free s lowest.on_cycle))
 
 pub returns : goal.returns
 returns c =

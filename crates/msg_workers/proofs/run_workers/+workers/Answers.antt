@@ -1,13 +1,7 @@
 use Rattle.std.proofs.Common.{ℕ, rules, subst}
 use Rattle.msg_workers.specs.inner.Workers.{HasWorked, HaveWorked}
-use Rattle.msg_workers.proofs.WorkersDraw.{by_next, by_parts}
+use Rattle.msg_workers.proofs.WorkersDraw.{by_parts}
 use Rattle.msg_workers.proofs.run_workers.+workers.Goals as goal
-
-pub work_from-returns-then-is_empty-clause-worked : goal.work_from-returns-then-is_empty-clause-worked
-work_from-returns-then-is_empty-clause-worked g t c = by_next c.work_on-own.ensures.worked c.work_from.ensures.worked
-
-pub work_from-returns-else-is_empty-clause-worked : goal.work_from-returns-else-is_empty-clause-worked
-work_from-returns-else-is_empty-clause-worked g t c = by_next c.work_beside.ensures.own c.work_beside.ensures.others
 
 pub work_beside-returns-clause-own : goal.work_beside-returns-clause-own
 work_beside-returns-clause-own g t c =
@@ -20,4 +14,4 @@ work_beside-returns-clause-others g t c =
     let told : ℕ → g.row.W-Job.Denot → Type 0 =
     λ worker job. g.G.Gate.passed c.args.shared.now.gate.now worker (g.W.Runs.system_of job) in
     subst (HaveWorked c.args.shared.now.board.now told c.args.beginners.next) (search rules)
-    (by_parts {Such = told} c.join_mut-ran.ensures.0.met.1 c.join_mut-ran.ensures.1.met.1.1 (search rules))
+    (by_parts _ told _ _ _ _ c.join_mut-ran.ensures.0.met.1 c.join_mut-ran.ensures.1.met.1.1 (search rules))

@@ -29,17 +29,15 @@ returns-clause-no_cycle g c = rw c.deref-2.ensures.value at c.in_ok-check_build.
 
 pub returns-in_err-accesses-clause-refusal : goal.returns-in_err-accesses-clause-refusal
 returns-in_err-accesses-clause-refusal g c =
-    let none = rw c.deref.ensures.value at c.in_ok-check_build.ensures.no_clash in
-    let free = rw c.deref-2.ensures.value at c.in_ok-check_build.ensures.no_cycle in
     let p = err_from_is_err_and c.from_residual-in_err-accesses.result c.from_residual-in_err-accesses.ensures.1 in
-    rw (p.1, p.2) (none, free)
+    rw (p.1, p.2, ← c.deref.ensures.value, ← c.deref-2.ensures.value)
+    (c.in_ok-check_build.ensures.no_clash, c.in_ok-check_build.ensures.no_cycle)
 
 pub returns-in_err-guarded-clause-refusal : goal.returns-in_err-guarded-clause-refusal
 returns-in_err-guarded-clause-refusal g c =
-    let none = rw c.deref.ensures.value at c.in_ok-check_build.ensures.no_clash in
-    let free = rw c.deref-2.ensures.value at c.in_ok-check_build.ensures.no_cycle in
     let p = err_from_is_err_and c.from_residual-in_err-guarded.result c.from_residual-in_err-guarded.ensures.1 in
-    rw (p.1, p.2) (none, free)
+    rw (p.1, p.2, ← c.deref.ensures.value, ← c.deref-2.ensures.value)
+    (c.in_ok-check_build.ensures.no_clash, c.in_ok-check_build.ensures.no_cycle)
 
 pub join_those-requires : goal.join_those-requires
 join_those-requires g c =

@@ -1,9 +1,8 @@
-use Rattle.std.proofs.Common.{◌≡◌, ◌∷◌, [], refl, sym, ap, ◌∙◌, arith, inl, inr, is_some}
+use Rattle.std.proofs.Common.{◌∷◌, [], refl, ap, arith, inl, inr, is_some}
 use Rattle.std.proofs.lemmas.Bool.{false≢true}
-use Rattle.std.specs.Result.{is_ok}
-use Rattle.msg_exec.proofs.EngineRunsFrames.{is_alive, its_core, still_fit, stood}
+use Rattle.msg_exec.proofs.EngineRunsFrames.{its_core, still_fit, stood}
 use Rattle.msg_frames.proofs.{Functions.run_keeps, ReaderOverRun.runs_are_complete, ReplaysTellTheSame.replays_tell}
-use Rattle.msg_exec.proofs.SinceThen.{since_replay}
+use Rattle.msg_exec.proofs.SinceThen.{since_call}
 use Rattle.msg_exec.proofs.engine.EngineOf.replay_frame.Goals as goal
 
 pub accepts_next-requires : goal.accepts_next-requires
@@ -13,16 +12,15 @@ accepts_next-requires g c = record {
 
 pub replay_one-requires-clause-stands : goal.replay_one-requires-clause-stands
 replay_one-requires-clause-stands g c =
-    its_core g.S.SystemOf.meaning c.args.self.now _ c.in-Some-core.is c.requires.engine
+    its_core g.S.SystemOf.meaning c.args.self.now _ c.in-Some.is c.requires.engine
 
 pub replay_one-requires-clause-lawful : goal.replay_one-requires-clause-lawful
 replay_one-requires-clause-lawful g c s stands is =
-    let same : c.in-Some.core ≡ c.in-Some-core.core = cc (c.in-Some.is, c.in-Some-core.is) in
-    (c.in-Ok.ensures.lawful s (rw same stands) is c.args.frame.now).0 c.if-not-is_lawful.false
+    (c.in-Ok.ensures.lawful s stands is c.args.frame.now).0 c.if-not-is_lawful.false
 
 pub returns-clause-replayed : goal.returns-clause-replayed
 returns-clause-replayed g c s stands =
-    let core = rw c.in-Some-core.is at stands.core in
+    let core = rw c.in-Some.is at stands.core in
     let ran = c.in-Ok-replay_one.ensures.replayed s core stands.frames in
     let frame = c.args.frame.now in
     let replay = ran.holds in
@@ -36,6 +34,11 @@ returns-clause-replayed g c s stands =
           record { core = rw c.count_frame.ensures.core ran.stands; frames = omega (arith, stands.frames, ran.frames) };
     }
 
+pub returns-then-not-is_lawful-clause-engine : goal.returns-then-not-is_lawful-clause-engine
+returns-then-not-is_lawful-clause-engine g c =
+    let (s, (core, frames)) = its_core g.S.SystemOf.meaning c.args.self.now _ c.in-Some.is c.requires.engine in
+    inr (s, record { core = core; frames = frames })
+
 pub returns-clause-engine : goal.returns-clause-engine
 returns-clause-engine g c =
     let was = stood g.S.SystemOf.meaning c.args.self.now (ap is_some c.in-Some.is) c.requires.engine in
@@ -44,26 +47,21 @@ returns-clause-engine g c =
 
 pub returns-then-not-is_lawful-clause-bad_order : goal.returns-then-not-is_lawful-clause-bad_order
 returns-then-not-is_lawful-clause-bad_order g c s stands some =
-    let core = rw c.in-Some.is at stands.core in
-    let tells = c.in-Ok.ensures.lawful s core stands.frames c.args.frame.now in
-    (λ same lawful. false≢true (sym c.if-not-is_lawful.true ∙ tells.1 lawful), λ unlawful. refl)
+    let tells = c.in-Ok.ensures.lawful s (rw c.in-Some.is at stands.core) stands.frames c.args.frame.now in
+    grind (arith, tells, false≢true, c.if-not-is_lawful.true)
 
 pub returns-clause-bad_order : goal.returns-clause-bad_order
 returns-clause-bad_order g c s stands some =
-    let core = rw c.in-Some.is at stands.core in
-    let tells = c.in-Ok.ensures.lawful s core stands.frames c.args.frame.now in (
-      λ same. absurd (false≢true (ap is_ok (sym same))),
-      λ unlawful. absurd (unlawful (tells.0 c.if-not-is_lawful.false)),
-    )
+    let tells = c.in-Ok.ensures.lawful s (rw c.in-Some.is at stands.core) stands.frames c.args.frame.now in
+    grind (arith, tells, c.if-not-is_lawful.false)
 
 pub returns-clause-since : goal.returns-clause-since
-returns-clause-since g c = since_replay g.S.SystemOf.meaning _ _ c.args.frame.now c.args.order.now _ (returns-clause-replayed g c)
+returns-clause-since g c s frames logs =
+    since_call g.S.SystemOf.meaning _ _ (c.args.frame.now ∷ []) logs _ (λ u stands.
+    let ran = returns-clause-replayed g c u stands in (_ ∷ [], refl, (ran.tells, tt), ran.stands)) s frames
 
 pub returns-clause-alive : goal.returns-clause-alive
-returns-clause-alive g c =
-    let m = g.S.SystemOf.meaning in
-    let was = stood m c.args.self.now (ap is_some c.in-Some.is) c.requires.engine in
-    is_alive m _ _ (returns-clause-replayed g c was.0 was.1).stands
+returns-clause-alive g c = grind (arith, c.count_frame.ensures.core)
 
 pub returns-clause-fits : goal.returns-clause-fits
 returns-clause-fits g c =

@@ -1,7 +1,7 @@
-use Rattle.std.proofs.Common.{◌∷◌, [], inr, arith, ap, is_some}
-use Rattle.msg_exec.proofs.EngineRunsFrames.{is_alive, its_core, still_fit, stood}
+use Rattle.std.proofs.Common.{◌∷◌, [], inr, refl, arith, ap, is_some}
+use Rattle.msg_exec.proofs.EngineRunsFrames.{its_core, still_fit, stood}
 use Rattle.msg_frames.proofs.{Functions.run_keeps, ReaderOverRun.runs_are_complete}
-use Rattle.msg_exec.proofs.SinceThen.{since_frame}
+use Rattle.msg_exec.proofs.SinceThen.{each_itself, since_call}
 use Rattle.msg_exec.proofs.engine.EngineOf.run_frame.Goals as goal
 
 pub run_core_frame-requires-clause-stands : goal.run_core_frame-requires-clause-stands
@@ -27,13 +27,12 @@ returns-clause-engine g c =
     inr (_, ran.stands)
 
 pub returns-clause-since : goal.returns-clause-since
-returns-clause-since g c = since_frame g.S.SystemOf.meaning _ _ c.args.frame.now _ (returns-clause-ran g c)
+returns-clause-since g c s frames logs =
+    since_call g.S.SystemOf.meaning _ _ (c.args.frame.now ∷ []) logs _ (λ u stands.
+    let ran = returns-clause-ran g c u stands in (_ ∷ [], refl, rw (← ran.tells) (each_itself (_ ∷ [])), ran.stands)) s frames
 
 pub returns-clause-alive : goal.returns-clause-alive
-returns-clause-alive g c =
-    let m = g.S.SystemOf.meaning in
-    let was = stood m c.args.self.now (ap is_some c.in-Some.is) c.requires.engine in
-    is_alive m _ _ (returns-clause-ran g c was.0 was.1).stands
+returns-clause-alive g c = grind (arith, c.count_frame.ensures.core)
 
 pub returns-clause-fits : goal.returns-clause-fits
 returns-clause-fits g c =

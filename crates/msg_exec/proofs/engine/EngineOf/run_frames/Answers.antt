@@ -1,12 +1,10 @@
-use Rattle.std.proofs.Common.{◌≡◌, ◌++◌, ◌+◌, take, ◌∷◌, [], ◌∙◌, Err, length, append_assoc, refl, arith, rules}
-use Rattle.std.proofs.lemmas.{List.drop-append-le, List.length_push, List.take_all, List.take_more, List.Elements.All-push}
+use Rattle.std.proofs.Common.{◌≡◌, ◌++◌, take, ◌∷◌, [], ◌∙◌, Err, length, refl, arith, rules}
+use Rattle.std.proofs.lemmas.{Grind.common_steps, List.drop-append-le, List.length_push, List.take_all, List.take_more, List.Elements.All-push}
 use Rattle.msg_world.specs.declared.run_fault.RunFault.TheVariants.{NoMemory, Spoiled}
 use Rattle.msg_workers.specs.Prelude.{EachPassedGate}
 use Rattle.msg_frames.specs.Prelude.{turn_order_in}
-use Rattle.msg_frames.specs.Prelude.{run}
-use Rattle.msg_frames.proofs.{Functions.run_append, ReaderOverRun.runs_are_complete}
 use Rattle.msg_exec.proofs.EngineRunsFrames.{is_sound}
-use Rattle.msg_exec.proofs.SinceThen.{since_frames}
+use Rattle.msg_exec.proofs.SinceThen.{each_itself, frames_and_one, frames_none, since_call}
 use Rattle.msg_exec.proofs.engine.EngineOf.run_frames.Given as given
 use Rattle.msg_exec.proofs.engine.EngineOf.run_frames.Goals as goal
 
@@ -21,8 +19,20 @@ unreachable-requires g c =
     let room = c.reserve.ensures.ok in
     grind (arith, kept, room, c.is_err.ensures.value, c.if-is_err.false, c.in_default.is)
 
+pub loop-frame-init : goal.loop-frame-init
+loop-frame-init g c = record {
+  so_far = λ s stands. frames_none g.S.SystemOf.meaning c.args.self.now s _ stands;
+  longer = omega arith;
+  gate_passed = grind (arith, common_steps);
+  engine = c.requires.engine;
+  counted = grind (arith, common_steps);
+  alive = grind (arith, common_steps);
+  fits = λ f fit. fit;
+}
+
 pub loop-frame-preserved : goal.loop-frame-preserved
 loop-frame-preserved g c =
+    let m = g.S.SystemOf.meaning in
     let inv = c.loop-frame.invariant in
     let frames = c.args.frames.now in
     let k = c.loop-frame.frame-index in
@@ -32,16 +42,9 @@ loop-frame-preserved g c =
     let pushed : c.push.new.self.items ≡ before ++ log ∷ [] = search rules in
     record {
       so_far = λ s stands.
-          let far = inv.so_far s stands in
-          let m = (run (take k frames) s).state in
-          let one = c.in_ok-log.ensures.ran m far.stands in
-          let more = take_more frames k frame c.loop-frame-test.true in
-          let is : run (take (k + 1) frames) s ≡ run (take k frames ++ frame ∷ []) s =
-          rw (more, ← c.frame-item.is) refl in
-          record {
-            appended = rw (is, run_append, pushed, far.appended, append_assoc, one.tells) refl;
-            stands = rw (is, run_append) one.stands;
-          };
+          rw (take_more frames k frame c.loop-frame-test.true, ← c.frame-item.is, pushed)
+          (frames_and_one m _ _ s (take k frames) frame _ before log (is_sound m c.args.self.now s stands)
+          (inv.so_far s stands) c.in_ok-log.ensures.ran);
       longer = rw (pushed, length_push) (omega (arith, inv.longer));
       gate_passed = rw (pushed, drop-append-le (length c.args.out.now.items) before (log ∷ []) inv.longer)
           (All-push (λ l. EachPassedGate (g.G.Gate.passed c.args.gate.now) c.args.workers (turn_order_in l)) _ log
@@ -54,17 +57,12 @@ loop-frame-preserved g c =
 
 pub returns-clause-ran : goal.returns-clause-ran
 returns-clause-ran g c s stands =
-    let far = c.loop-frame.invariant.so_far s stands in
-    let frames = c.args.frames.now in
-    let all = take_all c.loop-frame.frame-index frames (omega arith) in
-    record {
-      appended = rw all at far.appended;
-      complete = runs_are_complete frames s (is_sound g.S.SystemOf.meaning c.args.self.now s stands);
-      stands = rw all at far.stands;
-    }
+    rw (take_all c.loop-frame.frame-index c.args.frames.now (omega arith)) at (c.loop-frame.invariant.so_far s stands)
 
 pub returns-clause-since : goal.returns-clause-since
-returns-clause-since g c = since_frames g.S.SystemOf.meaning _ _ c.args.frames.now _ _ (returns-clause-ran g c)
+returns-clause-since g c s before =
+    since_call g.S.SystemOf.meaning _ _ c.args.frames.now _ _ (λ u stands.
+    let ran = returns-clause-ran g c u stands in (_, ran.appended, each_itself _, ran.stands)) s before
 
 pub returns-then-is_err-clause-gate_passed : goal.returns-then-is_err-clause-gate_passed
 returns-then-is_err-clause-gate_passed g c = rw c.reserve.ensures.items c.loop-frame.invariant.gate_passed

@@ -1,15 +1,14 @@
-use Rattle.std.proofs.Common.{◌≡◌, ◌≤◌, ◌+◌, ◌-◌, ◌^◌, length, drop, min, All}
-use Rattle.msg_exec.specs.Prelude.{EngineStands, IsEngine, IsSpoiled, PostsFit, frame_number}
+use Rattle.std.proofs.Common.{◌≡◌, ◌≤◌, ◌+◌, ◌-◌, ◌^◌, length, drop, take, min, All}
+use Rattle.msg_exec.specs.Prelude.{EngineStands, HasRunFrames, IsEngine, IsSpoiled, PostsFit, frame_number}
 use Rattle.msg_workers.specs.Prelude.{EachPassedGate}
 use Rattle.msg_frames.specs.Prelude.{State, turn_order_in}
 use Rattle.msg_frames.specs.declared.frame.Frame.{Frame}
-use Rattle.msg_exec.proofs.EngineRunsFrames.{RunSoFar}
 use Rattle.msg_exec.proofs.engine.EngineOf.run_frames.Given as goal
 
 abbrev pub invariant-loop-frame : goal.invariant-loop-frame
 invariant-loop-frame g l = record {
   so_far : (s : State g.V.Value.values) → EngineStands g.S.SystemOf.meaning l.initial.self s
-      → RunSoFar g.S.SystemOf.meaning l.frames l.frame-index s l.initial.out.items l.out.items l.self;
+      → HasRunFrames g.S.SystemOf.meaning (take l.frame-index l.frames) s l.initial.out.items l.out.items l.self;
   longer : length l.initial.out.items ≤ length l.out.items;
   gate_passed : All (λ log. EachPassedGate (g.G.Gate.passed l.gate) l.workers (turn_order_in log))
       (drop (length l.initial.out.items) l.out.items);

@@ -1,12 +1,27 @@
-use Rattle.std.proofs.Common.{◌≡◌, List, [], ◌∷◌, ◌++◌, ◌∙◌, Err, None, append-nil, append_assoc, arith, inl, inr, refl, rules}
+use Rattle.std.proofs.Common.{◌≡◌, List, Option, Some, [], ◌∷◌, ◌++◌, Err, None, append-nil, append_assoc, arith, inl, inr, refl, rules}
 use Rattle.std.proofs.lemmas.List.{length_push}
 use Rattle.msg_frames.specs.{declared.frame.Frame.Frame, declared.log.Log.Log}
-use Rattle.msg_frames.specs.Prelude.{State}
 use Rattle.msg_world.specs.declared.run_fault.RunFault.TheVariants.{NoMemory}
-use Rattle.msg_exec.specs.Prelude.{EngineStands, HasRunSince, PostsFit, frame_number}
-use Rattle.msg_exec.proofs.{EngineRunsFrames.is_sound, HostsGive.given_more, HostsGive.last_of_more, SinceThen.frames_and_one, SinceThen.frames_none}
+use Rattle.msg_exec.specs.Prelude.{PostsFit}
+use Rattle.msg_exec.specs.Hosts.{HasGiven, last_log}
+use Rattle.msg_exec.proofs.{EngineRunsFrames.is_sound, SinceThen.frames_and_one, SinceThen.frames_none}
 use Rattle.msg_exec.proofs.engine.EngineOf.run_loop.Goals as goal
-use Rattle.msg_exec.proofs.engine.EngineOf.run_loop.Goals.{in-Some-take, in_default-take}
+
+module _ {V : Type 0} where
+  last_of_more : (log : Option (Log V)) (logs : List (Log V)) (next : Log V) → last_log log (logs ++ next ∷ []) ≡ Some next
+  last_of_more log [] next = refl
+  last_of_more log (l ∷ logs) next = last_of_more (Some l) logs next
+
+-- a host gives one frame more
+module _ {V H : Type 0} (gives : H → Option (Log V) → Option (Frame V) → H → Type 0) where
+  given_more : (log : Option (Log V)) (host : H) (frames : List (Frame V)) (logs : List (Log V)) (now : H) (f : Frame V)
+      (next : Log V) (then : H) → HasGiven gives log host frames logs now → gives now (last_log log logs) (Some f) then
+      → HasGiven gives log host (frames ++ f ∷ []) (logs ++ next ∷ []) then
+  given_more log host [] [] now f next then given gave = (then, rw given at gave, refl)
+  given_more log host [] (l ∷ logs) now f next then given gave = absurd given
+  given_more log host (x ∷ frames) [] now f next then given gave = absurd given
+  given_more log host (x ∷ frames) (l ∷ logs) now f next then given gave =
+      (given.0, given.1, given_more (Some l) given.0 frames logs now f next then given.2 gave)
 
 pub loop-init : goal.loop-init
 loop-init g c = record {
@@ -48,10 +63,7 @@ returns-then-not-fits-clause-misfit g c same =
     }
 
 pub run_frame-requires-clause-engine : goal.run_frame-requires-clause-engine
-run_frame-requires-clause-engine g c κs within = elim c.match-take.branch [
-  | in-Some-take w ↦ rw w.self-is (w.recycle.ensures.engine c.loop.invariant.engine)
-  | in_default-take w ↦ rw w.self-is c.loop.invariant.engine
-]
+run_frame-requires-clause-engine g c κs within = rw c.keep.ensures.same c.loop.invariant.engine
 
 pub loop-preserved : goal.loop-preserved
 loop-preserved g c =
@@ -60,17 +72,7 @@ loop-preserved g c =
     let frame : Frame g.row.V.Denot = c.in-Some.frame in
     let log : Log g.row.V.Denot = c.in_ok-run_frame.field-0 in
     let gave = rw (c.as_ref.ensures.value, far.1.0, c.in-Some.is) at c.in_ok-frame.ensures.gives in
-    let kept : (s : State g.V.Value.values) (before : List (Frame g.row.V.Denot)) (earlier : List (Log g.row.V.Denot)) → HasRunSince m s before earlier c.loop.self
-    → HasRunSince m s before earlier c.match-take.self =
-    elim c.match-take.branch [
-      | in-Some-take w ↦ λ s before earlier h. rw w.self-is (w.recycle.ensures.since s before earlier h)
-      | in_default-take w ↦ λ s before earlier h. rw w.self-is h
-    ] in
-    let same : (u : State g.V.Value.values) → EngineStands m c.loop.self u → EngineStands m c.match-take.self u =
-    elim c.match-take.branch [
-      | in-Some-take w ↦ λ u h. rw w.self-is (w.recycle.ensures.meaning u h)
-      | in_default-take w ↦ λ u h. rw w.self-is h
-    ] in
+    let ran = rw c.keep.ensures.same at c.in_ok-run_frame.ensures in
     record {
       so_far = (
         record {
@@ -79,11 +81,10 @@ loop-preserved g c =
           few = rw length_push (omega (arith, far.1.1, c.loop-test.true));
           given = given_more g.H.Host.gives None _ far.0.frames far.0.logs _ frame log _ far.0.given gave;
           ran = λ s stands.
-              frames_and_one m _ _ s far.0.frames frame [] far.0.logs log (is_sound m c.args.self.now s stands) (far.0.ran s stands)
-              (λ u h. c.in_ok-run_frame.ensures.ran u (same u h));
+              frames_and_one m _ _ s far.0.frames frame [] far.0.logs log (is_sound m c.args.self.now s stands)
+              (far.0.ran s stands) ran.ran;
           since = λ s before earlier h.
-              rw (← append_assoc, ← append_assoc)
-              (c.in_ok-run_frame.ensures.since s _ _ (kept s _ _ (far.0.since s before earlier h)));
+              rw (← append_assoc, ← append_assoc) (ran.since s _ _ (far.0.since s before earlier h));
         },
         (rw last_of_more refl, rw length_push (omega (arith, far.1.1))),
       );
@@ -108,22 +109,13 @@ returns-in_err-frame-clause-host g c same =
 
 pub run_frame-requires-clause-posts : goal.run_frame-requires-clause-posts
 run_frame-requires-clause-posts g c κs within =
-    let fit : PostsFit c.loop.self c.in-Some.frame = search rules in
-    elim c.match-take.branch [
-      | in-Some-take w ↦ rw w.self-is (w.recycle.ensures.fits c.in-Some.frame fit)
-      | in_default-take w ↦ rw w.self-is fit
-    ]
+    let fit : PostsFit c.loop.self c.in-Some.frame = search rules in rw c.keep.ensures.same fit
 
 pub returns-in_err-run_frame-clause-no_memory : goal.returns-in_err-run_frame-clause-no_memory
 returns-in_err-run_frame-clause-no_memory g c same =
     let far = c.loop.invariant.so_far in
     let failed : c.run_frame.result ≡ Err NoMemory =
     grind (arith, same, c.from_residual-in_err-run_frame.ensures, c.in_err-run_frame.was) in
-    let kept : frame_number c.match-take.self ≡ frame_number c.loop.self =
-    elim c.match-take.branch [
-      | in-Some-take w ↦ rw w.self-is w.recycle.ensures.counted
-      | in_default-take w ↦ rw w.self-is refl
-    ] in
     record {
       last = c.loop.self;
       now = c.loop.host;
@@ -132,6 +124,6 @@ returns-in_err-run_frame-clause-no_memory g c same =
       frame = c.in-Some.frame;
       given = rw (c.as_ref.ensures.value, far.1.0, c.in-Some.is) at c.in_ok-frame.ensures.gives;
       fits = search rules;
-      counted = c.run_frame.ensures.not_counted failed ∙ kept;
+      counted = rw c.keep.ensures.same at (c.run_frame.ensures.not_counted failed);
       spoiled = c.run_frame.ensures.no_memory failed;
     }

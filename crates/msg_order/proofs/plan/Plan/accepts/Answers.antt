@@ -3,12 +3,13 @@ use Rattle.std.proofs.lemmas.{Bool.false_from_ne_true, Bool.false≢true, List.g
 use Rattle.msg_order.specs.{inner.Paths.set_at, inner.SystemSet.has, inner.SystemSet.no_set}
 use Rattle.msg_order.proofs.SystemSets.{meets-found, meets-true}
 use Rattle.msg_order.proofs.PlanViews.{seen_edges, seen_joined, settled_lawful}
-use Rattle.msg_order.proofs.AcceptedOrders.{goes_on, not_all, taken_all, taken_first, taken_next}
+use Rattle.msg_order.proofs.AcceptedOrders.{goes_on, taken_all, taken_next}
+use Rattle.msg_order.proofs.TurnOrders.{place_of}
 use Rattle.msg_order.proofs.plan.Plan.accepts.Goals.{then-system-len-via-then-system-len, then-system-len-via-else-system-len+then-not-contains, then-system-len-via-else-system-len+else-not-contains+then-meets}
 use Rattle.msg_order.proofs.plan.Plan.accepts.Goals as goal
 
 pub loop-system-init : goal.loop-system-init
-loop-system-init _g c = taken_first _ _ _ _ (seen_joined _ _ _ _ c.self.view_is c.self.invariant)
+loop-system-init _g c = let joined = seen_joined _ _ _ _ c.self.view_is c.self.invariant in grind (arith, joined)
 
 pub loop-system-preserved : goal.loop-system-preserved
 loop-system-preserved _g c =
@@ -59,7 +60,8 @@ returns-clause-keeps_what_precedes _g c =
       λ t. taken_all _ _ left _
           (λ i j e. grind (arith, edges i j, joined i, joined j, c.self.invariant.among i j))
           taken (c.is_empty.ensures.0 t),
-      λ w. c.is_empty.ensures.1 (λ i. false_from_ne_true (left i) (λ on. not_all _ _ left _ i on taken w)),
+      λ w. c.is_empty.ensures.1 (λ i. false_from_ne_true (left i) (λ on.
+          grind (arith, on, taken.is_left i, w.of_joined i, place_of c.args.order.now i))),
     )
 
 pub returns-clause-lawful : goal.returns-clause-lawful
