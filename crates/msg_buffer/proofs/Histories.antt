@@ -1,7 +1,7 @@
 -- How histories grow and age.
-use Rattle.std.proofs.Common.{◌≡◌, ℕ, suc, ◌+◌, ◌≤◌, ◌<◌, Bool, true, false, List, [], ◌∷◌, ◌++◌, length, map, filter, drop, refl, ap, arith, not}
+use Rattle.std.proofs.Common.{◌≡◌, ℕ, ◌+◌, ◌≤◌, Bool, true, List, [], ◌∷◌, ◌++◌, length, map, filter, drop, refl, arith, inl, inr, not}
 use Rattle.std.specs.List.{enumerate_from}
-use Rattle.std.proofs.lemmas.Bool.Decides.{nat_tests}
+use Rattle.std.proofs.lemmas.{Bool.cases_Bool, Bool.Decides.nat_tests, List.length-map}
 use Rattle.msg_buffer.specs.Prelude.{Entry, HasRisingStamps, History, Instance, instance_of, is_current, is_present, numbered, stamped, update}
 
 module _ {M : Type 0} where
@@ -23,11 +23,6 @@ module _ {M : Type 0} where
   kept-append test n [] fs = grind arith
   kept-append test n (e ∷ es) fs = grind (arith, kept-append test (n + 1) es fs)
 
-  -- two tests that agree on the first entry and keep the same of the rest
-  kept_alike : (s t : ℕ × Entry M → Bool) (n : ℕ) (e : Entry M) (es : List (Entry M)) → s (n, e) ≡ t (n, e)
-      → kept s (n + 1) es ≡ kept t (n + 1) es → kept s n (e ∷ es) ≡ kept t n (e ∷ es)
-  kept_alike s t n e es same rest = grind arith
-
   -- ---- stamps
 
   pub stamps_below : (low high : ℕ) (es : List (Entry M)) → HasRisingStamps low es high → low ≤ high
@@ -39,38 +34,25 @@ module _ {M : Type 0} where
   stamps_later low high later [] le rise = omega arith
   stamps_later low high later (e ∷ es) le rise = (rise.0, stamps_later e.stamp high later es le rise.1)
 
-  pub stamps-stamped : (u : ℕ) (ms : List M) → HasRisingStamps u (stamped u ms) u
-  stamps-stamped u [] = omega arith
-  stamps-stamped u (m ∷ ms) = (omega arith, stamps-stamped u ms)
+  stamps-stamped : (low u : ℕ) (ms : List M) → low ≤ u → HasRisingStamps low (stamped u ms) u
+  stamps-stamped low u [] le = le
+  stamps-stamped low u (m ∷ ms) le = (le, stamps-stamped u u ms (omega arith))
 
   pub stamps-append : (low u : ℕ) (es : List (Entry M)) (ms : List M) → HasRisingStamps low es u
       → HasRisingStamps low (es ++ stamped u ms) u
-  stamps-append low u [] [] rise = rise
-  stamps-append low u [] (m ∷ ms) rise = (rise, stamps-stamped u ms)
+  stamps-append low u [] ms rise = stamps-stamped low u ms rise
   stamps-append low u (e ∷ es) ms rise = (rise.0, stamps-append e.stamp u es ms rise.1)
-
-  pub length-stamped : (u : ℕ) (ms : List M) → length (stamped u ms) ≡ length ms
-  length-stamped u [] = refl
-  length-stamped u (m ∷ ms) = ap suc (length-stamped u ms)
 
   -- ---- an update
 
-  -- an entry that was current is present after one more update, and no other is
-  present_after_update : (h : History M) (n : ℕ) (e : Entry M) → e.stamp ≤ h.updates → is_present (update h) (n, e)
-      ≡ is_current h (n, e)
-  present_after_update h n e le = grind (arith, nat_tests)
-
-  pub kept_after_update : (h : History M) (n low : ℕ) (es : List (Entry M)) → HasRisingStamps low es h.updates
-      → kept (is_present (update h)) n es ≡ kept (is_current h) n es
-  kept_after_update h n low [] rise = refl
-  kept_after_update h n low (e ∷ es) rise =
-      grind (arith, kept_alike, present_after_update, stamps_below, kept_after_update h (n + 1) e.stamp es rise.1)
-
-  pub none_current_after_update : (h : History M) (n low : ℕ) (es : List (Entry M)) → HasRisingStamps low es h.updates
-      → kept (is_current (update h)) n es ≡ []
-  none_current_after_update h n low [] rise = refl
-  none_current_after_update h n low (e ∷ es) rise =
-      grind (arith, nat_tests, stamps_below, none_current_after_update h (n + 1) e.stamp es rise.1)
+  -- what was current is present after one more update, and nothing is current
+  pub aged : (h : History M) (n low : ℕ) (es : List (Entry M)) → HasRisingStamps low es h.updates
+      → (kept (is_present (update h)) n es ≡ kept (is_current h) n es) × (kept (is_current (update h)) n es ≡ [])
+  aged h n low [] rise = (refl, refl)
+  aged h n low (e ∷ es) rise =
+      let le = stamps_below e.stamp h.updates es rise.1 in
+      let same : is_present (update h) (n, e) ≡ is_current h (n, e) = grind (arith, nat_tests) in
+      grind (arith, nat_tests, same, aged h (n + 1) e.stamp es rise.1)
 
   -- ---- a write
 
@@ -86,49 +68,32 @@ module _ {M : Type 0} where
   current-stamped h n u [] above now = refl
   current-stamped h n u (m ∷ ms) above now = grind (arith, nat_tests, current-stamped h (n + 1) u ms (omega arith) now)
 
-  pub not_current-stamped : (h : History M) (n u : ℕ) (ms : List M) → u < h.updates
-      → kept (is_current h) n (stamped u ms) ≡ []
-  not_current-stamped h n u [] old = refl
-  not_current-stamped h n u (m ∷ ms) old = grind (arith, nat_tests, not_current-stamped h (n + 1) u ms old)
-
   -- ---- a clear
 
-  pub none_present_below : (h : History M) (n : ℕ) (es : List (Entry M)) → n + length es ≤ h.floor
-      → kept (is_present h) n es ≡ []
-  none_present_below h n [] le = refl
-  none_present_below h n (e ∷ es) le = grind (arith, nat_tests, none_present_below h (n + 1) es (omega arith))
-
-  pub none_current_below : (h : History M) (n : ℕ) (es : List (Entry M)) → n + length es ≤ h.floor
-      → kept (is_current h) n es ≡ []
-  none_current_below h n [] le = refl
-  none_current_below h n (e ∷ es) le = grind (arith, nat_tests, none_current_below h (n + 1) es (omega arith))
+  pub none_below : (h : History M) (n : ℕ) (es : List (Entry M)) → n + length es ≤ h.floor
+      → (kept (is_present h) n es ≡ []) × (kept (is_current h) n es ≡ [])
+  none_below h n [] le = (refl, refl)
+  none_below h n (e ∷ es) le = grind (arith, nat_tests, none_below h (n + 1) es (omega arith))
 
   -- ---- what isn't present is a prefix
 
-  pub all_present : (h : History M) (n low : ℕ) (es : List (Entry M)) → h.floor ≤ n → h.updates ≤ low + 1
-      → HasRisingStamps low es h.updates
-      → (kept (is_present h) n es ≡ map instance_of (enumerate_from n es)) × (dropped (is_present h) n es ≡ 0)
-  all_present h n low [] above young rise = (refl, refl)
-  all_present h n low (e ∷ es) above young rise =
-      grind (arith, nat_tests, all_present h (n + 1) e.stamp es (omega arith) (omega arith) rise.1)
-
-  pub present_means : (h : History M) (n : ℕ) (e : Entry M) → is_present h (n, e) ≡ true → (h.floor ≤ n)
-      × (h.updates ≤ e.stamp + 1)
-  present_means h n e is = (grind (arith, nat_tests), grind (arith, nat_tests))
-
-  suffix_step : (h : History M) (n : ℕ) (e : Entry M) (es : List (Entry M)) (b : Bool)
-      → HasRisingStamps e.stamp es h.updates → is_present h (n, e) ≡ b
-      → drop (dropped (is_present h) (n + 1) es) (map instance_of (enumerate_from (n + 1) es))
-      ≡ kept (is_present h) (n + 1) es
-      → drop (dropped (is_present h) n (e ∷ es)) (map instance_of (enumerate_from n (e ∷ es)))
-      ≡ kept (is_present h) n (e ∷ es)
-  suffix_step h n e es true rise is later = grind (arith, all_present, present_means)
-  suffix_step h n e es false rise is later = rw is later
+  -- from a present entry on all are present
+  pub all_present : (h : History M) (n : ℕ) (e : Entry M) (es : List (Entry M)) → is_present h (n, e) ≡ true
+      → HasRisingStamps e.stamp es h.updates
+      → (kept (is_present h) n (e ∷ es) ≡ map instance_of (enumerate_from n (e ∷ es)))
+      × (dropped (is_present h) n (e ∷ es) ≡ 0)
+  all_present h n e [] is rise = (rw is refl, rw is refl)
+  all_present h n e (d ∷ es) is rise =
+      let next : is_present h (n + 1, d) ≡ true = grind (arith, nat_tests) in
+      grind (arith, all_present h (n + 1) d es next rise.1)
 
   pub present_is_suffix : (h : History M) (n low : ℕ) (es : List (Entry M)) → HasRisingStamps low es h.updates
       → drop (dropped (is_present h) n es) (map instance_of (enumerate_from n es)) ≡ kept (is_present h) n es
   present_is_suffix h n low [] rise = refl
-  present_is_suffix h n low (e ∷ es) rise = grind (arith, suffix_step, present_is_suffix h (n + 1) e.stamp es rise.1)
+  present_is_suffix h n low (e ∷ es) rise = elim (cases_Bool (is_present h (n, e))) [
+    | inl is ↦ let all = all_present h n e es is rise.1 in rw (all.1, all.0) refl
+    | inr isnt ↦ rw isnt (present_is_suffix h (n + 1) e.stamp es rise.1)
+  ]
 
 -- what was written at once, behind what was there
-pub ruleset of_stamped = (kept-append, length-stamped, stamps-append, present-stamped, current-stamped)
+pub ruleset of_stamped = (kept-append, length-map, stamps-append, present-stamped, current-stamped)

@@ -1,28 +1,21 @@
 -- Which entries are present: those from the oldest on.
-use Rattle.std.proofs.Common.{◌≡◌, ℕ, zero, suc, ◌+◌, ◌<◌, ◌≤◌, true, List, [], ◌∷◌, map, drop, refl, sym, ◌∙◌, arith, inl, inr, Option, Some, slice_get, option_map, nat_le}
+use Rattle.std.proofs.Common.{◌≡◌, ℕ, zero, suc, ◌+◌, ◌<◌, ◌≤◌, List, [], ◌∷◌, map, drop, refl, sym, ◌∙◌, arith, inl, inr, Option, Some, slice_get, option_map, nat_le}
 use Rattle.std.specs.List.{enumerate_from}
 use Rattle.std.proofs.lemmas.{Bool.cases_Bool, Bool.Decides.nat_tests, Option.slice_get_cases, Option.same_Some}
 use Rattle.msg_buffer.specs.Prelude.{Entry, HasRisingStamps, History, IsPresent, IsSound, Kept, StandsFor, count, get, get_from, instance_of, instances, is_present, kept_instances, message_of, oldest}
-use Rattle.msg_buffer.proofs.{Histories.all_present, Histories.dropped, Histories.present_is_suffix, Histories.present_means, Numbers.slice_get-drop}
+use Rattle.msg_buffer.proofs.{Histories.all_present, Histories.dropped, Histories.present_is_suffix, Numbers.slice_get-drop}
 
 module _ {M : Type 0} where
-  none_dropped : (h : History M) (n : ℕ) (e : Entry M) (es : List (Entry M)) → is_present h (n, e) ≡ true
-      → HasRisingStamps e.stamp es h.updates
-      → dropped (is_present h) n (e ∷ es) ≡ 0
-  none_dropped h n e es is rise =
-      let means = present_means h n e is in
-      rw is (all_present h (n + 1) e.stamp es (omega (arith, means.0)) means.1 rise).1
-
   -- entry k of them is present if no more than k are dropped
   present_at : (h : History M) (n low : ℕ) (es : List (Entry M)) (k : ℕ) (e : Entry M)
       → HasRisingStamps low es h.updates
       → slice_get es k ≡ Some e → is_present h (n + k, e) ≡ nat_le (dropped (is_present h) n es) k
   present_at h n low [] k e rise at = absurd (cc)
-  present_at h n low (d ∷ es) zero e rise at = grind (arith, cases_Bool, none_dropped, same_Some)
+  present_at h n low (d ∷ es) zero e rise at = grind (arith, cases_Bool, all_present h n d es, rise.1, same_Some)
   present_at h n low (d ∷ es) (suc k) e rise at =
       let same : n + suc k ≡ n + 1 + k = omega arith in
       let rest = present_at h (n + 1) d.stamp es k e rise.1 at in
-      rw same (grind (arith, cases_Bool (is_present h (n, d)), none_dropped h n d es, rise.1, rest))
+      rw same (grind (arith, cases_Bool (is_present h (n, d)), all_present h n d es, rise.1, rest))
 
   pub present_from_oldest : (h : History M) (k : ℕ) (e : Entry M) → IsSound h → slice_get h.entries k ≡ Some e
       → is_present h (k, e) ≡ nat_le (oldest h) k

@@ -1,5 +1,5 @@
 -- What is unread, in what a buffer keeps and in the history that it stands for.
-use Rattle.std.proofs.Common.{◌≡◌, ℕ, ◌+◌, ◌-◌, ◌≤◌, max, List, [], ◌∷◌, length, drop, arith, Some, None}
+use Rattle.std.proofs.Common.{◌≡◌, ℕ, ◌+◌, ◌-◌, ◌≤◌, max, List, [], ◌∷◌, length, length-append, drop, arith, Some, None}
 use Rattle.std.proofs.lemmas.{Option.slice_get_within, Option.slice_get_cases, Option.get_or_from_slice_get, Option.none-some, List.drop_more, List.drop_all, List.drop-drop, List.length-drop, Bool.Decides.nat_tests}
 use Rattle.msg_buffer.specs.Prelude.{History, Kept, StandsFor, count, first, get_from, instances, kept_instances, oldest, unread}
 use Rattle.msg_buffer.proofs.{Presence.kept_stands, Numbers.length-instances}
@@ -22,3 +22,6 @@ module _ {M : Type 0} where
 
   pub length-unread : (h : History M) (place : ℕ) → length (unread h place) ≡ count h - first h place
   length-unread h place = rw (length-drop, length-instances)
+
+-- what a cursor's length and the calls of an iterator are proved by
+pub ruleset of_reads = (length-unread, rest_more, rest_ends, drop_all, length-append, length-drop)

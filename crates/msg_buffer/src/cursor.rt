@@ -42,13 +42,6 @@ impl MessageCursor {
         MessageCursor { place }
     }
 
-    pub(crate) fn go_past_one(&mut self)
-        requires { self.old + 1 < 2 ^ 64 }
-        ensures place { self.new ≡ self.old + 1 }
-    {
-        self.place += 1;
-    }
-
     /// The number of the first message that it wasn't given yet.
     pub fn place(&self) -> u64
         ensures place { result ≡ self.now }
@@ -57,6 +50,7 @@ impl MessageCursor {
     }
 
     /// How many messages are unread and still kept.
+    #[tactic(auto, using(crate::proofs::Unread::of_reads))]
     pub fn len<M, A: Allocator>(&self, messages: &Messages<M, A>) -> u64
         ensures meaning { (h : History M) → StandsFor messages.now h
             → result ≡ length (unread h self.now) }

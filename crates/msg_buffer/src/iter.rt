@@ -1,4 +1,6 @@
 // The unread messages of one read.
+#![tactic(auto, using(crate::proofs::Unread::of_reads))]
+
 ghost use Rattle.std.specs.Prelude.{◌≤◌};
 
 use crate::cursor::MessageCursor;
@@ -32,7 +34,8 @@ impl<'a, M, A: Allocator> Iterator for MessageIter<'a, M, A> {
             return None;
         }
         let instance = messages.find(place)?;
-        self.cursor.go_past_one();
+        let cursor = &mut *self.cursor;
+        cursor.place += 1;
         Some((instance.id, &instance.message))
     }
 }

@@ -1,7 +1,7 @@
 -- Bits of masks, as tests.
-use Rattle.std.proofs.Common.{◌≡◌, ◌≢◌, ℕ, zero, suc, ◌+◌, ◌*◌, ◌-◌, ◌/◌, ◌^◌, ◌%◌, ◌<◌, ◌≤◌, false, not, ◌&&◌, ◌||◌, inl, inr, ap, sym, ◌∙◌, arith, w64, ◌==◌, ◌↔◌, IsTrue, bit_and, bit_or}
+use Rattle.std.proofs.Common.{◌≡◌, ◌≢◌, ℕ, zero, suc, ◌+◌, ◌*◌, ◌-◌, ◌/◌, ◌^◌, ◌%◌, ◌<◌, ◌≤◌, false, not, ◌&&◌, ◌||◌, ◌⊎◌, inl, inr, ap, sym, ◌∙◌, arith, w64, ◌==◌, ◌↔◌, IsTrue, bit_and, bit_or}
 use Rattle.std.proofs.{Math.Nat.div-le_self, lemmas.Nat.shr-shr}
-use Rattle.std.proofs.lemmas.Bool.{cases_lt, cases_eq, eqb-true, eq-eqb, eqb-false, not-true, false≢true}
+use Rattle.std.proofs.lemmas.Bool.{cases_lt, cases_eq, or_cases, eqb-true, eq-eqb, eqb-false, not-true, false≢true}
 use Rattle.std.proofs.lemmas.Bool.Decides.{eqb_tells, nat_tests}
 use Rattle.std.proofs.lemmas.Nat.Bits.{bit_at_lowest, bit_at-suc, bit_at_and, bit_at_or, bit_at_not, bit_at_above, bit_at-zero, bit_at-lt, bit_at_set_same, bit_at_set_other, bit_at_clear_same, bit_at_clear_other, bit_at-trailing_zeros}
 use lib.Bits.{and_le_l}
@@ -41,10 +41,8 @@ has_bit-unset mask k j h l =
 -- the same of a mask of 64 bits
 pub has_bit-without : (mask k j : ℕ) → mask < 2 ^ 64 → k < 64
     → has_bit (bit_and mask (bit_not w64 (1 * 2 ^ k % 2 ^ 64))) j ≡ (not (j == k) && has_bit mask j)
-has_bit-without mask k j fits h = elim (cases_lt j 64) [
-  | inl lt ↦ has_bit-unset mask k j h lt
-  | inr le ↦ grind (arith, has_bit-and mask (bit_not w64 (1 * 2 ^ k % 2 ^ 64)) j, has_bit-above mask j fits le)
-]
+has_bit-without mask k j fits h =
+    grind (arith, cases_lt j 64, has_bit-unset mask k j h, has_bit-and, has_bit-above mask j fits)
 
 -- it is less if the bit was set
 pub less-without : (mask k : ℕ) → k < 64 → IsTrue (has_bit mask k)
@@ -52,10 +50,7 @@ pub less-without : (mask k : ℕ) → k < 64 → IsTrue (has_bit mask k)
 less-without mask k h set =
     let cleared = bit_at_clear_same w64 mask k h in
     let no_more = and_le_l mask (bit_not w64 (1 * 2 ^ k % 2 ^ 64)) in
-    elim (cases_eq (bit_and mask (bit_not w64 (1 * 2 ^ k % 2 ^ 64))) mask) [
-      | inl same ↦ grind (arith, nat_tests, cleared, same, set)
-      | inr other ↦ omega (arith, no_more, other)
-    ]
+    grind (arith, nat_tests, cleared, no_more, set)
 
 -- the lowest bit of a mask that isn't 0
 pub lowest_is_set : (n : ℕ) → n < 2 ^ 64 → n ≢ 0 → IsTrue (has_bit n (trailing_zeros w64 n))
@@ -83,13 +78,34 @@ some_bit_of (suc fuel) n h ne = elim (cases_eq (n % 2) 1) [
       (suc r.0, ap (λ b. b == 1) (bit_at-suc n r.0) ∙ r.1)
 ]
 
+-- the test `n != 0`
+has_some : (n : ℕ) → IsTrue (not (n == 0)) ↔ ((k : ℕ) × IsTrue (has_bit n k))
+has_some n = (
+  λ t. some_bit_of n _ (omega arith) (eqb-false n 0 (not-true (n == 0) t)),
+  λ s. grind (arith, eqb_tells, has_bit-zero s.0, s.1),
+)
+
 -- the test `a & b != 0`
 pub share_bit-and : (a b : ℕ) → IsTrue (not (bit_and a b == 0)) ↔ ShareBit a b
 share_bit-and a b = (
+  λ t. let bit = (has_some (bit_and a b)).0 t in (bit.0, sym (has_bit-and a b bit.0) ∙ bit.1),
+  λ s. (has_some (bit_and a b)).1 (s.0, has_bit-and a b s.0 ∙ s.1),
+)
+
+-- the test `a | b != 0`
+pub has_some-or : (a b : ℕ) → IsTrue (not (bit_or a b == 0))
+    ↔ (((k : ℕ) × IsTrue (has_bit a k)) ⊎ ((k : ℕ) × IsTrue (has_bit b k)))
+has_some-or a b = (
   λ t.
-      let bit = some_bit_of (bit_and a b) _ (omega arith) (eqb-false (bit_and a b) 0 (not-true (bit_and a b == 0) t)) in
-      (bit.0, sym (has_bit-and a b bit.0) ∙ bit.1),
-  λ s. grind (arith, eqb_tells, has_bit-zero s.0, has_bit-and a b s.0, s.1),
+      let bit = (has_some (bit_or a b)).0 t in
+      elim (or_cases (has_bit a bit.0) (has_bit b bit.0) (sym (has_bit-or a b bit.0) ∙ bit.1)) [
+        | inl is ↦ inl (bit.0, is)
+        | inr is ↦ inr (bit.0, is)
+      ],
+  elim [
+    | inl s ↦ (has_some (bit_or a b)).1 (s.0, grind (arith, has_bit-or a b s.0, s.1))
+    | inr s ↦ (has_some (bit_or a b)).1 (s.0, grind (arith, has_bit-or a b s.0, s.1))
+  ],
 )
 
 -- bit k of a mask that was shifted
@@ -123,4 +139,16 @@ shr-is_below mask n fits = (
 )
 
 -- what the functions of masks are proved by
-pub ruleset of_masks = (has_bit-or, has_bit-set, has_bit-clear, has_bit-above, share_bit-and, shr-is_below)
+pub ruleset of_masks = (
+  has_bit-or,
+  has_bit-set,
+  has_bit-clear,
+  has_bit-above,
+  has_bit-without,
+  has_some-or,
+  less-without,
+  lowest_is_set,
+  none_below_lowest,
+  share_bit-and,
+  shr-is_below,
+)

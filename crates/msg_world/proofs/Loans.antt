@@ -1,14 +1,8 @@
 -- What loans stand for.
 use Rattle.std.proofs.Common.{arith, ◌≡◌, true, false, refl, inr, Some, None, IsSome, IsTrue, option_map, if◌then◌else◌}
 use Rattle.std.proofs.{Math.ListN.length-set, lemmas.Bool.false_from_ne_true, lemmas.Bool.cases_Bool, lemmas.Bool.false≢true, lemmas.Bool.Decides.eqb_tells, lemmas.Option.none-some}
-use Rattle.msg_world.specs.Prelude.{Access, HomeMerges, Lent, LoanEnds, LoanStands, LoanStays, OfResource, OfType, Part, Parts, Registry, SameShape, Values, ValuesStand, WorldState, WritesStand, after_signal, content, merge, signalled_marks, slot, writable, writes}
-use Rattle.msg_world.proofs.Worlds.{at_set, there_below, there_still, type_shape}
-
-pub with_signal_shape : {V : Type 0} (w : Parts V) → SameShape w (record w { marks = option_map signalled_marks w.marks })
-with_signal_shape w = record {
-  size = record { types = refl; resources = refl };
-  there = elim [ OfType t ↦ refl | OfResource r ↦ refl | Registry ↦ grind arith ];
-}
+use Rattle.msg_world.specs.Prelude.{Access, HomeMerges, Lent, LoanEnds, LoanStands, LoanStays, OfResource, OfType, Part, Registry, Values, ValuesStand, WorldState, WritesStand, after_signal, content, merge, signalled_marks, slot, writable, writes}
+use Rattle.msg_world.proofs.Worlds.{at_set, same_shape, there_below, there_still, type_shape}
 
 -- a loan of the registry, after a signal
 pub signal_stands : {V : Type 0} {values : Values V} (l : Lent V) (s : WorldState values) → l.access.now.registry ≡ true → LoanStands l s
@@ -43,10 +37,8 @@ values_are_written l r z there =
       record {
         access = refl;
         world = refl;
-        shape = record {
-          size = record { types = refl; resources = length-set l.taken.resources r (Some z) };
-          there = elim [ OfType t ↦ refl | OfResource q ↦ there_still _ r z lt written.1 q | Registry ↦ refl ];
-        };
+        shape = same_shape _ _ (record { types = refl; resources = length-set l.taken.resources r (Some z) }) (λ t. refl)
+            (λ q. there_still _ r z lt written.1 q) refl;
       },
       λ s stand. elim [
         | OfType t ↦ stand (OfType t)

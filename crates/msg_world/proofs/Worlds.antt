@@ -2,12 +2,20 @@
 use Rattle.std.proofs.Common.{◌≡◌, ℕ, ◌<◌, Bool, true, false, List, length, map, refl, sym, ◌∙◌, arith, inl, inr, Option, Some, None, get_or, ◌&&◌, ◌||◌, ◌↔◌, not, IfSome, IsSome, IsSomeAnd, IsTrue, is_some, unwrap_or, slice_index, if◌then◌else◌, ◌==◌, replicate, slice_set}
 use Rattle.std.specs.{Option.option_or, declared.boxed.Box.Box}
 use Rattle.std.proofs.{Math.ListN.length-set, lemmas.Bool.Decides.eqb_tells}
-use Rattle.std.proofs.lemmas.Bool.{cases_eq, cases_lt, false≢true}
+use Rattle.std.proofs.lemmas.Bool.{cases_eq, cases_lt, false_from_ne_true, false≢true}
 use Rattle.std.proofs.lemmas.List.{get_or_default, get_or-set_same, get_or-set_other, get_or_past, get_or-map, length-map, length-replicate}
 use Rattle.msg_buffer.specs.Prelude.{History, Kept, StandsFor, empty}
-use Rattle.msg_world.specs.Prelude.{Access, IsHome, IsWhole, LendsOut, Marks, OfResource, OfType, Parts, PartsStand, Record, Registry, SameShape, TakesBack, Values, WorldState, after_update, has_bit, new_world, with_history}
-use Rattle.msg_world.specs.{declared.taken.MovedOut.MovedOut, inner.Slots.AllUpdated, inner.Slots.BufferStands, inner.Slots.HaveEach, inner.Slots.at, inner.Moved.AreEmptyOf, inner.Moved.MovesHome, inner.Moved.MovesOut, inner.Taken.IsSpare, inner.Taken.resources_of, inner.Taken.types_of}
+use Rattle.msg_world.specs.Prelude.{Access, IsHome, IsWhole, Marks, OfResource, OfType, Parts, PartsStand, Record, Registry, SameShape, SameSize, TakesBack, Values, WorldState, after_update, has_bit, new_world, uses, with_history}
+use Rattle.msg_world.specs.{declared.taken.MovedOut.MovedOut, inner.Slots.AllUpdated, inner.Slots.BufferStands, inner.Slots.HaveEach, inner.Slots.at, inner.Moved.AreEmptyOf, inner.Moved.MovesHome, inner.Moved.MovesOut, inner.Taken.slots_of}
 use Rattle.msg_world.proofs.PartsMove.{equal_items}
+
+-- parts are of one shape, kind by kind
+pub same_shape : {V : Type 0} (old new : Parts V) → SameSize old new
+    → ((t : ℕ) → is_some (at new.types t) ≡ is_some (at old.types t))
+    → ((r : ℕ) → is_some (at new.resources r) ≡ is_some (at old.resources r)) → is_some new.marks ≡ is_some old.marks
+    → SameShape old new
+same_shape old new size types resources marks =
+    record { size = size; there = elim [ OfType t ↦ types t | OfResource r ↦ resources r | Registry ↦ marks ] }
 
 -- a world and parts of which the marks were set
 pub marks_stand : {V : Type 0} {values : Values V} (w : Parts V) (s : WorldState values) (m : Marks) → PartsStand w s
@@ -72,11 +80,7 @@ pub item_at : {X : Type 0} (xs : List (Option X)) (i : ℕ) (o : Option X) → i
     → at xs i ≡ o
 item_at xs i o lt read = get_or_default xs i None o lt ∙ sym read
 
--- what is read at a slot that isn't empty
-pub found_at : {X : Type 0} (xs : List (Option X)) (i : ℕ) (o : Option X) → IsSome (at xs i) → o ≡ get_or xs i o
-    → (at xs i ≡ o) × (i < length xs)
-found_at xs i o there read = grind (arith, cases_lt, item_at, false≢true, get_or_past)
-
+-- a slot that isn't empty is one of them
 pub there_below : {X : Type 0} (xs : List (Option X)) (i : ℕ) → IsSome (at xs i) → i < length xs
 there_below xs i there = grind (arith, cases_lt, false≢true, get_or_past)
 
@@ -101,44 +105,33 @@ type_stands w s t k h lt here stand Registry = stand Registry
 
 pub type_shape : {V : Type 0} (w : Parts V) (t : ℕ) (k : Kept (Record V)) → t < length w.types → IsSome (at w.types t)
     → SameShape w (record w { types = slice_set w.types t (Some k) })
-type_shape w t k lt there = record {
-  size = record { types = length-set w.types t (Some k); resources = refl };
-  there = elim [ OfType u ↦ there_still w.types t k lt there u | OfResource r ↦ refl | Registry ↦ refl ];
-}
+type_shape w t k lt there =
+    same_shape w _ (record { types = length-set w.types t (Some k); resources = refl })
+    (λ u. there_still w.types t k lt there u) (λ r. refl) refl
 
 -- ---- lending and taking back
 
--- what an access writes was moved out of a world, its types, its resources and its marks
-pub lent_out : {V : Type 0} (a : Access) (old left taken : Parts V) → MovesOut a.write_types old.types left.types taken.types
-    → MovesOut a.write_res old.resources left.resources taken.resources
-    → taken.marks ≡ (if a.registry then old.marks else None) → left.marks ≡ (if a.registry then None else old.marks)
-    → LendsOut a old left taken
-lent_out a old left taken types resources marks rest = record {
-  moved = elim [ OfType t ↦ types.moved t | OfResource r ↦ resources.moved r | Registry ↦ marks ];
-  stayed = elim [ OfType t ↦ types.left t | OfResource r ↦ resources.left r | Registry ↦ rest ];
-  taken_size = record { types = types.moved_len; resources = resources.moved_len };
-  left_size = record { types = types.left_len; resources = resources.left_len };
-}
-
--- nothing is moved out by a mask without bits
-pub none_out : {T : Type 0} (mask : ℕ) (xs out : List (Option T)) → ((k : ℕ) → has_bit mask k ≡ false) → AreEmptyOf (length xs) out
-    → MovesOut mask xs xs out
-none_out mask xs out none empty = record {
-  moved = λ k. grind (arith, none k, empty.empty k);
-  left = λ k. grind (arith, none k);
-  moved_len = empty.number;
-  left_len = refl;
-}
-
 -- what goes with a job that moves nothing out
-module _ {V A : Type 0} (n m : ℕ) where
-  pub spare_types : (b : Option (Box (MovedOut V) A)) → IfSome b (λ b. IsSpare n m b.value) → AreEmptyOf n (types_of n b)
-  spare_types None spare = record { number = length-replicate n None; empty = λ k. equal_items n None k }
-  spare_types (Some b) spare = spare.types
+spare_slots : {V A X : Type 0} (slots : MovedOut V → List (Option X)) (n : ℕ) (P : MovedOut V → Type 0)
+    (b : Option (Box (MovedOut V) A)) → ((m : MovedOut V) → P m → AreEmptyOf n (slots m)) → IfSome b (λ b. P b.value)
+    → AreEmptyOf n (slots_of slots n b)
+spare_slots slots n P None of spare = record { number = length-replicate n None; empty = λ k. equal_items n None k }
+spare_slots slots n P (Some b) of spare = of b.value spare
 
-  pub spare_resources : (b : Option (Box (MovedOut V) A)) → IfSome b (λ b. IsSpare n m b.value) → AreEmptyOf m (resources_of m b)
-  spare_resources None spare = record { number = length-replicate m None; empty = λ k. equal_items m None k }
-  spare_resources (Some b) spare = spare.resources
+-- and nothing is, if its mask has no bits
+pub none_out : {V A X : Type 0} (slots : MovedOut V → List (Option X)) (P : MovedOut V → Type 0) (mask : ℕ)
+    (xs : List (Option X)) (b : Option (Box (MovedOut V) A)) → ((m : MovedOut V) → P m → AreEmptyOf (length xs) (slots m))
+    → IfSome b (λ b. P b.value) → ((k : ℕ) → ¬ IsTrue (has_bit mask k))
+    → MovesOut mask xs xs (slots_of slots (length xs) b)
+none_out slots P mask xs b of spare none =
+    let empty = spare_slots slots (length xs) P b of spare in
+    let clear : (k : ℕ) → has_bit mask k ≡ false = λ k. false_from_ne_true (has_bit mask k) (none k) in
+    record {
+      moved = λ k. grind (arith, clear k, empty.empty k);
+      left = λ k. grind (arith, clear k);
+      moved_len = empty.number;
+      left_len = refl;
+    }
 
 -- nothing comes home of slots that are empty
 pub none_home : {T : Type 0} (n : ℕ) (xs : List (Option T)) → MovesHome (replicate n None) xs xs
@@ -155,47 +148,33 @@ taken_back taken old new types resources marks = record {
 
 -- ---- what is home
 
--- The masks of what is used say whether all is home.
-pub home_by_masks : {V : Type 0} (a : Access) (w : Parts V) (types resources : ℕ) (types_home resources_home marks_there : Bool)
-    → ((k : ℕ) → has_bit types k ≡ (has_bit a.read_types k || has_bit a.write_types k))
-    → ((k : ℕ) → has_bit resources k ≡ (has_bit a.read_res k || has_bit a.write_res k))
-    → IsTrue types_home ↔ HaveEach w.types types → IsTrue resources_home ↔ HaveEach w.resources resources → marks_there
-    ≡ is_some w.marks
-    → IsTrue ((types_home && resources_home) && (not a.registry || marks_there)) ↔ IsHome a w
-home_by_masks a w types resources types_home resources_home marks_there t r th rh m = (
-  λ all. elim [
-    | OfType k ↦ λ uses. th.0 (grind arith) k (t k ∙ uses)
-    | OfResource k ↦ λ uses. rh.0 (grind arith) k (r k ∙ uses)
-    | Registry ↦ λ uses. grind arith
-  ],
-  λ home.
-      let types_there = th.1 (λ k bit. home (OfType k) (sym (t k) ∙ bit)) in
-      let resources_there = rh.1 (λ k bit. home (OfResource k) (sym (r k) ∙ bit)) in
-      grind (arith, types_there, resources_there, home Registry),
+-- The tests of each kind of part say whether all is home.
+pub home_by_tests : {V : Type 0} (a : Access) (w : Parts V) (types resources marks : Bool)
+    → IsTrue types ↔ HaveEach w.types (λ t. uses a (OfType t))
+    → IsTrue resources ↔ HaveEach w.resources (λ r. uses a (OfResource r)) → marks ≡ is_some w.marks
+    → IsTrue ((types && resources) && (not a.registry || marks)) ↔ IsHome a w
+home_by_tests a w types resources marks t r m = (
+  λ all. elim [ OfType k ↦ t.0 (grind arith) k | OfResource k ↦ r.0 (grind arith) k | Registry ↦ λ used. grind arith ],
+  λ home. grind (arith, t.1 (λ k. home (OfType k)), r.1 (λ k. home (OfResource k)), home Registry),
 )
 
 -- ---- what a world stands for
 
--- Parts stand for some world if each of their buffers stands for some history.
-pub world_stands : {V : Type 0} {values : Values V} (w : Parts V) → ((t : ℕ) → t < length w.types → (h : History (Record V)) × BufferStands (at w.types t) h)
-    → (s : WorldState values) × PartsStand w s
-world_stands {V} {values} w each = (
+-- A view of parts stands for some world if each of its buffers, as they were read, stands for some history.
+pub some_state : {V : Type 0} {values : Values V} (v w : Parts V) (types : List (Option (Kept (Record V)))) → w ≡ v → types ≡ w.types
+    → ((t : ℕ) → t < length types → (h : History (Record V)) × BufferStands (at types t) h)
+    → (s : WorldState values) × PartsStand v s
+some_state {V} {values} v w types same read each = rw (← same) (
   record {
     histories = λ t. (chosen t).0;
     resources = λ r. unwrap_or (at w.resources r) values.some;
     marks = unwrap_or w.marks (record { held = false; pending = false });
   },
-  elim [ OfType t ↦ (chosen t).1 | OfResource r ↦ grind arith | Registry ↦ grind arith ],
+  elim [ OfType t ↦ rw (← read) (chosen t).1 | OfResource r ↦ grind arith | Registry ↦ grind arith ],
 )
   where
-    chosen : (t : ℕ) → (h : History (Record V)) × BufferStands (at w.types t) h
-    chosen t = elim (cases_lt t (length w.types)) [
+    chosen : (t : ℕ) → (h : History (Record V)) × BufferStands (at types t) h
+    chosen t = elim (cases_lt t (length types)) [
       | inl lt ↦ each t lt
-      | inr past ↦ rw (get_or_past w.types t None past) (empty 0, tt)
+      | inr past ↦ rw (get_or_past types t None past) (empty 0, tt)
     ]
-
--- the same of a view of parts, and of its types as they were read
-pub some_state : {V : Type 0} {values : Values V} (v w : Parts V) (types : List (Option (Kept (Record V)))) → w ≡ v → types ≡ w.types
-    → ((t : ℕ) → t < length types → (h : History (Record V)) × BufferStands (at types t) h)
-    → (s : WorldState values) × PartsStand v s
-some_state v w types same read each = rw (← same) (world_stands w (rw read at each))

@@ -1,7 +1,7 @@
 -- How the references that a loan gives out write back to it.
-use Rattle.std.specs.{Borrow.LendsIf, Borrow.MutBor, Borrow.Fml, Borrow.RattleType, Prelude.ℕ, Prelude.Option, Prelude.Some, Prelude.slice_set, contracts.alloc.Global.the_row as global_row, contracts.impls.GlobalAllocator.TheImpl.ghosts}
+use Rattle.std.specs.{Borrow.RattleType, Prelude.ℕ, Prelude.Some, Prelude.slice_set, contracts.alloc.Global.the_row as global_row, contracts.impls.GlobalAllocator.TheImpl.ghosts}
 use Rattle.msg_buffer.specs.{Prelude.Kept, contracts.messages.Messages.the_row as messages_of}
-use Rattle.msg_world.specs.{declared.record.Record.Record, contracts.record.Record.the_row as record_row, contracts.taken.Taken.the_row as taken_row, Parts.Parts}
+use Rattle.msg_world.specs.{declared.record.Record.Record, contracts.record.Record.the_row as record_row, Parts.Parts}
 
 -- a buffer of records, as the logic names that type
 abbrev pub messages_row : RattleType → RattleType
@@ -15,13 +15,3 @@ module _ {V : Type 0} where
   -- parts of which a resource was changed
   abbrev pub with_value : Parts V → ℕ → V → Parts V
   with_value w r z = record w { resources = slice_set w.resources r (Some z) }
-
--- the parts end with this type's messages as they were left
-abbrev pub LendsMessages : (V : RattleType) → MutBor (Parts V.Denot) → ℕ
-    → Option (MutBor (Kept (Record V.Denot))) → Fml
-LendsMessages V w t given = LendsIf (taken_row V) (messages_row V) w given (with_type w.now t) w.now
-
--- the parts end with this resource as it was left
-abbrev pub LendsValue : (V : RattleType) → MutBor (Parts V.Denot) → ℕ → Option (MutBor V.Denot)
-    → Fml
-LendsValue V w r given = LendsIf (taken_row V) V w given (with_value w.now r) w.now

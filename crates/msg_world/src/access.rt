@@ -22,13 +22,7 @@ impl Access {
     pub fn none() -> Self
         ensures nothing { (p : Part) → uses result p ≡ false }
     {
-        Access {
-            read_types: 0,
-            write_types: 0,
-            read_res: 0,
-            write_res: 0,
-            registry: false,
-        }
+        Access::default()
     }
 
     /// This access, and reads of a type.
@@ -116,10 +110,11 @@ impl Access {
     }
 
     /// Whether it writes a type or a resource.
+    #[tactic(auto, using(crate::proofs::Bits::of_masks))]
     pub(crate) fn writes_type_or_res(&self) -> bool
         ensures some { IsTrue result ↔ WritesTypeOrResource self.now }
     {
-        self.write_types != 0 || self.write_res != 0
+        self.write_types | self.write_res != 0
     }
 
     /// Whether one of them writes a part that the other uses, so that their jobs can't run side by
@@ -146,20 +141,18 @@ impl Access {
 
     /// The access of a job that does the work of both: what either writes is written, and no longer
     /// listed as read.
+    #[tactic(auto, using(crate::proofs::Bits::of_masks))]
     pub fn union(&self, other: &Access) -> Access
         ensures writes { (p : Part) → writes result p ≡ (writes self.now p || writes other.now p) }
         ensures reads { (p : Part)
             → reads result p ≡ ((reads self.now p || reads other.now p) && not (writes result p)) }
     {
-        let write_types = masks::either(self.write_types, other.write_types);
-        let write_res = masks::either(self.write_res, other.write_res);
+        let write_types = self.write_types | other.write_types;
+        let write_res = self.write_res | other.write_res;
         Access {
-            read_types: masks::without(
-                masks::either(self.read_types, other.read_types),
-                write_types,
-            ),
+            read_types: masks::without(self.read_types | other.read_types, write_types),
             write_types,
-            read_res: masks::without(masks::either(self.read_res, other.read_res), write_res),
+            read_res: masks::without(self.read_res | other.read_res, write_res),
             write_res,
             registry: self.registry || other.registry,
         }
@@ -170,7 +163,7 @@ impl Access {
         ensures clash { IsTrue result ↔ IsClash self.now }
     {
         masks::share_bit(self.read_types, self.write_types)
-            || masks::share_bit(self.read_res, self.write_res)
+            | masks::share_bit(self.read_res, self.write_res)
     }
 
     /// Whether a world of so many types and resources has all that is used.

@@ -46,11 +46,6 @@ impl Counts {
     pub fn of(&self, t: TypeNo) -> Option<u64>
         ensures count { result ≡ slice_get self.now t }
     {
-        let k = t.number() as usize;
-        if k < self.types {
-            Some(self.counts[k])
-        } else {
-            None
-        }
+        self.counts[..self.types].get(t.number() as usize).copied()
     }
 }

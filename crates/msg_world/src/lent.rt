@@ -1,5 +1,6 @@
 use crate::access::Access;
 use crate::record::Record;
+use crate::slots::slot_ref;
 use crate::taken::Taken;
 use crate::world::World;
 use crate::{ResNo, TypeNo, Value};
@@ -62,7 +63,10 @@ impl<'a, V: Value> Lent<'a, V> {
         ensures empty { result.items ≡ [] }
         ensures same { self.new ≡ self.old }
     {
-        self.taken.empty_list(alloc)
+        match &mut self.taken.moved {
+            Some(moved) => moved.lists.take(alloc),
+            None => Vec::new(alloc),
+        }
     }
 
     /// The messages of a type that is lent, for reading or for writing.
@@ -70,7 +74,8 @@ impl<'a, V: Value> Lent<'a, V> {
         ensures shown { option_copied result ≡ shown (OfType t) self.now }
     {
         if self.access.writes_type(t) {
-            self.taken.messages(t)
+            let moved = self.taken.moved.as_ref()?;
+            Some(&slot_ref(&moved.types.slots, t.number() as usize)?.part)
         } else if self.access.reads_type(t) {
             self.world.messages(t)
         } else {
@@ -83,7 +88,8 @@ impl<'a, V: Value> Lent<'a, V> {
         ensures shown { result ≡ shown (OfResource r) self.now }
     {
         if self.access.writes_res(r) {
-            self.taken.value(r)
+            let moved = self.taken.moved.as_ref()?;
+            slot_ref(&moved.resources.slots, r.number() as usize).copied()
         } else if self.access.reads_res(r) {
             self.world.resource(r)
         } else {
@@ -113,7 +119,8 @@ impl<'a, V: Value> Lent<'a, V> {
         ensures writable { option_copied_mut result ≡ writable (OfType t) self.old }
     {
         if self.access.writes_type(t) {
-            self.taken.messages_mut(t.number() as usize)
+            let moved = self.taken.moved.as_mut()?;
+            Some(&mut moved.types.get_mut(t.number() as usize)?.part)
         } else {
             None
         }
@@ -125,7 +132,8 @@ impl<'a, V: Value> Lent<'a, V> {
         ensures writable { option_copied_mut result ≡ writable (OfResource r) self.old }
     {
         if self.access.writes_res(r) {
-            self.taken.value_mut(r.number() as usize)
+            let moved = self.taken.moved.as_mut()?;
+            moved.resources.get_mut(r.number() as usize)
         } else {
             None
         }

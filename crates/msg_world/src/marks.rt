@@ -18,16 +18,6 @@ impl Marks {
         self.held && !self.pending
     }
 
-    /// After an update.
-    pub(crate) fn spent(self) -> Marks
-        ensures spent { result ≡ record self { pending = false } }
-    {
-        Marks {
-            pending: false,
-            ..self
-        }
-    }
-
     /// After a signal.
     pub(crate) fn signalled(self) -> Marks
         ensures signalled { result ≡ signalled_marks self }

@@ -20,13 +20,6 @@ pub fn with_bit(mask: u64, k: u32) -> u64
     mask | (1 << k)
 }
 
-/// The bits of both masks.
-pub fn either(a: u64, b: u64) -> u64
-    ensures { (j : ℕ) → has_bit result j ≡ (has_bit a j || has_bit b j) }
-{
-    a | b
-}
-
 /// The bits of a mask that aren't taken.
 pub fn without(mask: u64, taken: u64) -> u64
     ensures { (j : ℕ) → has_bit result j ≡ (has_bit mask j && not (has_bit taken j)) }
@@ -45,7 +38,7 @@ pub fn share_bit(a: u64, b: u64) -> bool
 pub fn collide(read: u64, write: u64, other_read: u64, other_write: u64) -> bool
     ensures { IsTrue result ↔ Collide read write other_read other_write }
 {
-    share_bit(write, other_read | other_write) || share_bit(other_write, read | write)
+    share_bit(write, other_read | other_write) | share_bit(other_write, read | write)
 }
 
 /// Whether no bit from `n` on is set.

@@ -1,6 +1,7 @@
 // Parts that were moved out of slots.
 ghost use Rattle.std.specs.Prelude.{◌≡◌, ◌==◌, ℕ, None, IfOk, IsSome, if◌then◌else◌, length, vec_len};
 ghost use Rattle.std.specs.{Borrow.sem, Option.option_copied, Option.option_copied_mut, Option.option_or};
+ghost use Rattle.msg_world.specs.Prelude.{has_bit};
 ghost use Rattle.msg_world.specs.inner.Moved.{AreEmptyOf, GoesHome, MovesHome, MovesOut};
 ghost use Rattle.msg_world.specs.inner.Slots.{HaveEach, at};
 
@@ -14,7 +15,7 @@ use std::mem::replace;
 /// Contracts see these slots.
 #[derive(Drop)]
 pub(crate) struct MovedParts<T> {
-    slots: Vec<Option<T>>,
+    pub slots: Vec<Option<T>>,
     /// A bit for each slot that may hold a part.
     mask: u64,
 }
@@ -67,7 +68,7 @@ impl<T: Drop> MovedParts<T> {
     /// Moves what the slots of a mask hold out of them.
     pub(crate) fn move_out(&mut self, from: &mut Vec<Option<T>>, mask: u64)
         requires empty { AreEmptyOf (vec_len from.old) self.old }
-        requires each { HaveEach from.old.items mask }
+        requires each { HaveEach from.old.items (has_bit mask) }
         ensures moved { MovesOut mask from.old.items from.new.items self.new }
     {
         self.mask = mask;
@@ -91,20 +92,6 @@ impl<T: Drop> MovedParts<T> {
             put_home(&mut self.slots, home, k as usize);
             rest = masks::without_bit(rest, k);
         }
-    }
-
-    /// How many slots there are.
-    pub(crate) fn slots(&self) -> usize
-        ensures slots { result ≡ length self.now }
-    {
-        self.slots.len()
-    }
-
-    /// What was moved out of a slot.
-    pub(crate) fn get(&self, slot: usize) -> Option<&T>
-        ensures held { option_copied result ≡ at self.now slot }
-    {
-        slot_ref(&self.slots, slot)
     }
 
     pub(crate) fn get_mut(&mut self, slot: usize) -> Option<&mut T>

@@ -1,19 +1,21 @@
 // Slots that hold something or are empty.
-ghost use Rattle.std.specs.Prelude.{◌≡◌, ◌<◌, ◌==◌, ◌↔◌, ℕ, IsTrue, None, if◌then◌else◌, vec_len};
+ghost use Rattle.std.specs.Prelude.{◌≡◌, ◌<◌, ◌==◌, ◌↔◌, ◌||◌, ℕ, IsTrue, None, if◌then◌else◌, length, vec_len};
 ghost use Rattle.std.specs.Option.{option_copied};
-ghost use Rattle.msg_world.specs.inner.Slots.{HaveEach, at};
+ghost use Rattle.msg_buffer.specs.Prelude.{History};
+ghost use Rattle.msg_world.specs.Prelude.{Record, has_bit};
+ghost use Rattle.msg_world.specs.inner.Slots.{BufferStands, HaveEach, at};
 
-use crate::masks;
+use crate::boxed::Boxed;
+use crate::record::Record;
+use crate::{Value, masks};
+use msg_buffer::Messages;
 use std::mem::swap;
 
 /// What a slot holds; nothing if there is no such slot.
 pub(crate) fn slot_ref<T>(slots: &Vec<Option<T>>, k: usize) -> Option<&T>
     ensures held { option_copied result ≡ at slots.now.items k }
 {
-    match slots.get(k) {
-        Some(Some(x)) => Some(x),
-        _ => None,
-    }
+    slots.get(k)?.as_ref()
 }
 
 /// Moves what a slot holds into the slot of the same number of another list, which is empty.
@@ -31,12 +33,13 @@ pub(crate) fn move_slot<T: Drop>(from: &mut Vec<Option<T>>, to: &mut Vec<Option<
     swap(&mut from[k], &mut to[k]);
 }
 
-/// Whether each slot of a mask holds something.
+/// Whether each slot of two masks holds something.
 #[tactic(auto, using(crate::proofs::Bits::of_masks))]
-pub(crate) fn have_each<T>(slots: &Vec<Option<T>>, mask: u64) -> bool
-    ensures each { IsTrue result ↔ HaveEach slots.now.items mask }
+pub(crate) fn have_each<T>(slots: &Vec<Option<T>>, read: u64, write: u64) -> bool
+    ensures each { IsTrue result
+        ↔ HaveEach slots.now.items (λ k. has_bit read k || has_bit write k) }
 {
-    let mut rest = mask;
+    let mut rest = read | write;
     while rest != 0 {
         let k = masks::lowest(rest);
         if slot_ref(slots, k as usize).is_none() {
@@ -45,4 +48,16 @@ pub(crate) fn have_each<T>(slots: &Vec<Option<T>>, mask: u64) -> bool
         rest = masks::without_bit(rest, k);
     }
     true
+}
+
+/// A law: each buffer stands for some history.
+pub(crate) fn each_stands<V: Value>(types: &[Option<Boxed<Messages<Record<V>>>>])
+    ensures histories { (t : ℕ) → t < length types.now
+        → (h : History (Record V)) × BufferStands (at types.now t) h }
+{
+    for slot in types {
+        if let Some(messages) = slot {
+            messages.part.stands_for_some();
+        }
+    }
 }

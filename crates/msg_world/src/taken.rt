@@ -1,13 +1,10 @@
-ghost use Rattle.std.specs.Prelude.{ℕ, ◌<◌, length};
-ghost use Rattle.msg_buffer.specs.Prelude.{History};
-ghost use Rattle.msg_world.specs.inner.Slots.{BufferStands, at};
-
+use crate::Value;
 use crate::boxed::Boxed;
 use crate::marks::Marks;
 use crate::moved::MovedParts;
 use crate::record::Record;
+use crate::slots::each_stands;
 use crate::spare_lists::SpareLists;
-use crate::{ResNo, TypeNo, Value};
 use msg_buffer::Messages;
 use std::alloc::{AllocError, Global};
 use std::marker::Model;
@@ -36,13 +33,13 @@ pub struct Taken<V = i64> {
 
 impl<V> Model for Taken<V> {
     ghost use Rattle.msg_world.specs.Parts.{Parts};
-    ghost use Rattle.msg_world.specs.inner.Taken.{resources_of, types_of};
+    ghost use Rattle.msg_world.specs.inner.Taken.{slots_of};
 
     ghost Value = { Parts V };
 
     ghost view = { λ t. record {
-      types = types_of t.types t.moved;
-      resources = resources_of t.resources t.moved;
+      types = slots_of (λ m. m.types) t.types t.moved;
+      resources = slots_of (λ m. m.resources) t.resources t.moved;
       marks = t.marks;
     } };
 }
@@ -68,22 +65,9 @@ impl<V: Value> MovedOut<V> {
     }
 }
 
-/// A law: each buffer that was moved out stands for some history.
-fn moved_stand<V: Value>(types: &MovedParts<Boxed<Messages<Record<V>>>>)
-    ensures histories { (t : ℕ) → t < length types.now
-        → (h : History (Record V)) × BufferStands (at types.now t) h }
-{
-    for t in 0..types.slots() {
-        if let Some(messages) = types.get(t) {
-            messages.part.stands_for_some();
-        }
-    }
-}
-
 impl<V: Value> Taken<V> {
-    ghost use Rattle.std.specs.{Borrow.sem, Option.option_copied, Option.option_copied_mut};
     ghost use Rattle.std.specs.Prelude.{◌≡◌, [], None, is_some, option_map};
-    ghost use Rattle.msg_world.specs.{Access.OfType, Access.OfResource, Access.Registry, WritingThrough.LendsMessages, WritingThrough.LendsValue, Parts.PartsStand, Parts.slot, World.WorldState, World.signalled_marks};
+    ghost use Rattle.msg_world.specs.{Access.Registry, Parts.PartsStand, Parts.slot, World.WorldState, World.signalled_marks};
 
     /// No parts. It fills the place of a `Taken` that was moved elsewhere, and takes no memory.
     pub fn none() -> Taken<V>
@@ -104,58 +88,7 @@ impl<V: Value> Taken<V> {
         ensures state { (s : WorldState V.values) × PartsStand self.now s }
     {
         if let Some(moved) = &self.moved {
-            moved_stand(&moved.types);
-        }
-    }
-
-    /// An empty list, with memory that serves again if there is some.
-    pub(crate) fn empty_list(&mut self, alloc: Global) -> Vec<Record<V>>
-        ensures empty { result.items ≡ [] }
-        ensures same { self.new ≡ self.old }
-    {
-        match &mut self.moved {
-            Some(moved) => moved.lists.take(alloc),
-            None => Vec::new(alloc),
-        }
-    }
-
-    /// What is there of a type.
-    pub(crate) fn messages(&self, t: TypeNo) -> Option<&Messages<Record<V>>>
-        ensures there { option_copied result ≡ slot (OfType t) self.now }
-    {
-        match &self.moved {
-            Some(moved) => Some(&moved.types.get(t.number() as usize)?.part),
-            None => None,
-        }
-    }
-
-    pub(crate) fn messages_mut(&mut self, k: usize) -> Option<&mut Messages<Record<V>>>
-        ensures* writes_back { sem 𝓛 (LendsMessages V.row self.entry k result) }
-        ensures there { option_copied_mut result ≡ at self.old.types k }
-    {
-        match &mut self.moved {
-            Some(moved) => Some(&mut moved.types.get_mut(k)?.part),
-            None => None,
-        }
-    }
-
-    /// What is there of a resource.
-    pub(crate) fn value(&self, r: ResNo) -> Option<V>
-        ensures there { result ≡ slot (OfResource r) self.now }
-    {
-        match &self.moved {
-            Some(moved) => moved.resources.get(r.number() as usize).copied(),
-            None => None,
-        }
-    }
-
-    pub(crate) fn value_mut(&mut self, k: usize) -> Option<&mut V>
-        ensures* writes_back { sem 𝓛 (LendsValue V.row self.entry k result) }
-        ensures there { option_copied_mut result ≡ at self.old.resources k }
-    {
-        match &mut self.moved {
-            Some(moved) => moved.resources.get_mut(k),
-            None => None,
+            each_stands(&moved.types.slots);
         }
     }
 

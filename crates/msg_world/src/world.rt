@@ -1,10 +1,10 @@
 ghost use Rattle.std.specs.Prelude.{◌≡◌, ℕ, ◌+◌, ◌<◌, ◌≤◌, ◌↔◌, [], ◌∷◌, length, slice_index, slice_get, is_some, Some, None, IfOk, IfErr, IfSome, OnOk, OnErr, IsTrue, IsSome, IsSomeAnd, map, if◌then◌else◌};
 ghost use Rattle.std.specs.Option.{option_copied};
 ghost use Rattle.msg_buffer.specs.Prelude.{History, IsSpent, StandsFor, count, empty, message_refused, update, write};
-ghost use Rattle.msg_world.specs.Prelude.{IsApart, IsHome, IsWhole, LendsOut, OfResource, OfType, PartsStand, SameShape, TakesBack, WorldState, WritesTypeOrResource, after_update, by, held_world, new_world, slot, with_history};
+ghost use Rattle.msg_world.specs.Prelude.{IsApart, IsHome, IsWhole, LendsOut, OfResource, OfType, PartsStand, SameShape, TakesBack, WorldState, WritesTypeOrResource, after_update, by, has_bit, held_world, new_world, slot, with_history};
 ghost use Rattle.msg_world.specs.inner.Moved.{GoesHome, MovesHome, MovesOut};
 ghost use Rattle.msg_world.specs.inner.Slots.{AllUpdated, BufferStands, HaveEach, at};
-ghost use Rattle.msg_world.specs.inner.Taken.{IsSpare};
+ghost use Rattle.msg_world.specs.inner.Taken.{IsSpare, slots_of};
 
 use crate::access::Access;
 use crate::boxed::Boxed;
@@ -12,9 +12,9 @@ use crate::counts::Counts;
 use crate::limits::{MAX_RESOURCES, MAX_TYPES};
 use crate::marks::Marks;
 use crate::record::{HOST, Record};
-use crate::slots::{have_each, slot_ref};
+use crate::slots::{each_stands, have_each, slot_ref};
 use crate::taken::{MovedOut, Taken};
-use crate::{ResNo, TypeNo, Value, masks};
+use crate::{ResNo, TypeNo, Value};
 use msg_buffer::{MessageId, Messages, NoMemory, WriteRefusal};
 use std::alloc::Global;
 use std::marker::Model;
@@ -74,7 +74,8 @@ fn new_types<V: Value>(
 {
     let mut types = Vec::new(alloc);
     for limit in limits {
-        types.push(Some(Boxed::new(alloc, Messages::new(alloc, *limit))?))?;
+        let part = Box::new(alloc, Messages::new(alloc, *limit))?;
+        types.push(Some(Boxed { part }))?;
     }
     Ok(types)
 }
@@ -102,8 +103,8 @@ fn update_slot<V: Value>(slot: &mut Option<Boxed<Messages<Record<V>>>>)
 }
 
 /// Updates every buffer that is there.
-fn update_each<V: Value>(types: &mut [Option<Boxed<Messages<Record<V>>>>])
-    ensures updated { AllUpdated types.old types.new }
+fn update_each<V: Value>(types: &mut Vec<Option<Boxed<Messages<Record<V>>>>>)
+    ensures updated { AllUpdated types.old.items types.new.items }
 {
     for slot in types.iter_mut() {
         update_slot(slot);
@@ -122,36 +123,17 @@ fn count_of<V: Value>(slot: &Option<Boxed<Messages<Record<V>>>>) -> u64
 }
 
 /// The counts of all buffers.
-fn counts_of<V: Value>(types: &[Option<Boxed<Messages<Record<V>>>>]) -> Counts
-    requires few { length types.now ≤ MAX_TYPES }
-    ensures types { length result ≡ length types.now }
-    ensures counts { (t : ℕ) → IsSome (at types.now t) → (h : History (Record V))
-        → BufferStands (at types.now t) h → slice_get result t ≡ Some (count h) }
+fn counts_of<V: Value>(types: &Vec<Option<Boxed<Messages<Record<V>>>>>) -> Counts
+    requires few { length types.now.items ≤ MAX_TYPES }
+    ensures types { length result ≡ length types.now.items }
+    ensures counts { (t : ℕ) → IsSome (at types.now.items t) → (h : History (Record V))
+        → BufferStands (at types.now.items t) h → slice_get result t ≡ Some (count h) }
 {
     let mut counts = Counts::none();
     for slot in types {
         counts.push(count_of(slot));
     }
     counts
-}
-
-/// A law: a buffer, if there is one, stands for some history.
-fn slot_stands<V: Value>(slot: &Option<Boxed<Messages<Record<V>>>>)
-    ensures history { (h : History (Record V)) × BufferStands slot.now h }
-{
-    if let Some(messages) = slot {
-        messages.part.stands_for_some();
-    }
-}
-
-/// A law: each buffer stands for some history.
-fn each_stands<V: Value>(types: &[Option<Boxed<Messages<Record<V>>>>])
-    ensures histories { (t : ℕ) → t < length types.now
-        → (h : History (Record V)) × BufferStands (at types.now t) h }
-{
-    for slot in types {
-        slot_stands(slot);
-    }
 }
 
 /// Takes the marks out, if they are lent.
@@ -213,7 +195,10 @@ impl<V: Value> World<V> {
             return;
         }
         update_each(&mut self.types);
-        self.marks = Some(marks.spent());
+        self.marks = Some(Marks {
+            pending: false,
+            ..marks
+        });
     }
 
     /// Holds the world: its updates wait for a signal from now on. A signal that wasn't spent is
@@ -302,12 +287,9 @@ impl<V: Value> World<V> {
     pub fn is_home(&self, access: &Access) -> bool
         ensures home { IsTrue result ↔ IsHome access.now self.now }
     {
-        let types = masks::either(access.read_types, access.write_types);
-        let resources = masks::either(access.read_res, access.write_res);
-        let types_home = have_each(&self.types, types);
-        let resources_home = have_each(&self.resources, resources);
-        let marks_home = !access.registry | self.marks.is_some();
-        types_home & resources_home & marks_home
+        have_each(&self.types, access.read_types, access.write_types)
+            & have_each(&self.resources, access.read_res, access.write_res)
+            & (!access.registry | self.marks.is_some())
     }
 
     /// Moves out what the access writes. What it only reads stays, to be read by others too.
@@ -318,11 +300,7 @@ impl<V: Value> World<V> {
         ensures err { OnErr result (self.new ≡ self.old) }
         ensures refused { OnErr result (WritesTypeOrResource access.now) }
     {
-        let moved = if access.writes_type_or_res() {
-            Some(self.move_out(access)?)
-        } else {
-            self.spare_for(access)
-        };
+        let moved = self.moved_for(access)?;
         Ok(Taken {
             moved,
             types: self.types.len() as u8,
@@ -357,25 +335,29 @@ impl<V: Value> World<V> {
         self.spares.pop()
     }
 
-    /// Moves out the types and the resources that the access writes.
+    /// What goes with a job: the types and the resources that it writes, moved out, if there are
+    /// any.
     #[inline(always)]
-    fn move_out(&mut self, access: &Access) -> Result<Box<MovedOut<V>>, NoMemory>
-        requires types { HaveEach self.old.types access.now.write_types }
-        requires resources { HaveEach self.old.resources access.now.write_res }
-        ensures types { IfOk result (λ b.
-            MovesOut access.now.write_types self.old.types self.new.types b.value.types) }
-        ensures resources { IfOk result (λ b.
-            MovesOut access.now.write_res self.old.resources self.new.resources
-            b.value.resources) }
+    fn moved_for(&mut self, access: &Access) -> Result<Option<Box<MovedOut<V>>>, NoMemory>
+        requires types { HaveEach self.old.types (has_bit access.now.write_types) }
+        requires resources { HaveEach self.old.resources (has_bit access.now.write_res) }
+        ensures types { IfOk result (λ b. MovesOut access.now.write_types self.old.types
+            self.new.types (slots_of (λ m. m.types) (length self.new.types) b)) }
+        ensures resources { IfOk result (λ b. MovesOut access.now.write_res self.old.resources
+            self.new.resources (slots_of (λ m. m.resources) (length self.new.resources) b)) }
         ensures marks { self.new.marks ≡ self.old.marks }
         ensures err { OnErr result (self.new ≡ self.old) }
+        ensures refused { OnErr result (WritesTypeOrResource access.now) }
     {
+        if !access.writes_type_or_res() {
+            return Ok(self.spare_for(access));
+        }
         let mut moved = self.spare()?;
         moved.types.move_out(&mut self.types, access.write_types);
         moved
             .resources
             .move_out(&mut self.resources, access.write_res);
-        Ok(moved)
+        Ok(Some(moved))
     }
 
     /// Moves home what was moved out. It takes no memory.
@@ -390,11 +372,12 @@ impl<V: Value> World<V> {
             resources: _,
             marks,
         } = taken;
-        match moved {
-            Some(moved) => self.move_home(moved),
-            None => {}
-        }
         self.marks = marks.or(self.marks);
+        if let Some(mut moved) = moved {
+            moved.types.move_home(&mut self.types);
+            moved.resources.move_home(&mut self.resources);
+            self.keep(moved);
+        }
     }
 
     /// Keeps the memory of a list for what will be read.
@@ -405,21 +388,6 @@ impl<V: Value> World<V> {
             spare.lists.keep(list);
             self.keep(spare);
         }
-    }
-
-    /// Moves types and resources home, and keeps what they were in.
-    #[inline(always)]
-    fn move_home(&mut self, moved: Box<MovedOut<V>>)
-        requires types { GoesHome moved.value.types self.old.types }
-        requires resources { GoesHome moved.value.resources self.old.resources }
-        ensures types { MovesHome moved.value.types self.old.types self.new.types }
-        ensures resources { MovesHome moved.value.resources self.old.resources self.new.resources }
-        ensures marks { self.new.marks ≡ self.old.marks }
-    {
-        let mut moved = moved;
-        moved.types.move_home(&mut self.types);
-        moved.resources.move_home(&mut self.resources);
-        self.keep(moved);
     }
 
     /// Keeps what parts came home from, if there is room for it.

@@ -1,15 +1,15 @@
 -- What the private functions on lists of slots say. No public contract cites these.
-use Rattle.std.specs.Prelude.{◌≡◌, ℕ, Option, None, IfSome, IsSome, IsTrue, is_some, List, length, slice_index_or}
+use Rattle.std.specs.Prelude.{◌≡◌, ℕ, Bool, Option, None, IfSome, IsSome, IsTrue, is_some, List, length, slice_index_or}
 use Rattle.msg_buffer.specs.Prelude.{History, Kept, StandsFor, update}
-use Rattle.msg_world.specs.{Access.has_bit, declared.record.Record.Record}
+use Rattle.msg_world.specs.declared.record.Record.{Record}
 
 -- what slot k holds: nothing past the end
 abbrev pub at : {X : Type 0} → List (Option X) → ℕ → Option X
 at xs k = slice_index_or xs k None
 
--- each slot of a mask holds something
-abbrev pub HaveEach : {X : Type 0} → List (Option X) → ℕ → Type 0
-HaveEach xs mask = (k : ℕ) → IsTrue (has_bit mask k) → IsSome (at xs k)
+-- each slot whose number passes a test holds something
+abbrev pub HaveEach : {X : Type 0} → List (Option X) → (ℕ → Bool) → Type 0
+HaveEach xs test = (k : ℕ) → IsTrue (test k) → IsSome (at xs k)
 
 module _ {V : Type 0} where
   -- the buffer in a slot stands for a history, if there is one

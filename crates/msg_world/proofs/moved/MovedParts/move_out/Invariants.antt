@@ -1,4 +1,4 @@
-use Rattle.std.proofs.Common.{◌≡◌, ℕ, IsTrue, None, not, vec_len, ◌&&◌, if◌then◌else◌}
+use Rattle.std.proofs.Common.{◌≡◌, ℕ, IsTrue, None, false, vec_len, if◌then◌else◌}
 use Rattle.msg_world.specs.{Prelude.has_bit, inner.Slots.at}
 use Rattle.msg_world.proofs.moved.MovedParts.move_out.Given as goal
 
@@ -8,10 +8,12 @@ invariant-loop-rest g l = record {
   of_mask : (k : ℕ) → IsTrue (has_bit l.rest k) → IsTrue (has_bit l.mask k);
   moved_len : vec_len l.self-inside.slots ≡ vec_len l.initial.from;
   left_len : vec_len l.from ≡ vec_len l.initial.from;
-  moved : (k : ℕ) → at l.self-inside.slots.items k
-      ≡ (if has_bit l.mask k && not (has_bit l.rest k) then at l.initial.from.items k else None);
-  left : (k : ℕ) → at l.from.items k
-      ≡ (if has_bit l.mask k && not (has_bit l.rest k) then None else at l.initial.from.items k);
+  to_do : (k : ℕ) → IsTrue (has_bit l.rest k)
+      → (at l.self-inside.slots.items k ≡ None) × (at l.from.items k ≡ at l.initial.from.items k);
+  moved : (k : ℕ) → has_bit l.rest k ≡ false → at l.self-inside.slots.items k
+      ≡ (if has_bit l.mask k then at l.initial.from.items k else None);
+  left : (k : ℕ) → has_bit l.rest k ≡ false → at l.from.items k
+      ≡ (if has_bit l.mask k then None else at l.initial.from.items k);
 }
 
 abbrev pub decreases-loop-rest : goal.decreases-loop-rest
