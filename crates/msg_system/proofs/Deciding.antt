@@ -1,8 +1,8 @@
 -- Turns that a behavior decides, op after op.
-use Rattle.std.proofs.Common.{refl, ◌≡◌, ℕ, zero, suc, ◌+◌, ◌<◌, ◌≤◌, ◌++◌, true, false, List, [], ◌∷◌, length, Option, Some, None, sym, arith, inl, inr, append_assoc, drop}
-use Rattle.std.proofs.{Math.Seq.drop-append_seam, lemmas.Bool.cases_Bool, lemmas.Bool.cases_eq, lemmas.Bool.false≢true, lemmas.List.length_push}
+use Rattle.std.proofs.Common.{refl, ◌≡◌, ℕ, zero, suc, ◌<◌, ◌≤◌, ◌++◌, true, false, List, [], ◌∷◌, length, Option, Some, None, sym, arith, inl, inr, ap, ◌∙◌, append_assoc, drop}
+use Rattle.std.proofs.{Math.Seq.drop-append_seam, lemmas.Bool.cases_Bool, lemmas.Bool.cases_eq, lemmas.Bool.cases_lt, lemmas.List.append_cancel_left, lemmas.Bool.false≢true, lemmas.List.length_push}
 use Rattle.msg_world.specs.{Prelude.SameLoan, Prelude.WorldState, declared.lent.Lent.Lent, Prelude.Values}
-use Rattle.msg_system.specs.{Prelude.Covers, Prelude.Needs, Prelude.Op, Prelude.OpRan, Prelude.Reply, Prelude.after_at_most, Prelude.keeps_to, Prelude.next_done, Prelude.one_more, Prelude.op_needs, declared.limits.TheConstants.MAX_OPS, inner.TurnRuns.AreAnswered, inner.TurnRuns.IsAfterProgram}
+use Rattle.msg_system.specs.{Prelude.Covers, Prelude.Needs, Prelude.Op, Prelude.OpRan, Prelude.Reply, Prelude.after_at_most, Prelude.keeps_to, Prelude.next_done, Prelude.op_needs, declared.limits.TheConstants.MAX_OPS, inner.TurnRuns.AreAnswered, inner.TurnRuns.IsAfterProgram}
 use Rattle.msg_system.proofs.{Lendings.writable_is_shown, Runs.op_more, Turns.IsKept, Turns.ops_answered-snoc}
 
 -- ---- a turn, op after op
@@ -21,40 +21,30 @@ module _ {V : Type 0} {values : Values V} (next : List (Reply V) → Option (Op 
   stays (suc n) k le h =
       elim (cases_eq k (suc n)) [ inl e ↦ rw e refl | inr ne ↦ grind (arith, stays n k (omega (arith, le, ne)) h) ]
 
-  module _ (n k : ℕ) (qs : ℕ → ℕ) (l : Lent V) (before out : List (Reply V)) (long : n ≡ length before)
+  module _ (k : ℕ) (qs : ℕ → ℕ) (l : Lent V) (before out more : List (Reply V)) (split : out ≡ before ++ more)
       (far : IsAfterProgram (after_at_most k next w ps s) qs l before out) where
-    asked : drop n out ≡ (after_at_most k next w ps s).replies
-    asked = rw (long, far.same_replies) (drop-append_seam before _)
+    so_far : (after_at_most k next w ps s).replies ≡ more
+    so_far = append_cancel_left before _ _ (sym far.same_replies ∙ split)
 
-    pub turn_over : k ≤ MAX_OPS → next (drop n out) ≡ None → IsAfterProgram (after_at_most MAX_OPS next w ps s) qs l before out
-    turn_over le h = rw (stays MAX_OPS k le (rw (← asked) h)) far
+    pub turn_over : k ≤ MAX_OPS → next more ≡ None → IsAfterProgram (after_at_most MAX_OPS next w ps s) qs l before out
+    turn_over le h = rw (stays MAX_OPS k le (rw so_far h)) far
 
-    pub turn_more : (op : Op V) (rs : ℕ → ℕ) (m : Lent V) (r : Reply V) → Some op ≡ next (drop n out) → OpRan values op w qs rs l m r
-        → IsAfterProgram (after_at_most (k + 1) next w ps s) rs m before (out ++ r ∷ [])
-    turn_more op rs m r is ran =
-        let longer : after_at_most (k + 1) next w ps s ≡ one_more (Some op) w (after_at_most k next w ps s) =
-        grind (arith, asked, is) in
-        rw longer (op_more op w qs rs l m _ before out r far ran)
+    pub turn_more : (op : Op V) (rs : ℕ → ℕ) (m : Lent V) (r : Reply V) → Some op ≡ next more → OpRan values op w qs rs l m r
+        → IsAfterProgram (after_at_most (suc k) next w ps s) rs m before (out ++ r ∷ [])
+    turn_more op rs m r is ran = rw (ap next so_far ∙ sym is) (op_more op w qs rs l m _ before out r far ran)
 
 -- ---- what comes next
 
 module _ {V : Type 0} (n : Needs) (rule : List (Reply V) → Option (Op V)) (rs : List (Reply V)) where
   -- an op that keeps to what is needed is done, if there were fewer than a turn may have
-  pub is_done : (op : Op V) → Some op ≡ rule rs → length rs < MAX_OPS → true ≡ keeps_to n op → Some op ≡ next_done n rule rs
+  pub is_done : (op : Op V) → Some op ≡ rule rs → length rs < MAX_OPS → keeps_to n op ≡ true → Some op ≡ next_done n rule rs
   is_done op is few keeps = grind arith
 
-  -- nothing is done, if the rule gives nothing
-  pub nothing_left : None ≡ rule rs → next_done n rule rs ≡ None
-  nothing_left is = grind arith
-
-  -- nor an op that doesn't
-  pub outside : (op : Op V) → Some op ≡ rule rs → false ≡ keeps_to n op → next_done n rule rs ≡ None
-  outside op is not_kept = grind (arith, cases_Bool)
-
-  -- nor one that is too much
-  pub one_too_many : (o : Option (Op V)) → o ≡ rule rs → length rs ≡ MAX_OPS → next_done n rule rs ≡ None
-  one_too_many None is full = nothing_left is
-  one_too_many (Some op) is full = grind arith
+  -- and no other
+  pub none_done : (o : Option (Op V)) → o ≡ rule rs → ((op : Op V) → o ≡ Some op → length rs < MAX_OPS → keeps_to n op ≡ false)
+      → next_done n rule rs ≡ None
+  none_done None is isnt = grind arith
+  none_done (Some op) is isnt = grind (arith, cases_lt, isnt op refl)
 
 -- ---- which ops were answered
 
@@ -62,11 +52,6 @@ module _ {V : Type 0} (n : Needs) (rule : List (Reply V) → Option (Op V)) (rs 
 pub appended : {V : Type 0} (next : List (Reply V) → Option (Op V)) (ops : List (Op V)) (before after : List (Reply V))
     (are : AreAnswered next ops before after) → drop (length before) after ≡ are.0
 appended next ops before after are = rw are.1 (drop-append_seam before are.0)
-
--- as many as the ops
-pub so_many : {V : Type 0} (next : List (Reply V) → Option (Op V)) (ops : List (Op V)) (before after : List (Reply V))
-    (are : AreAnswered next ops before after) → length (drop (length before) after) ≡ length ops
-so_many next ops before after are = rw (appended next ops before after are) (sym are.3)
 
 -- one op more
 pub answered_more : {V : Type 0} (next : List (Reply V) → Option (Op V)) (ops : List (Op V)) (before after : List (Reply V)) (op : Op V) (r : Reply V)

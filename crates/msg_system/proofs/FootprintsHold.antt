@@ -6,7 +6,7 @@ use Rattle.msg_world.specs.{declared.part.Part.Part, declared.part.Part.TheVaria
 use Rattle.msg_world.specs.declared.record.Record.{Record}
 use Rattle.msg_system.specs.declared.limits.TheConstants.{MAX_OPS}
 use Rattle.msg_system.specs.Prelude.{AfterProgram, Agree, Asked, ConditionFootprint, HasFootprint, IsWithin, Job, JobFootprint, Needs, OnMessage, Op, OpFootprint, Probe, ProgramFootprint, Reply, ResourceEquals, TurnFootprint, after_asking, after_at_most, after_op, after_program, all_hold, cut_after, conditions_of, probe_answer, given_by_program, is_part, needs_any, next_op, one_more, op_needs, op_parts, place_after, probe_part, program_needs, some_condition_reads, turn, with_conditions}
-use Rattle.msg_system.proofs.{Runs.same_part_refl, Turns.IsKept, Turns.kept_to, Turns.next_kept_to, Turns.so_far}
+use Rattle.msg_system.proofs.{Runs.same_part_refl, Turns.IsKept, Turns.kept, Turns.next_kept_to, Turns.op_kept as op_kept_in, Turns.so_far}
 
 -- ---- what is kept
 
@@ -56,40 +56,33 @@ module _ {V : Type 0} (values : Values V) (n : Needs) (next : List (Reply V) →
   more_kept (Some op) far p kept h =
       op_kept op w far.places far.state p (grind (arith, kept op refl, cases_Bool, false≢true))
 
-  turn_kept : (k : ℕ) (s : WorldState values) (p : Part) → n.writes p ≡ false → content p (after k s).state ≡ content p s
-  turn_kept zero s p h = refl
-  turn_kept (suc k) s p h =
-      more_kept (next (after k s).replies) (after k s) p (keeps (after k s).replies) h ∙ turn_kept k s p h
-
-  module _ (among : Part → Bool) (within : IsWithin n among) where
-    record AreAlike (a b : AfterProgram values) : Type 0 where
-      same : given_by_program a ≡ given_by_program b
-      agree : Agree among a.state b.state
-
-    more_alike : (o : Option (Op V)) (a b : AfterProgram values) → ((op : Op V) → o ≡ Some op → IsKept n op) → AreAlike a b
-        → AreAlike (one_more o w a) (one_more o w b)
-    more_alike None a b kept alike = alike
-    more_alike (Some op) a b kept alike =
-        let foot = op_footprint op w a.places in
-        let in_m : IsWithin (op_needs op) among = λ p h. within p (grind (arith, kept op refl)) in
-        record {
-          same = grind (arith, alike.same, foot.same among a.state b.state in_m alike.agree);
-          agree = λ p h. grind (arith, alike.same, foot.alike among a.state b.state in_m alike.agree p h);
-        }
-
-    turn_alike : (k : ℕ) (s t : WorldState values) → Agree among s t → AreAlike (after k s) (after k t)
-    turn_alike zero s t agree = record { same = refl; agree = agree }
-    turn_alike (suc k) s t agree =
-        let far = turn_alike k s t agree in let from = λ (g : (ℕ → ℕ) × List (Reply V)). next g.1 in
-        rw (← ap from far.same)
-        (more_alike (next (after k s).replies) (after k s) (after k t) (keeps (after k s).replies) far)
+  more_alike : (among : Part → Bool) → IsWithin n among → (o : Option (Op V)) (a b : AfterProgram values) → ((op : Op V) → o ≡ Some op → IsKept n op)
+      → given_by_program a ≡ given_by_program b → Agree among a.state b.state
+      → (given_by_program (one_more o w a) ≡ given_by_program (one_more o w b)) × Agree among (one_more o w a).state (one_more o w b).state
+  more_alike among within None a b kept same agree = (same, agree)
+  more_alike among within (Some op) a b kept same agree =
+      let foot = op_footprint op w a.places in
+      let in_m : IsWithin (op_needs op) among = λ p h. within p (grind (arith, kept op refl)) in (
+        grind (arith, same, foot.same among a.state b.state in_m agree),
+        λ p h. grind (arith, same, foot.alike among a.state b.state in_m agree p h),
+      )
 
   first_ops : (k : ℕ) → HasFootprint n (λ (e : AfterProgram values). e.state) given_by_program (after k)
-  first_ops k = record {
-    kept = turn_kept k;
-    same = λ among s t within agree. (turn_alike among within k s t agree).same;
-    alike = λ among s t within agree. (turn_alike among within k s t agree).agree;
-  }
+  first_ops zero = record { kept = λ s p h. refl; same = λ m s t within agree. refl; alike = λ m s t within agree. agree }
+  first_ops (suc k) =
+      let far = first_ops k in
+      let from = λ (g : (ℕ → ℕ) × List (Reply V)). next g.1 in
+      let more : (m : Part → Bool) (s t : WorldState values) → IsWithin n m → Agree m s t
+      → (given_by_program (after (suc k) s) ≡ given_by_program (after (suc k) t)) × Agree m (after (suc k) s).state (after (suc k) t).state =
+      λ m s t within agree.
+      let same = far.same m s t within agree in
+      rw (← ap from same)
+      (more_alike m within (next (after k s).replies) (after k s) (after k t) (keeps (after k s).replies) same (far.alike m s t within agree)) in
+      record {
+        kept = λ s p h. more_kept (next (after k s).replies) (after k s) p (keeps (after k s).replies) h ∙ far.kept s p h;
+        same = λ m s t within agree. (more m s t within agree).0;
+        alike = λ m s t within agree. (more m s t within agree).1;
+      }
 
 pub turn_footprint : {V : Type 0} {values : Values V} → TurnFootprint values
 unfolding turn
@@ -106,7 +99,7 @@ pub program_footprint : {V : Type 0} {values : Values V} → ProgramFootprint va
 program_footprint {V} {values} ops w ps =
     let all = λ (s : WorldState values). so_far ops (length ops) w ps s ∙ ap (λ xs. after_program xs w ps s) (take_all (length ops) ops (omega arith)) in
     rw (← fun_ext all)
-    (first_ops values (program_needs ops) (λ replies. slice_get ops (length replies)) w ps (λ rs op is. kept_to ops (length rs) op is)
+    (first_ops values (program_needs ops) (λ replies. slice_get ops (length replies)) w ps (λ rs op is. kept _ op (op_kept_in ops (length rs) op is))
     (length ops))
 
 -- ---- conditions
@@ -152,5 +145,3 @@ job_footprint j = record {
       let all = all_alike j.conditions m s t (conditions_in j m within) agree in
       grind (arith, all, agree p h, (turn_footprint j.system).alike m s t (system_in j m within) agree p h);
 }
-
-pub ruleset footprints = (op_footprint, program_footprint, turn_footprint, job_footprint)

@@ -4,15 +4,11 @@ use Rattle.std.specs.List.{AllZip}
 use Rattle.std.proofs.lemmas.{Bool.cases_Bool, Bool.cases_lt, Bool.false≢true, Grind.common_steps, Bool.Decides.nat_tests}
 use Rattle.msg_buffer.specs.Prelude.{History, Kept, StandsFor, given, present}
 use Rattle.msg_buffer.proofs.Presence.{kept_stands}
-use Rattle.msg_world.specs.{Prelude.LoanStands, declared.part.Part.TheVariants.OfResource, declared.part.Part.TheVariants.OfType, declared.part.Part.Part, Prelude.WorldState, Prelude.shown, Prelude.writable, declared.lent.Lent.Lent, declared.record.Record.Record, Prelude.Values}
+use Rattle.msg_world.specs.{Prelude.LoanStands, declared.part.Part.TheVariants.OfType, declared.part.Part.Part, Prelude.WorldState, Prelude.shown, Prelude.writable, declared.lent.Lent.Lent, declared.record.Record.Record, Prelude.Values}
 
 -- what may be written is shown
 pub writable_is_shown : {V : Type 0} (p : Part) (l : Lent V) → IsSome (writable p l) → shown p l ≡ writable p l
 writable_is_shown p l there = grind (arith, cases_Bool, false≢true)
-
-pub value_stands : {V : Type 0} {values : Values V} (l : Lent V) (s : WorldState values) (r : ℕ) (z : V) → Some z ≡ shown (OfResource r) l → LoanStands l s → z
-    ≡ s.resources r
-value_stands l s r z is stand = rw (← is) at (stand (OfResource r))
 
 pub written_messages_stand : {V : Type 0} {values : Values V} (l : Lent V) (s : WorldState values) (t : ℕ) (k : Kept (Record V)) → IsSome (writable (OfType t) l)
     → Some k ≡ writable (OfType t) l → LoanStands l s
@@ -32,4 +28,4 @@ made_by R f is (x ∷ xs) (m ∷ ms) made = rw (is x m made.0, made_by R f is xs
 made_by R f is xs ms made = absurd made
 
 -- what functions on a loan go by
-pub ruleset of_loans = (common_steps, value_stands, written_messages_stand, cases_lt, nat_tests)
+pub ruleset of_loans = (common_steps, written_messages_stand, cases_lt, nat_tests)

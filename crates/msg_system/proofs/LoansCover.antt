@@ -2,13 +2,10 @@
 use Rattle.std.proofs.Common.{rules, arith}
 use Rattle.std.proofs.lemmas.Grind.{common_steps}
 use Rattle.msg_world.specs.Prelude.{Values}
-use Rattle.msg_system.specs.Prelude.{CompleteCovers, JobsCover, WrittenIsAll}
+use Rattle.msg_system.specs.Prelude.{JobsCover, WrittenIsAll}
 
 pub written_is_all : {V : Type 0} {values : Values V} → WrittenIsAll values
 written_is_all l taken s only stand = search rules
-
-pub complete_covers : {V : Type 0} → CompleteCovers V
-complete_covers n l complete reads writes = search rules
 
 pub jobs_cover : {V : Type 0} → JobsCover V
 jobs_cover n cs l complete is = grind (arith, common_steps)

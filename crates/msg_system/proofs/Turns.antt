@@ -1,5 +1,5 @@
 -- A turn by a program's rule is its ops in order.
-use Rattle.std.proofs.Common.{◌≡◌, ◌⊎◌, ℕ, zero, suc, ◌≤◌, ◌++◌, Bool, true, false, ◌&&◌, if◌then◌else◌, nat_lt, List, [], ◌∷◌, length, Option, Some, None, take, refl, subst, sym, ap, ◌∙◌, arith, inl, inr, append_assoc, option_and_then, option_map, option_to_list, IsTrue, slice_get}
+use Rattle.std.proofs.Common.{◌≡◌, ◌⊎◌, ℕ, zero, suc, ◌<◌, ◌≤◌, ◌++◌, Bool, true, false, ◌&&◌, if◌then◌else◌, nat_lt, List, [], ◌∷◌, length, Option, Some, None, take, refl, subst, sym, ap, ◌∙◌, arith, inl, inr, append_assoc, option_and_then, option_map, option_to_list, IsTrue, slice_get}
 use Rattle.std.proofs.{Math.Path.fun_ext, lemmas.List.Folds.list_any_at}
 use Rattle.std.proofs.lemmas.Bool.{and_from, and_parts, eqb-true, false≢true}
 use Rattle.std.proofs.lemmas.List.{append-nil, append_cancel_left, length-take-le, length_push, take_more, take_all}
@@ -25,13 +25,22 @@ op_kept ops i op is =
     (λ p h. grind (arith, false≢true, list_any_at (λ o. (op_needs o).reads p) ops i op lt (rw at h))))
     (none_or_all _ (op_parts op).written (λ p h. list_any_at (λ o. (op_needs o).writes p) ops i op lt (rw at h)))
 
--- what comes next of such ops is done, if there are at most `MAX_OPS`
+-- what a rule gives after k replies, if it is done
+abbrev pub done_of : {V : Type 0} → Needs → ℕ → Option (Op V) → Option (Op V)
+done_of n k o = option_and_then (λ op. if nat_lt k MAX_OPS && keeps_to n op then Some op else None) o
+
+-- an op that keeps to what is needed is done, if there were fewer than a turn may have
+pub kept_done : {V : Type 0} (n : Needs) (k : ℕ) (o : Option (Op V)) → k < MAX_OPS → ((op : Op V) → o ≡ Some op → IsTrue (keeps_to n op))
+    → done_of n k o ≡ o
+kept_done n k None few kept = refl
+kept_done n k (Some op) few kept = grind (arith, kept op refl, few)
+
+-- so is each of at most `MAX_OPS` such ops
 pub next_of_ops : {V : Type 0} (n : Needs) (ops : List (Op V)) (k : ℕ) → length ops ≤ MAX_OPS
-    → ((op : Op V) → slice_get ops k ≡ Some op → keeps_to n op ≡ true)
-    → option_and_then (λ op. if nat_lt k MAX_OPS && keeps_to n op then Some op else None) (slice_get ops k) ≡ slice_get ops k
+    → ((op : Op V) → slice_get ops k ≡ Some op → keeps_to n op ≡ true) → done_of n k (slice_get ops k) ≡ slice_get ops k
 next_of_ops n ops k few kept =
     elim (slice_get_cases ops k).1 [
-      | inl h ↦ grind (arith, kept h.0 h.2, h.1, h.2)
+      | inl h ↦ kept_done n k (slice_get ops k) (omega (arith, h.1, few)) kept
       | inr h ↦ rw (slice_get_past ops k (omega (arith, h.0))) refl
     ]
 
@@ -66,7 +75,7 @@ so_far ops (suc n) w ps s =
     ])
 
 -- a turn of at most n ops is the whole program, if the program has no more than n
-pub program_so_far : {V : Type 0} {values : Values V} (program : Program V) (n w : ℕ) (ps : ℕ → ℕ) (s : WorldState values) → length program.ops ≤ MAX_OPS
+program_so_far : {V : Type 0} {values : Values V} (program : Program V) (n w : ℕ) (ps : ℕ → ℕ) (s : WorldState values) → length program.ops ≤ MAX_OPS
     → length program.ops ≤ n → after_at_most n (next_op (of_program program w ps)) w ps s ≡ after_program program.ops w ps s
 program_so_far program n w ps s few all =
     rw (program_nexts program w ps few, so_far program.ops n w ps s, take_all n program.ops all) refl
@@ -118,7 +127,7 @@ pub record IsKept {V : Type 0} (n : Needs) (op : Op V) : Type 0 where
   pub reads : (p : Part) → IsTrue ((op_needs op).reads p) → IsTrue (may_read n p)
   pub writes : (p : Part) → IsTrue ((op_needs op).writes p) → IsTrue (n.writes p)
 
-kept : {V : Type 0} (n : Needs) (op : Op V) → IsTrue (keeps_to n op) → IsKept n op
+pub kept : {V : Type 0} (n : Needs) (op : Op V) → IsTrue (keeps_to n op) → IsKept n op
 kept n op h = grind (arith, and_parts, eqb-true, false≢true)
 
 kept_of : {V : Type 0} (room : Bool) (n : Needs) (o : Option (Op V)) (op : Op V)
@@ -126,10 +135,6 @@ kept_of : {V : Type 0} (room : Bool) (n : Needs) (o : Option (Op V)) (op : Op V)
 kept_of room n None op is = absurd (none-some op is)
 kept_of false n (Some x) op is = absurd (none-some op is)
 kept_of true n (Some x) op is = grind (arith, none-some, same_Some, kept n x)
-
--- an op of a program keeps to what the program needs
-pub kept_to : {V : Type 0} (ops : List (Op V)) (i : ℕ) (op : Op V) → slice_get ops i ≡ Some op → IsKept (program_needs ops) op
-kept_to ops i op is = kept (program_needs ops) op (op_kept ops i op is)
 
 -- what is done keeps to what is needed
 pub next_kept_to : {V : Type 0} (n : Needs) (rule : List (Reply V) → Option (Op V)) (rs : List (Reply V)) (op : Op V)

@@ -2,9 +2,9 @@
 use Rattle.std.proofs.Common.{◌≡◌, ◌⊎◌, ℕ, zero, suc, List, [], None, Option, Some, arith, inl, inr, length, refl}
 use Rattle.std.proofs.lemmas.List.{length_push}
 use Rattle.msg_world.specs.Prelude.{Values, WorldState}
-use Rattle.msg_system.specs.Prelude.{AfterProgram, Meaning, Needs, Op, Reply, after_at_most, next_done, next_op, one_more}
+use Rattle.msg_system.specs.Prelude.{AfterProgram, Meaning, Op, Reply, after_at_most, next_op, one_more}
 use Rattle.msg_system.specs.declared.limits.TheConstants.{MAX_OPS}
-use Rattle.msg_system.proofs.Deciding.{one_too_many}
+use Rattle.msg_system.proofs.Deciding.{none_done}
 
 module _ {V : Type 0} {values : Values V} (next : List (Reply V) → Option (Op V)) (w : ℕ) (ps : ℕ → ℕ) (s : WorldState values) where
   one_longer : (n : ℕ) (o : Option (Op V)) (far : AfterProgram values) → next far.replies ≡ o
@@ -15,21 +15,16 @@ module _ {V : Type 0} {values : Values V} (next : List (Reply V) → Option (Op 
   one_longer n (Some op) far is (inr long) = inr (rw (length_push, long) (omega arith))
 
   -- nothing comes next, or as many ops were done as could be
-  over_or_full : (n : ℕ) → (next (after_at_most n next w ps s).replies ≡ None) ⊎ (length (after_at_most n next w ps s).replies ≡ n)
+  pub over_or_full : (n : ℕ) → (next (after_at_most n next w ps s).replies ≡ None) ⊎ (length (after_at_most n next w ps s).replies ≡ n)
   over_or_full zero = inr refl
   over_or_full (suc n) =
       let far : AfterProgram values = after_at_most n next w ps s in
       one_longer n (next far.replies) far refl (over_or_full n)
 
-module _ {V : Type 0} where
-  over_at : (n : Needs) (rule : List (Reply V) → Option (Op V)) (rs : List (Reply V))
-      → (next_done n rule rs ≡ None) ⊎ (length rs ≡ MAX_OPS) → next_done n rule rs ≡ None
-  over_at n rule rs (inl none) = none
-  over_at n rule rs (inr full) = one_too_many n rule rs (rule rs) refl full
-
-module _ {V : Type 0} {values : Values V} where
-  pub turn_is_over : (m : Meaning V) (s : WorldState values)
-      → next_op m (after_at_most MAX_OPS (next_op m) m.writer m.places s).replies ≡ None
-  turn_is_over m s =
-      over_at m.needs (m.rule []) (after_at_most MAX_OPS (next_op m) m.writer m.places s).replies
-      (over_or_full (next_op m) m.writer m.places s MAX_OPS)
+pub turn_is_over : {V : Type 0} {values : Values V} (m : Meaning V) (s : WorldState values)
+    → next_op m (after_at_most MAX_OPS (next_op m) m.writer m.places s).replies ≡ None
+turn_is_over m s =
+    elim (over_or_full (next_op m) m.writer m.places s MAX_OPS) [
+      | inl none ↦ none
+      | inr full ↦ none_done m.needs (m.rule []) _ _ refl (λ op is few. absurd (omega (arith, full, few)))
+    ]

@@ -1,7 +1,7 @@
 // Systems that decide by a behavior.
 ghost use Rattle.std.specs.Prelude.{◌≡◌, ◌<◌, ◌≤◌, ◌++◌, IfOk, OnOk, drop, length, option_map, option_to_list};
 ghost use Rattle.msg_world.specs.Prelude.{SameLoan};
-ghost use Rattle.msg_system.specs.{Behaviors.behaves, Needs.needs_of, OpRuns.cursor_places, inner.TurnRuns.AreAnswered, inner.TurnRuns.IsAsItWas, inner.TurnRuns.IsOver, inner.TurnRuns.TurnRan, Promises.Covers, Systems.next_done, Systems.refusal};
+ghost use Rattle.msg_system.specs.{Behaviors.behaves, Needs.needs_of, OpRuns.cursor_places, inner.TurnRuns.IsOver, inner.TurnRuns.TurnRan, Promises.Covers, Systems.next_done, Systems.refusal};
 
 use crate::behavior::Behavior;
 use crate::limits::MAX_OPS;
@@ -91,32 +91,28 @@ impl<B: Behavior> BehaviorSystem<B> {
             (next_done (needs_of self.old.access) (B.next_op (B.memory self.old.behavior)))
             self.old.writer (cursor_places self.old.cursors) (cursor_places self.new.cursors)
             lent.old lent.new out.old.items out.new.items) }
-        ensures answered { IfOk result (λ did. AreAnswered
-            (next_done (needs_of self.old.access) (B.next_op (B.memory self.old.behavior)))
-            did.0.items out.old.items out.new.items) }
         ensures over { IfOk result (λ did. IsOver (needs_of self.old.access)
-            (B.next_op (B.memory self.old.behavior)) (length out.old.items) out.new.items did.1) }
+            (B.next_op (B.memory self.old.behavior)) did.0.items did.1
+            out.old.items out.new.items) }
         ensures same { OnOk result (SameLoan lent.old lent.new) }
-        ensures stays { OnOk result (IsAsItWas self.old self.new) }
+        ensures stays { OnOk result
+            (self.new ≡ record self.old { cursors = self.new.cursors; last = self.new.last }) }
     {
         let before = out.len();
         let mut ops = replace(&mut self.last, Items::from_vec(Vec::new(alloc))).into_vec();
         ops.clear();
         let (behavior, access, writer) = (&self.behavior, &self.access, self.writer);
         let cursors = &mut self.cursors;
-        for _done in 0..MAX_OPS {
-            let Some(op) = behavior.next(alloc, since(out.as_slice(), before))? else {
-                return Ok((ops, None));
-            };
-            if !op.keeps_to(access) {
-                return Ok((ops, Some(op)));
+        'turn: loop {
+            match behavior.next(alloc, since(out.as_slice(), before))? {
+                Some(op) if ops.len() < MAX_OPS && op.keeps_to(access) => {
+                    out.reserve(1)?;
+                    answer(alloc, &op, writer, cursors, lent, out)?;
+                    ops.push(op)?;
+                }
+                left => return Ok((ops, left)),
             }
-            out.reserve(1)?;
-            answer(alloc, &op, writer, cursors, lent, out)?;
-            ops.push(op)?;
         }
-        let next = behavior.next(alloc, since(out.as_slice(), before))?;
-        Ok((ops, next))
     }
 }
 

@@ -7,7 +7,6 @@ use msg_world::Value;
 
 /// What is done depends on no part but those that are needed, and changes no part but those that
 /// are written.
-#[tactic(auto, using(crate::proofs::FootprintsHold::footprints))]
 pub fn nothing_else_is_used<V: Value>()
     ensures ops { OpFootprint V.values }
     ensures programs { ProgramFootprint V.values }
@@ -45,14 +44,13 @@ pub fn one_op_is_a_turn<V: Value>()
 
 /// What a run gives back stands for the world after it, if the loan owned nothing but what its
 /// access writes.
-#[tactic(auto, using(crate::proofs::LoansCover::written_is_all))]
 pub fn what_is_given_back_stands<V: Value>()
     ensures law { WrittenIsAll V.values }
 {}
 
 /// A loan that `Lent::open` makes for an access covers whatever is within that access; for a job's
 /// access, its system and its conditions.
-#[tactic(auto, using(crate::proofs::LoansCover::complete_covers, crate::proofs::LoansCover::jobs_cover))]
+#[tactic(auto, using(crate::proofs::LoansCover::jobs_cover))]
 pub fn open_loans_cover<V: Value>()
     ensures law { CompleteCovers V }
     ensures jobs { JobsCover V }

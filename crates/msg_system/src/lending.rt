@@ -5,9 +5,8 @@ ghost use Rattle.msg_buffer.specs.Prelude.{StandsFor, clear, message_of, oldest,
 ghost use Rattle.msg_world.specs.{declared.part.Part.TheVariants.OfResource, declared.part.Part.TheVariants.OfType, Prelude.LoanStands, Prelude.SameLoan, Prelude.WorldState, Prelude.shown, Prelude.with_history, Prelude.with_value_of, Prelude.writable};
 ghost use Rattle.msg_system.specs.Prelude.{numbers_for, sum_onto};
 
-use crate::reading::read_unread;
-use crate::{Items, NoMemory};
-use msg_buffer::{MessageCursor, Messages, WriteRefusal, Written};
+use crate::NoMemory;
+use msg_buffer::{Messages, WriteRefusal, Written};
 use msg_world::{Lent, Record, ResNo, TypeNo, Value};
 
 /// The messages of a type that is lent.
@@ -23,7 +22,6 @@ pub(crate) fn messages_of<'a, V: Value>(lent: &'a Lent<'_, V>, t: TypeNo) -> &'a
 }
 
 /// The value of a resource that is lent.
-#[tactic(auto, using(crate::proofs::Lendings::of_loans))]
 pub(crate) fn value_of<V: Value>(lent: &Lent<V>, r: ResNo) -> V
     requires lent { IsSome (shown (OfResource r) lent.now) }
     ensures value { (s : WorldState V.values) → LoanStands lent.now s → result ≡ s.resources r }
@@ -31,35 +29,6 @@ pub(crate) fn value_of<V: Value>(lent: &Lent<V>, r: ResNo) -> V
     match lent.res(r) {
         Some(value) => value,
         None => unreachable!(),
-    }
-}
-
-/// Writes one message, or none if no number is left.
-#[tactic(auto, using(crate::proofs::Lendings::of_loans))]
-pub(crate) fn write_one<V: Value>(
-    lent: &mut Lent<V>,
-    t: TypeNo,
-    message: Record<V>,
-) -> Result<Option<Written>, NoMemory>
-    requires lent { IsSome (writable (OfType t) lent.old) }
-    ensures numbers { IfOk result (λ numbers. (s : WorldState V.values) → LoanStands lent.old s
-        → numbers ≡ numbers_for (s.histories t) 1) }
-    ensures written { OnOk result ((s : WorldState V.values) → LoanStands lent.old s
-        → LoanStands lent.new (with_history s t (write (message ∷ []) (s.histories t)))) }
-    ensures same { OnOk result (SameLoan lent.old lent.new) }
-
-    // Memory is refused only if a number was left, and then nothing changes.
-    ensures refused { OnErr result ((s : WorldState V.values) → LoanStands lent.old s
-        → IsSome (numbers_for (s.histories t) 1)) }
-    ensures err { OnErr result (lent.new ≡ lent.old) }
-{
-    match lent.writer(t) {
-        None => unreachable!(),
-        Some(messages) => match messages.write(message) {
-            Ok(id) => Ok(Some(Written { first: id.0, n: 1 })),
-            Err(WriteRefusal::NumbersSpent(_)) => Ok(None),
-            Err(WriteRefusal::NoMemory(_)) => Err(NoMemory),
-        },
     }
 }
 
@@ -97,39 +66,6 @@ pub(crate) fn write_each<V: Value, T, F: Fn(&T) -> Record<V>>(
             Err(WriteRefusal::NumbersSpent(())) => Ok(None),
             Err(WriteRefusal::NoMemory(())) => Err(NoMemory),
         },
-    }
-}
-
-/// Drops all messages of a type; gives them, in the empty list, and the number of the first.
-#[tactic(auto, using(crate::proofs::Lendings::of_loans))]
-pub(crate) fn drain_all<V: Value>(
-    list: Vec<Record<V>>,
-    lent: &mut Lent<V>,
-    t: TypeNo,
-) -> Result<(u64, Items<Record<V>>), NoMemory>
-    requires empty { list.items ≡ [] }
-    requires lent { IsSome (writable (OfType t) lent.old) }
-    ensures first { IfOk result (λ d. (s : WorldState V.values) → LoanStands lent.old s
-        → d.0 ≡ oldest (s.histories t)) }
-    ensures items { IfOk result (λ d. (s : WorldState V.values) → LoanStands lent.old s
-        → d.1 ≡ map message_of (present (s.histories t))) }
-    ensures dropped { OnOk result ((s : WorldState V.values) → LoanStands lent.old s
-        → LoanStands lent.new (with_history s t (clear (s.histories t)))) }
-    ensures same { OnOk result (SameLoan lent.old lent.new) }
-
-    // If nothing is there it asks for no memory. A refusal changes nothing.
-    ensures refused { OnErr result ((s : WorldState V.values) → LoanStands lent.old s
-        → 0 < length (present (s.histories t))) }
-    ensures err { OnErr result (lent.new ≡ lent.old) }
-{
-    match lent.writer(t) {
-        None => unreachable!(),
-        Some(messages) => {
-            let mut from_oldest = MessageCursor::new(0);
-            let all = read_unread(list, messages, &mut from_oldest, None)?;
-            messages.clear();
-            Ok((all.first, all.items))
-        }
     }
 }
 

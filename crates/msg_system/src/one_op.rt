@@ -29,24 +29,6 @@ pub(crate) fn answer<V: Value>(
     Ok(())
 }
 
-/// Answers the only op of a turn.
-fn answer_only<V: Value>(
-    alloc: Global,
-    op: &Op<V>,
-    writer: u32,
-    cursors: &mut Cursors,
-    lent: &mut Lent<V>,
-    out: &mut Vec<Reply<V>>,
-) -> Result<(), NoMemory>
-    requires covers { Covers (op_needs op.now) lent.old }
-    ensures answered { OnOk result (OpAnswered V.values op.now writer (cursor_places cursors.old)
-        (cursor_places cursors.new) lent.old lent.new out.old.items out.new.items) }
-    ensures same { OnOk result (SameLoan lent.old lent.new) }
-{
-    out.reserve_exact(1)?;
-    answer(alloc, op, writer, cursors, lent, out)
-}
-
 /// Takes the turn of a system whose program is this op.
 #[inline(always)]
 pub(crate) fn take_turn<V: Value>(
@@ -64,6 +46,7 @@ pub(crate) fn take_turn<V: Value>(
         lent.entry taken out.old.items out.new.items) }
     ensures shape { IfOk result (λ taken. SameShape (taken_of lent.entry) taken) }
 {
-    answer_only(alloc, &op, writer, cursors, &mut lent, out)?;
+    out.reserve_exact(1)?;
+    answer(alloc, &op, writer, cursors, &mut lent, out)?;
     Ok(lent.into_taken())
 }

@@ -49,18 +49,14 @@ impl<V: Value> Op<V> {
         ensures signals { result.read ≢ Some Registry }
     {
         let (read, written) = match self {
-            Op::Write(t, _) => (None, Some(Part::OfType(*t))),
-            Op::Batch(t, _) => (None, Some(Part::OfType(*t))),
-            Op::Read(t, _) => (Some(Part::OfType(*t)), None),
-            Op::Len(t) => (Some(Part::OfType(*t)), None),
-            Op::Missed(t) => (Some(Part::OfType(*t)), None),
-            Op::Clear(t) => (Some(Part::OfType(*t)), None),
+            Op::Write(t, _) | Op::Batch(t, _) | Op::Drain(t) => (None, Some(Part::OfType(*t))),
+            Op::Read(t, _) | Op::Len(t) | Op::Missed(t) | Op::Clear(t) => {
+                (Some(Part::OfType(*t)), None)
+            }
             Op::Forward(t, u) => (Some(Part::OfType(*t)), Some(Part::OfType(*u))),
             Op::Sum(t, r) => (Some(Part::OfType(*t)), Some(Part::OfResource(*r))),
             Op::Get(r) => (Some(Part::OfResource(*r)), None),
-            Op::Set(r, _) => (None, Some(Part::OfResource(*r))),
-            Op::Add(r, _) => (None, Some(Part::OfResource(*r))),
-            Op::Drain(t) => (None, Some(Part::OfType(*t))),
+            Op::Set(r, _) | Op::Add(r, _) => (None, Some(Part::OfResource(*r))),
             Op::Signal => (None, Some(Part::Registry)),
         };
         OpParts { read, written }

@@ -32,6 +32,7 @@ impl<V: Value> Program<V> {
     }
 
     /// A copy of the program. If it has no ops it takes no memory.
+    #[tactic(auto, using(std::proofs::lemmas::List::take_all))]
     pub fn copy(&self, alloc: Global) -> Result<Program<V>, NoMemory>
         ensures equal { IfOk result (λ p. p ≡ self.now) }
         ensures refused { OnErr result (0 < length self.now.ops) }

@@ -81,6 +81,7 @@ impl<V> Reply<V> {
 
 /// The messages that the op of reply `k` read. There are none if it read none, or if there is
 /// no such reply.
+#[tactic(auto, using(std::proofs::lemmas::Grind::elements))]
 pub fn brought<V>(replies: &[Reply<V>], k: usize) -> &[Record<V>]
     ensures brought { result.now ≡ brought (slice_get replies.now k) }
 {

@@ -73,6 +73,7 @@ impl<V: Value> SystemOf for Scripted<V> {
         self.program.access()
     }
 
+    #[tactic(auto, using(std::proofs::lemmas::Grind::elements))]
     fn read_type(&self, op: u32) -> Option<TypeNo> {
         self.program.ops.as_slice().get(op as usize)?.read_type()
     }

@@ -1,27 +1,20 @@
 // What each op does to the loan of its system, and to its system's cursor. After want of memory
-// both are as they were. What is read goes into a list that comes empty.
+// both are as they were. What is read goes into a list that comes empty. What an op does that has
+// no cursor is the same for all places, and is said for places that are 0; so is the writer's
+// number for one that writes no message.
 ghost use Rattle.std.specs.Prelude.{◌≡◌, [], ℕ, IfOk, IsSome, OnErr, OnOk};
 ghost use Rattle.msg_world.specs.{declared.part.Part.TheVariants.OfResource, declared.part.Part.TheVariants.OfType, declared.part.Part.TheVariants.Registry, Prelude.SameLoan, Prelude.shown, Prelude.writable};
 ghost use Rattle.msg_system.specs.declared.op.Op.TheVariants.{Add, Batch, Clear, Drain, Forward, Get, Len, Missed, Read, Set, Signal, Sum, Write};
-ghost use Rattle.msg_system.specs.Prelude.{MayBeRefused, OpRan, with_place, write_reply};
+ghost use Rattle.msg_system.specs.Prelude.{MayBeRefused, OpRan, with_place};
+ghost use Rattle.msg_system.specs.inner.TurnRuns.{nowhere};
 
-use crate::lending::{
-    added_up, drain_all, messages_of, set_value, value_of, write_each, write_one,
-};
+use crate::lending::{added_up, messages_of, set_value, value_of, write_each};
 use crate::reading::read_unread;
 use crate::{Items, NoMemory, Reply};
-use msg_buffer::{MessageCursor, Written};
+use msg_buffer::{MessageCursor, WriteRefusal, Written};
 use msg_world::{Lent, Record, ResNo, TypeNo, Value};
 
-fn wrote_or_spent<V: Value>(numbers: Option<Written>) -> Reply<V>
-    ensures reply { result ≡ write_reply numbers }
-{
-    match numbers {
-        Some(written) => Reply::Wrote(written),
-        None => Reply::Spent,
-    }
-}
-
+#[tactic(auto, using(crate::proofs::Lendings::of_loans))]
 pub(crate) fn write<V: Value>(
     lent: &mut Lent<V>,
     writer: u32,
@@ -29,15 +22,20 @@ pub(crate) fn write<V: Value>(
     value: V,
 ) -> Result<Reply<V>, NoMemory>
     requires lent { IsSome (writable (OfType t) lent.old) }
-    ensures ran { IfOk result (λ reply. (places : ℕ → ℕ)
-        → OpRan V.values (Write t value) writer places places lent.old lent.new reply) }
+    ensures ran { IfOk result
+        (OpRan V.values (Write t value) writer nowhere nowhere lent.old lent.new) }
     ensures same { OnOk result (SameLoan lent.old lent.new) }
-    ensures refused { OnErr result ((places : ℕ → ℕ)
-        → MayBeRefused V.values (Write t value) places lent.old) }
+    ensures refused { OnErr result (MayBeRefused V.values (Write t value) nowhere lent.old) }
     ensures err { OnErr result (lent.new ≡ lent.old) }
 {
-    let numbers = write_one(lent, t, Record { writer, value })?;
-    Ok(wrote_or_spent(numbers))
+    match lent.writer(t) {
+        None => unreachable!(),
+        Some(messages) => match messages.write(Record { writer, value }) {
+            Ok(id) => Ok(Reply::Wrote(Written { first: id.0, n: 1 })),
+            Err(WriteRefusal::NumbersSpent(_)) => Ok(Reply::Spent),
+            Err(WriteRefusal::NoMemory(_)) => Err(NoMemory),
+        },
+    }
 }
 
 pub(crate) fn batch<V: Value>(
@@ -47,18 +45,21 @@ pub(crate) fn batch<V: Value>(
     values: &Items<V>,
 ) -> Result<Reply<V>, NoMemory>
     requires lent { IsSome (writable (OfType t) lent.old) }
-    ensures ran { IfOk result (λ reply. (places : ℕ → ℕ)
-        → OpRan V.values (Batch t values.now) writer places places lent.old lent.new reply) }
+    ensures ran { IfOk result
+        (OpRan V.values (Batch t values.now) writer nowhere nowhere lent.old lent.new) }
     ensures same { OnOk result (SameLoan lent.old lent.new) }
-    ensures refused { OnErr result ((places : ℕ → ℕ)
-        → MayBeRefused V.values (Batch t values.now) places lent.old) }
+    ensures refused { OnErr result (MayBeRefused V.values (Batch t values.now) nowhere lent.old) }
     ensures err { OnErr result (lent.new ≡ lent.old) }
 {
     let message_of = |value: &V| Record {
         writer,
         value: *value,
     };
-    Ok(wrote_or_spent(write_each(lent, t, values.as_slice(), message_of)?))
+    let numbers = write_each(lent, t, values.as_slice(), message_of)?;
+    Ok(match numbers {
+        Some(written) => Reply::Wrote(written),
+        None => Reply::Spent,
+    })
 }
 
 pub(crate) fn read<V: Value>(
@@ -168,16 +169,14 @@ pub(crate) fn sum<V: Value>(
 
 pub(crate) fn get<V: Value>(lent: &Lent<V>, r: ResNo) -> Reply<V>
     requires lent { IsSome (shown (OfResource r) lent.now) }
-    ensures ran { (writer : ℕ) (places : ℕ → ℕ)
-        → OpRan V.values (Get r) writer places places lent.now lent.now result }
+    ensures ran { OpRan V.values (Get r) 0 nowhere nowhere lent.now lent.now result }
 {
     Reply::Value(value_of(lent, r))
 }
 
 pub(crate) fn set<V: Value>(lent: &mut Lent<V>, r: ResNo, value: V) -> Reply<V>
     requires lent { IsSome (writable (OfResource r) lent.old) }
-    ensures ran { (writer : ℕ) (places : ℕ → ℕ)
-        → OpRan V.values (Set r value) writer places places lent.old lent.new result }
+    ensures ran { OpRan V.values (Set r value) 0 nowhere nowhere lent.old lent.new result }
     ensures same { SameLoan lent.old lent.new }
 {
     set_value(lent, r, value);
@@ -186,8 +185,7 @@ pub(crate) fn set<V: Value>(lent: &mut Lent<V>, r: ResNo, value: V) -> Reply<V>
 
 pub(crate) fn add<V: Value>(lent: &mut Lent<V>, r: ResNo, value: V) -> Reply<V>
     requires lent { IsSome (writable (OfResource r) lent.old) }
-    ensures ran { (writer : ℕ) (places : ℕ → ℕ)
-        → OpRan V.values (Add r value) writer places places lent.old lent.new result }
+    ensures ran { OpRan V.values (Add r value) 0 nowhere nowhere lent.old lent.new result }
     ensures same { SameLoan lent.old lent.new }
 {
     let sum = value_of(lent, r).plus(value);
@@ -195,6 +193,7 @@ pub(crate) fn add<V: Value>(lent: &mut Lent<V>, r: ResNo, value: V) -> Reply<V>
     Reply::Value(sum)
 }
 
+#[tactic(auto, using(crate::proofs::Lendings::of_loans))]
 pub(crate) fn drain<V: Value>(
     list: Vec<Record<V>>,
     lent: &mut Lent<V>,
@@ -202,21 +201,28 @@ pub(crate) fn drain<V: Value>(
 ) -> Result<Reply<V>, NoMemory>
     requires empty { list.items ≡ [] }
     requires lent { IsSome (writable (OfType t) lent.old) }
-    ensures ran { IfOk result (λ reply. (writer : ℕ) (places : ℕ → ℕ)
-        → OpRan V.values (Drain t) writer places places lent.old lent.new reply) }
+    ensures ran { IfOk result (OpRan V.values (Drain t) 0 nowhere nowhere lent.old lent.new) }
     ensures same { OnOk result (SameLoan lent.old lent.new) }
-    ensures refused { OnErr result
-        ((places : ℕ → ℕ) → MayBeRefused V.values (Drain t) places lent.old) }
+    ensures refused { OnErr result (MayBeRefused V.values (Drain t) nowhere lent.old) }
     ensures err { OnErr result (lent.new ≡ lent.old) }
 {
-    let (first, items) = drain_all(list, lent, t)?;
-    Ok(Reply::Drained { first, items })
+    match lent.writer(t) {
+        None => unreachable!(),
+        Some(messages) => {
+            let mut from_oldest = MessageCursor::new(0);
+            let all = read_unread(list, messages, &mut from_oldest, None)?;
+            messages.clear();
+            Ok(Reply::Drained {
+                first: all.first,
+                items: all.items,
+            })
+        }
+    }
 }
 
 pub(crate) fn signal<V: Value>(lent: &mut Lent<V>) -> Reply<V>
     requires lent { IsSome (writable Registry lent.old) }
-    ensures ran { (writer : ℕ) (places : ℕ → ℕ)
-        → OpRan V.values Signal writer places places lent.old lent.new result }
+    ensures ran { OpRan V.values Signal 0 nowhere nowhere lent.old lent.new result }
     ensures same { SameLoan lent.old lent.new }
 {
     let signalled = lent.signal();

@@ -1,9 +1,13 @@
 -- What the private functions of programs and turns say. No public contract cites these.
-use Rattle.std.specs.Prelude.{◌≡◌, ℕ, ◌++◌, List, [], ◌∷◌, None, Option, drop, length}
+use Rattle.std.specs.Prelude.{◌≡◌, ℕ, ◌++◌, List, [], ◌∷◌, None, Option, length}
 use Rattle.msg_world.specs.{Prelude.LoanStands, Prelude.WorldState, declared.lent.Lent.Lent, Prelude.Values}
-use Rattle.msg_system.specs.{declared.behavior_system.BehaviorSystem.BehaviorSystem, declared.limits.TheConstants.MAX_OPS, declared.op.Op.Op, declared.reply.Reply.Reply, Needs.Needs, OpRuns.OpRan}
+use Rattle.msg_system.specs.{declared.limits.TheConstants.MAX_OPS, declared.op.Op.Op, declared.reply.Reply.Reply, Needs.Needs, OpRuns.OpRan}
 use Rattle.msg_system.specs.Programs.{AfterProgram, after_program}
 use Rattle.msg_system.specs.Systems.{after_at_most, next_done, ops_answered}
+
+-- places of a system that has read nothing
+abbrev pub nowhere : ℕ → ℕ
+nowhere t = 0
 
 -- the places, the loan and the replies are those after a program
 pub record IsAfterProgram {V : Type 0} {values : Values V} (after : AfterProgram values)
@@ -51,16 +55,9 @@ module _ {V : Type 0} where
       (more : List (Reply V)) × (answers ≡ before ++ more) × (ops ≡ ops_answered next more)
       × (length ops ≡ length more)
 
-  -- Nothing more is done after the replies from number `from` on, and this op is what the rule
-  -- gives then.
-  pub record IsOver (n : Needs) (rule : List (Reply V) → Option (Op V)) (from : ℕ)
-      (answers : List (Reply V)) (left : Option (Op V)) : Type 0 where
-    pub left_over : left ≡ rule (drop from answers)
-    pub none_done : next_done n rule (drop from answers) ≡ None
-
--- the behavior, the access, the start and the number that it writes as are as they were
-pub record IsAsItWas {B V : Type 0} (old new : BehaviorSystem B V) : Type 0 where
-  pub behavior : new.behavior ≡ old.behavior
-  pub access : new.access ≡ old.access
-  pub start : new.start ≡ old.start
-  pub writer : new.writer ≡ old.writer
+  -- They were, and no more are done: this op, or none, is what the rule gives then.
+  pub record IsOver (n : Needs) (rule : List (Reply V) → Option (Op V)) (ops : List (Op V))
+      (left : Option (Op V)) (before answers : List (Reply V)) : Type 0 where
+    pub answered : AreAnswered (next_done n rule) ops before answers
+    pub left_over : left ≡ rule answered.0
+    pub none_done : next_done n rule answered.0 ≡ None

@@ -1,5 +1,4 @@
-use Rattle.std.proofs.{Common.arith, Common.map, lemmas.Bool.cases_lt, lemmas.Bool.Decides.nat_tests, lemmas.List.length-map}
-use Rattle.msg_buffer.specs.Prelude.{StandsFor, write}
+use Rattle.std.proofs.{Common.arith, lemmas.Bool.cases_lt, lemmas.Bool.Decides.nat_tests, lemmas.List.length-map}
 use Rattle.msg_system.proofs.Lendings.{made_by, written_messages_stand}
 use Rattle.msg_world.proofs.Loans.{writes_are}
 use Rattle.msg_system.proofs.lending.write_each.Goals as goal
@@ -29,9 +28,8 @@ pub returns-in-Err-NumbersSpent-clause-written : goal.returns-in-Err-NumbersSpen
 returns-in-Err-NumbersSpent-clause-written g c f is s stand =
     let here = written_messages_stand c.args.lent.now s c.args.t _ c.requires.lent c.in-Some.ensures.writable stand in
     let spent = c.in-Err-NumbersSpent.ensures.spent (s.histories c.args.t) here in
-    let same : StandsFor c.write_each.new.self (write (map f c.args.items.now) (s.histories c.args.t)) =
-    grind (arith, nat_tests, length-map, here, spent, c.in-Err-NumbersSpent.ensures.err) in
-    (writes_are c.args.lent.now c.args.t c.write_each.new.self c.requires.lent).1 s _ same stand
+    let are = (writes_are c.args.lent.now c.args.t c.write_each.new.self c.requires.lent).1 s (s.histories c.args.t) in
+    grind (arith, nat_tests, length-map, spent, are (rw c.in-Err-NumbersSpent.ensures.err here) stand)
 
 pub returns-in-Err-NoMemory-clause-refused : goal.returns-in-Err-NoMemory-clause-refused
 returns-in-Err-NoMemory-clause-refused g c s stand =

@@ -3,6 +3,6 @@ use Rattle.msg_world.specs.Prelude.{by}
 use Rattle.msg_system.proofs.steps.batch.Goals as goal
 
 pub returns-clause-ran : goal.returns-clause-ran
-returns-clause-ran g c places s stand =
-    let written = c.in_ok-write_each.ensures.written (by c.args.writer) (λ x m made. search rules) s stand in
-    grind (arith, common_steps, length-map, written, c.in_ok-write_each.ensures.numbers s stand)
+returns-clause-ran g c s stand =
+    let written = c.in_ok-numbers.ensures.written (by c.args.writer) (λ x m made. search rules) s stand in
+    grind (arith, common_steps, length-map, written, c.in_ok-numbers.ensures.numbers s stand)

@@ -1,11 +1,5 @@
-use Rattle.std.proofs.Common.{refl}
+use Rattle.std.proofs.{Common.arith, lemmas.Grind.common_steps}
 use Rattle.msg_system.proofs.steps.get.Goals as goal
 
 pub returns : goal.returns
-returns g c = record {
-  ran = λ writer places s stand. record {
-    same_places = refl;
-    stands = stand;
-    same_reply = rw (c.value_of.ensures.value s stand) refl;
-  };
-}
+returns g c = record { ran = λ s stand. grind (arith, common_steps, c.value_of.ensures.value s stand) }

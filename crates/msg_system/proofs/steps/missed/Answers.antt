@@ -1,11 +1,5 @@
-use Rattle.std.proofs.Common.{refl}
+use Rattle.std.proofs.{Common.arith, lemmas.Grind.common_steps}
 use Rattle.msg_system.proofs.steps.missed.Goals as goal
 
 pub returns : goal.returns
-returns g c = record {
-  ran = λ writer places at s stand. record {
-    same_places = refl;
-    stands = stand;
-    same_reply = rw (c.missed.ensures.meaning _ (c.messages_of.ensures.stands s stand), at) refl;
-  };
-}
+returns g c = record { ran = λ writer places at s stand. grind (arith, common_steps, at, c.missed.ensures.meaning _ (c.messages_of.ensures.stands s stand)) }

@@ -2,4 +2,4 @@ use Rattle.std.proofs.{Common.arith, lemmas.Grind.common_steps}
 use Rattle.msg_system.proofs.steps.set.Goals as goal
 
 pub returns-clause-ran : goal.returns-clause-ran
-returns-clause-ran g c w places s stand = grind (arith, common_steps, c.set_value.ensures.written s stand)
+returns-clause-ran g c s stand = grind (arith, common_steps, c.set_value.ensures.written s stand)

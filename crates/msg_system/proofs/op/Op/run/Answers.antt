@@ -1,4 +1,4 @@
-use Rattle.std.proofs.{Common.rules, Common.refl, lemmas.Result.IfOk-weaker, lemmas.Result.on_err_weaker}
+use Rattle.std.proofs.{Common.arith, Common.rules, Common.refl, lemmas.Result.IfOk-weaker}
 use Rattle.msg_world.specs.{declared.part.Part.TheVariants.OfResource, declared.part.Part.TheVariants.OfType, declared.part.Part.TheVariants.Registry}
 use Rattle.msg_system.specs.declared.op.Op.TheVariants.{Clear, Forward, Read, Sum}
 use Rattle.msg_system.proofs.Runs.{covers_read, covers_written, place_at, ran_at}
@@ -10,14 +10,6 @@ write-requires g c = record { lent = covers_written _ _ (OfType c.in-Write.t) c.
 pub batch-requires : goal.batch-requires
 batch-requires g c = record { lent = covers_written _ _ (OfType c.in-Batch.t) c.requires.covers (rw c.in-Batch.is refl) }
 
-pub drain-requires : goal.drain-requires
-drain-requires g c =
-    let list = c.empty_list-list-in-Drain.ensures in
-    record {
-      empty = list.empty;
-      lent = rw list.same (covers_written _ _ (OfType c.in-Drain.t) c.requires.covers (rw c.in-Drain.is refl));
-    }
-
 pub set-requires : goal.set-requires
 set-requires g c = record { lent = covers_written _ _ (OfResource c.in-Set.r) c.requires.covers (rw c.in-Set.is refl) }
 
@@ -27,13 +19,9 @@ add-requires g c = record { lent = covers_written _ _ (OfResource c.in-Add.r) c.
 pub signal-requires : goal.signal-requires
 signal-requires g c = record { lent = covers_written _ _ Registry c.requires.covers (rw c.in-Signal.is refl) }
 
-pub read-requires : goal.read-requires
-read-requires g c =
-    let list = c.empty_list-list.ensures in
-    record {
-      empty = list.empty;
-      lent = rw list.same (covers_read _ _ (OfType c.in-Read.t) c.requires.covers (rw c.in-Read.is refl));
-    }
+pub drain-requires-clause-lent : goal.drain-requires-clause-lent
+drain-requires-clause-lent g c =
+    rw c.empty_list-list-in-Drain.ensures.same (covers_written _ _ (OfType c.in-Drain.t) c.requires.covers (rw c.in-Drain.is refl))
 
 pub len-requires : goal.len-requires
 len-requires g c = record { lent = covers_read _ _ (OfType c.in-Len.t) c.requires.covers (rw c.in-Len.is refl) }
@@ -46,6 +34,10 @@ clear-requires g c = record { lent = covers_read _ _ (OfType c.in-Clear.t) c.req
 
 pub get-requires : goal.get-requires
 get-requires g c = record { lent = covers_read _ _ (OfResource c.in-Get.r) c.requires.covers (rw c.in-Get.is refl) }
+
+pub read-requires-clause-lent : goal.read-requires-clause-lent
+read-requires-clause-lent g c =
+    rw c.empty_list-list.ensures.same (covers_read _ _ (OfType c.in-Read.t) c.requires.covers (rw c.in-Read.is refl))
 
 pub forward-requires-clause-read : goal.forward-requires-clause-read
 forward-requires-clause-read g c =
@@ -66,34 +58,6 @@ pub sum-requires-clause-written : goal.sum-requires-clause-written
 sum-requires-clause-written g c =
     rw c.empty_list-list-in-Sum.ensures.same
     (covers_written _ _ (OfResource c.in-Sum.r) c.requires.covers (rw c.in-Sum.is refl))
-
-pub returns-in-Batch-clause-ran : goal.returns-in-Batch-clause-ran
-returns-in-Batch-clause-ran g c =
-    rw c.in-Batch.is (IfOk-weaker c.batch.result _ _ (λ reply ran. ran _) c.batch.ensures.ran)
-
-pub returns-in-Drain-clause-ran : goal.returns-in-Drain-clause-ran
-returns-in-Drain-clause-ran g c =
-    let same = c.empty_list-list-in-Drain.ensures.same in
-    rw c.in-Drain.is (IfOk-weaker c.drain.result _ _ (λ reply ran. ran c.args.writer _) (rw same at c.drain.ensures.ran))
-
-pub returns-in-Get-clause-ran : goal.returns-in-Get-clause-ran
-returns-in-Get-clause-ran g c = rw c.in-Get.is (c.get.ensures.ran c.args.writer _)
-
-pub returns-in-Signal-clause-ran : goal.returns-in-Signal-clause-ran
-returns-in-Signal-clause-ran g c = rw c.in-Signal.is (c.signal.ensures.ran c.args.writer _)
-
-pub returns-in-Write-clause-ran : goal.returns-in-Write-clause-ran
-returns-in-Write-clause-ran g c =
-    rw c.in-Write.is
-    (IfOk-weaker c.write.result _ _ (λ reply ran. ran _) c.write.ensures.ran)
-
-pub returns-in-Set-clause-ran : goal.returns-in-Set-clause-ran
-returns-in-Set-clause-ran g c =
-    rw c.in-Set.is (c.set.ensures.ran c.args.writer _)
-
-pub returns-in-Add-clause-ran : goal.returns-in-Add-clause-ran
-returns-in-Add-clause-ran g c =
-    rw c.in-Add.is (c.add.ensures.ran c.args.writer _)
 
 pub returns-in-Read-clause-ran : goal.returns-in-Read-clause-ran
 returns-in-Read-clause-ran g c =
@@ -131,15 +95,8 @@ returns-in-Sum-clause-ran g c =
     c.number-in-Sum.ensures.number c.number-in-Sum.ensures.within (Sum _ _) c.args.writer _ c.args.lent.now _ _
     (ran c.args.writer)) (rw same at c.sum.ensures.ran))
 
-pub returns-in-Write-clause-refused : goal.returns-in-Write-clause-refused
-returns-in-Write-clause-refused g c =
-    rw c.in-Write.is (on_err_weaker c.write.result (λ refused. refused (λ t. 0)) c.write.ensures.refused)
+pub returns-in-Batch-clause-ran : goal.returns-in-Batch-clause-ran
+returns-in-Batch-clause-ran g c = rw c.in-Batch.is (search rules)
 
-pub returns-in-Batch-clause-refused : goal.returns-in-Batch-clause-refused
-returns-in-Batch-clause-refused g c =
-    rw c.in-Batch.is (on_err_weaker c.batch.result (λ refused. refused (λ t. 0)) c.batch.ensures.refused)
-
-pub returns-in-Drain-clause-refused : goal.returns-in-Drain-clause-refused
-returns-in-Drain-clause-refused g c =
-    let same = c.empty_list-list-in-Drain.ensures.same in
-    rw c.in-Drain.is (on_err_weaker c.drain.result (λ refused. refused (λ t. 0)) (rw same at c.drain.ensures.refused))
+pub returns-in-Signal-clause-ran : goal.returns-in-Signal-clause-ran
+returns-in-Signal-clause-ran g c = rw c.in-Signal.is (λ s stand. grind (arith, c.signal.ensures.ran s stand))

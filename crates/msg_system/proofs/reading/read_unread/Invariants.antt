@@ -1,6 +1,6 @@
 use Rattle.std.proofs.Common.{◌≡◌, ◌++◌, ◌+◌, ◌≤◌, length, map, vec_capacity}
 use Rattle.msg_buffer.specs.Prelude.{Continues, iter_place, iter_rest, message_of}
-use Rattle.msg_system.proofs.reading.copy_unread.Given as goal
+use Rattle.msg_system.proofs.reading.read_unread.Given as goal
 
 abbrev pub invariant-loop-copied : goal.invariant-loop-copied
 invariant-loop-copied g l = record {

@@ -1,8 +1,7 @@
 use Rattle.std.proofs.lemmas.{Grind.common_steps, List.append-nil, List.length-map, List.take-map, List.take_at, List.take_all}
 use Rattle.std.proofs.Common.{◌≡◌, ℕ, ◌++◌, List, length, map, min, take, Option, sym, arith, unwrap_or}
 use Rattle.msg_buffer.specs.{Prelude.at_most, declared.instance.Instance.Instance}
-use Rattle.msg_system.proofs.reading.copy_unread.Goals.{else-loop-copied-test, then-loop-copied-test+in_default}
-use Rattle.msg_system.proofs.reading.copy_unread.Goals as goal
+use Rattle.msg_system.proofs.reading.read_unread.Goals as goal
 
 -- as many were copied as were asked for
 enough_copied : {M X : Type 0} (f : Instance M → X) (unread : List (Instance M)) (copied : List X) (limit : Option ℕ)
@@ -13,13 +12,9 @@ enough_copied f unread copied limit rest split long =
     let same : take n unread ≡ at_most limit unread = grind (arith, take_all) in
     rw (← same, ← take-map, split) (sym (take_at copied (map f rest) n long))
 
-pub returns-clause-items : goal.returns-clause-items
-returns-clause-items g c = grind (arith, common_steps, enough_copied, append-nil, length-map)
+pub returns-clause-took : goal.returns-clause-took
+returns-clause-took g c h stands = grind (arith, common_steps, enough_copied, append-nil, length-map, c.missed-missed.ensures.meaning h stands)
 
 pub returns-clause-place : goal.returns-clause-place
 returns-clause-place g c h stands =
-    let from = c.read-rest.ensures.first h stands in
-    elim c.loop-copied-test.branch [
-      | else-loop-copied-test w ↦ grind (arith, from, w.cursor-is)
-      | then-loop-copied-test+in_default w ↦ grind (arith, from, w.cursor-is, w.next.ensures)
-    ]
+    grind (arith, c.read-rest.ensures.first h stands, returns-clause-took g c h stands, length-map, c.from_vec.ensures.items)
