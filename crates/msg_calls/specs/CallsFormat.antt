@@ -1,5 +1,5 @@
 -- A calls file, read from a JSON value.
-use Rattle.std.specs.Prelude.{ℕ, ◌+◌, ℤ, nat_lt, List, [], ◌∷◌, Some, None, Ok, codes, if◌then◌else◌}
+use Rattle.std.specs.Prelude.{ℕ, ◌+◌, nat_lt, List, [], ◌∷◌, Some, None, Ok, codes, if◌then◌else◌}
 use Rattle.std.specs.Str.{bytes_eq}
 use Rattle.serde_json.specs.Data.{Data}
 use Rattle.msg_json.specs.Text.{Text}
@@ -31,35 +31,20 @@ bare_call made head =
     else if bytes_eq head (codes "clear_all") then Ok call.ClearAll
     else fails reason.Parts
 
--- a part that is a value
-abbrev pub value_part : Data → Reading ℤ
-value_part d = in_part 1 (value_of d)
-
--- the number of a cursor, of which so many were made before
-abbrev pub cursor_in : ℕ → Data → Reading ℕ
-cursor_in made d = number_of d >>= below made
-
--- the number of a message
-abbrev pub message_in : Data → Reading ℕ
-message_in d = number_of d >>= natural
-
--- a part that is the number of a cursor
+-- a part that is the number of a cursor, of which so many were made before
 abbrev pub cursor_part : ℕ → Data → Reading ℕ
-cursor_part made d = in_part 1 (cursor_in made d)
-
--- a part that is a list of values
-abbrev pub values_part : Data → Reading (List ℤ)
-values_part d = in_part 1 (values_of d)
+cursor_part made d = in_part 1 (number_of d >>= below made)
 
 -- a part that is the number of a message
 abbrev pub message_part : Data → Reading ℕ
-message_part d = in_part 1 (message_in d)
+message_part d = in_part 1 (number_of d >>= natural)
 
 -- a head and one part
 abbrev pub call_with_one : ℕ → Text → Data → Reading Call
 call_with_one made head d =
-    if bytes_eq head (codes "write") then (value_part d >>= λ v. Ok (call.Write v))
-    else if bytes_eq head (codes "batch") then (values_part d >>= λ vs. Ok (call.Batch vs))
+    if bytes_eq head (codes "write") then (in_part 1 (value_of d) >>= λ v. Ok (call.Write v))
+    else if bytes_eq head (codes "batch")
+    then (in_part 1 (values_of d) >>= λ vs. Ok (call.Batch vs))
     else if bytes_eq head (codes "read") then (cursor_part made d >>= λ c. Ok (call.Read c None))
     else if bytes_eq head (codes "missed") then (cursor_part made d >>= λ c. Ok (call.Missed c))
     else if bytes_eq head (codes "len") then (cursor_part made d >>= λ c. Ok (call.Len c))

@@ -87,24 +87,18 @@ line call.Total s = codes "total " ++ decimal (length (present s.history)) ++ co
 line call.Drain s = codes "drain: " ++ pairs_text (present s.history) ++ codes "\n"
 line call.ClearAll s = codes "clear_all\n"
 
--- the state after a call
+-- the state after a call; one that only asks changes nothing
 abbrev pub after : Call → BufferState → BufferState
 after (call.Write value) s = record s { history = write (value ∷ []) s.history }
 after (call.Batch values) s = record s { history = write values s.history }
 after call.Update s = record s { history = update s.history }
 after (call.Read c limit) s = with_cursor_at s c (next_place (read s.history (place s c) limit))
-after (call.Missed c) s = s
-after (call.Len c) s = s
 after (call.Clear c) s = with_cursor_at s c (count s.history)
 after call.Cursor s = with_cursor s 0
 after call.CursorCurrent s = with_cursor s (count s.history)
-after (call.Get n) s = s
-after call.Current s = s
-after call.Oldest s = s
-after call.Count s = s
-after call.Total s = s
 after call.Drain s = record s { history = clear s.history }
 after call.ClearAll s = record s { history = clear s.history }
+after _ s = s
 
 -- ---- the text of a file
 

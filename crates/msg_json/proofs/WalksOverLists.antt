@@ -1,9 +1,9 @@
 -- One step of a walk over a list of JSON values.
-use Rattle.std.proofs.Common.{◌≡◌, ℕ, ◌-◌, ◌≤◌, List, [], ◌∷◌, ◌++◌, inl, inr, append_assoc, Err, take, drop, get_or, length, refl, sym, ap, ◌∙◌, arith, Bool, map, string_bytes, String, ℤ, position, Ok, Some, option_map, unwrap_or}
+use Rattle.std.proofs.Common.{◌≡◌, ℕ, ◌-◌, ◌≤◌, List, [], ◌∷◌, ◌++◌, inl, inr, append_assoc, Err, take, drop, get_or, length, refl, sym, ap, arith, Bool, map, string_bytes, String, ℤ, position, Ok}
 use Rattle.std.proofs.lemmas.List.{length-map, take_all, Folds.list_all-map}
 use Rattle.std.specs.declared.alloc.Global.{Global}
-use Rattle.serde_json.specs.{Data.Data, Find.as_array, View.view, View.items_of, View.items_view, View.members_view, declared.value.Value.Value}
-use Rattle.msg_json.specs.Prelude.{Reading, Reads, elements, inside, keys_of, list_of, values_from, ◌>>=◌}
+use Rattle.serde_json.specs.{Data.Data, View.view, View.items_of, View.members_view, declared.value.Value.Value}
+use Rattle.msg_json.specs.Prelude.{Reading, Reads, inside, keys_of, list_of, values_from, ◌>>=◌}
 use Rattle.msg_json.specs.declared.location.PathStep.{PathStep}
 
 -- ---- lists in serde_json's form, and in ours
@@ -19,20 +19,14 @@ pub position-keys : (p : List ℕ → Bool) (ms : List (String Global × Value))
 position-keys p [] = refl
 position-keys p (m ∷ ms) = grind (arith, position-keys p ms)
 
--- steps that the check takes by itself
-pub ruleset list_steps = (list_of-items_of, position-keys, list_all-map, length-map)
-
--- the elements of a list, as its items are seen
-pub elements_are : (d : Data) (xs : List Value) → Some (items_view xs) ≡ as_array d → elements d ≡ map view xs
-elements_are d xs e =
-    ap (λ o. unwrap_or (option_map list_of o) []) (sym e) ∙ list_of-items_of (map view xs)
-
 -- a list is its first item and the range of the others
-pub first_and_rest : (d : Data) (xs : List Value) (v : Value) → Some (items_view xs) ≡ as_array d → 1 ≤ length xs
-    → v ≡ get_or xs 0 v → elements d ≡ view v ∷ map view (take (length xs - 1) (drop 1 xs))
-first_and_rest d [] v list least is = absurd (omega (arith, least))
-first_and_rest d (x ∷ xs) v list least is =
-    rw (elements_are d (x ∷ xs) list, take_all (length (x ∷ xs) - 1) xs (omega arith), is) refl
+pub first_and_rest : (xs : List Value) (v : Value) → 1 ≤ length xs → v ≡ get_or xs 0 v
+    → map view xs ≡ view v ∷ map view (take (length xs - 1) (drop 1 xs))
+first_and_rest [] v least is = absurd (omega (arith, least))
+first_and_rest (x ∷ xs) v least is = rw (take_all (length (x ∷ xs) - 1) xs (omega arith), is) refl
+
+-- steps that the check takes by itself
+pub ruleset list_steps = (list_of-items_of, position-keys, list_all-map, length-map, first_and_rest)
 
 -- ---- what was read, before what is left
 

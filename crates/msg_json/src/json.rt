@@ -98,17 +98,15 @@ pub fn text(value: &Value) -> Result<&str, Fault>
 }
 
 /// The text that a list begins with, and what follows it.
+#[tactic(auto, using(crate::proofs::WalksOverLists::list_steps))]
 pub fn head_and_parts(value: &Value) -> Result<(&str, &[Value]), Fault>
     ensures headed { head_seen result ≡ headed (view value.now) }
 {
-    let Some(items) = value.as_array() else {
-        return Err(Fault::here(Reason::Parts));
-    };
-    let [first, parts @ ..] = items.as_slice() else {
-        return Err(Fault::here(Reason::Parts));
-    };
-    match first.as_str() {
-        Some(head) => Ok((head, parts)),
-        None => Err(Fault::here(Reason::Parts)),
+    if let Some(items) = value.as_array()
+        && let [first, parts @ ..] = items.as_slice()
+        && let Some(head) = first.as_str()
+    {
+        return Ok((head, parts));
     }
+    Err(Fault::here(Reason::Parts))
 }

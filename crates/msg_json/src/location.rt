@@ -109,7 +109,7 @@ pub enum PathStep {
 
 /// Where something stands in a file, level by level from its root, as in
 /// `systems[7].ops[1][2][0]`. A level that isn't there is None.
-#[derive(Clone, Copy, Debug, PartialEq, Eq)]
+#[derive(Clone, Copy, Debug, Default, PartialEq, Eq)]
 pub struct Location {
     /// The key of the file.
     pub section: Option<Key>,
@@ -134,48 +134,23 @@ impl Location {
     pub fn here() -> Location
         ensures here { result ≡ here }
     {
-        Location {
-            section: None,
-            element: None,
-            key: None,
-            item: None,
-            nots: 0,
-            part: None,
-            value: None,
-            member: None,
-        }
+        Location::default()
     }
 
     /// A location within what this step leads to, as it is told from where the step begins.
     pub fn after(self, step: PathStep) -> Location
         ensures after { result ≡ after step self }
     {
+        let mut location = self;
         match step {
-            PathStep::Section(key) => Location {
-                section: Some(key),
-                ..self
-            },
-            PathStep::Element(n) => Location {
-                element: Some(n),
-                ..self
-            },
-            PathStep::Key(key) => Location {
-                key: Some(key),
-                ..self
-            },
-            PathStep::Item(n) => Location {
-                item: Some(n),
-                ..self
-            },
-            PathStep::Nots(nots) => Location { nots, ..self },
-            PathStep::Part(n) => Location {
-                part: Some(n),
-                ..self
-            },
-            PathStep::Value(n) => Location {
-                value: Some(n),
-                ..self
-            },
+            PathStep::Section(key) => location.section = Some(key),
+            PathStep::Element(n) => location.element = Some(n),
+            PathStep::Key(key) => location.key = Some(key),
+            PathStep::Item(n) => location.item = Some(n),
+            PathStep::Nots(nots) => location.nots = nots,
+            PathStep::Part(n) => location.part = Some(n),
+            PathStep::Value(n) => location.value = Some(n),
         }
+        location
     }
 }

@@ -99,14 +99,6 @@ pub fn batch_values(alloc: Global, items: &[Value]) -> Result<Items<i64>, Fault>
     if items.len() > MAX_VALUES {
         return Err(Fault::here(Reason::AtMost(MAX_VALUES)));
     }
-    whole_numbers(alloc, items)
-}
-
-/// The whole numbers that the items are.
-fn whole_numbers(alloc: Global, items: &[Value]) -> Result<Items<i64>, Fault>
-    ensures values { Reads (values_from 0 (map view items.now)) result }
-    ensures no_memory { items.now ≡ [] → IsOk result }
-{
     let mut values = Vec::new(alloc);
     for item in items {
         values.push(inside(PathStep::Value(values.len()), value(item))?)?;

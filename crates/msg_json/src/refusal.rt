@@ -1,4 +1,5 @@
 ghost use Rattle.std.specs.Prelude.{◌≡◌};
+ghost use Rattle.msg_json.specs.declared.refusal.Refusal.TheVariants.{NoMemory as NoRoom};
 
 use msg_buffer::NoMemory;
 use std::alloc::AllocFailed;
@@ -44,8 +45,6 @@ pub enum Refusal {
 }
 
 impl From<NoMemory> for Refusal {
-    ghost use Rattle.msg_json.specs.declared.refusal.Refusal.TheVariants.{NoMemory as NoRoom};
-
     ghost from_gives = { λ _ refusal. refusal ≡ NoRoom };
 
     fn from(_error: NoMemory) -> Self {
@@ -54,8 +53,6 @@ impl From<NoMemory> for Refusal {
 }
 
 impl<T: Drop> From<AllocFailed<T>> for Refusal {
-    ghost use Rattle.msg_json.specs.declared.refusal.Refusal.TheVariants.{NoMemory as NoRoom};
-
     ghost from_gives = { λ _ refusal. refusal ≡ NoRoom };
 
     fn from(_error: AllocFailed<T>) -> Self {

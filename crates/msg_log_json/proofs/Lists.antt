@@ -1,7 +1,7 @@
 -- A list that is made element by element, with a comma between two.
 use Rattle.std.proofs.Common.{◌≡◌, ℕ, ◌+◌, ◌<◌, ◌≤◌, List, ◌++◌, length, get_or, take, append_assoc, arith, flat_map, min, zip, Result, Ok, Err, OnOk, is_ok, if◌then◌else◌}
 use Rattle.std.specs.List.{enumerate_from}
-use Rattle.std.proofs.lemmas.{Grind.common_steps, List.get_or_default, List.take_all, List.FromFn.length-enumerate_from, Slice.Zip.get_or-zip, Slice.Zip.length-zip}
+use Rattle.std.proofs.lemmas.{Grind.common_steps, List.take_all, List.FromFn.length-enumerate_from, Slice.Zip.get_or-zip, Slice.Zip.length-zip}
 use Rattle.msg_log_json.specs.Prelude.{comma_before, list_item, numbered}
 use Rattle.msg_json.proofs.NumberedPieces.{numbered_more}
 
@@ -17,13 +17,6 @@ module _ {X : Type 0} (f : ℕ × X → List ℕ) (xs : List X) where
   one_more k x before now mid next made comma item is lt =
       let joined : next ≡ now ++ (comma_before k ++ f (k, x)) = grind (arith, append_assoc) in
       numbered_more (list_item f) 0 xs k k x before now next made (rw (← is) joined) (omega arith) lt
-
-  -- the same of an element that is read from the list
-  pub one_there : (k : ℕ) (x : X) (before now mid next : List ℕ) → now ≡ before ++ first_of k
-      → mid ≡ now ++ comma_before k → next ≡ mid ++ f (k, get_or xs k x) → k < length xs
-      → next ≡ before ++ first_of (k + 1)
-  one_there k x before now mid next made comma item lt =
-      one_more k (get_or xs k x) before now mid next made comma item (get_or_default xs k x (get_or xs k x) lt) lt
 
   -- all of them
   pub all_made : (k : ℕ) (before now : List ℕ) → now ≡ before ++ first_of k → length xs ≤ k

@@ -31,32 +31,19 @@ fn add_turn(text: &mut Vec<u8>, scenario: &Scenario, turn: &Turn) -> Result<(), 
     text.extend_from_slice(b"{\"system\":\"")?;
     add_system_name(text, scenario, turn.system)?;
     text.extend_from_slice(b"\"")?;
-    add_outcome_of(text, scenario, turn)?;
+    add_outcome(text, scenario, turn)?;
     text.extend_from_slice(b"}")
 }
 
 /// What came of a turn; nothing if the scenario has no such system.
-fn add_outcome_of(text: &mut Vec<u8>, scenario: &Scenario, turn: &Turn) -> Result<(), NoMemory>
+fn add_outcome(text: &mut Vec<u8>, scenario: &Scenario, turn: &Turn) -> Result<(), NoMemory>
     ensures appends { OnOk result
         (text.new.items ≡ text.old.items ++ Spec.outcome_json_of scenario.now turn.now) }
 {
-    match scenario.systems.as_slice().get(turn.system as usize) {
-        Some(system) => add_outcome(text, scenario, system, &turn.outcome),
-        None => Ok(()),
-    }
-}
-
-/// What came of a system's turn.
-fn add_outcome(
-    text: &mut Vec<u8>,
-    scenario: &Scenario,
-    system: &SystemSpec,
-    outcome: &Outcome,
-) -> Result<(), NoMemory>
-    ensures appends { OnOk result
-        (text.new.items ≡ text.old.items ++ Spec.outcome_json scenario.now system.now outcome.now) }
-{
-    match outcome {
+    let Some(system) = scenario.systems.as_slice().get(turn.system as usize) else {
+        return Ok(());
+    };
+    match &turn.outcome {
         Outcome::Skipped => text.extend_from_slice(b",\"skipped\":true"),
         Outcome::Ran(replies) => add_replies(text, scenario, system, replies.as_slice()),
     }

@@ -5,12 +5,12 @@ use Rattle.std.proofs.Math.Seq.{take-append_seam, take-length}
 use Rattle.std.specs.Io.KnownBytes.{Appends}
 use Rattle.std.proofs.KnownBytes.{Appends-nil, Appends-trans}
 use Rattle.msg_system.specs.Prelude.{Meaning}
-use Rattle.msg_frames.specs.Prelude.{FramesKeepSystems, IsCompleteRun, State, accounts_of, before_turns, frame as frame_of, run}
+use Rattle.msg_frames.specs.Prelude.{IsCompleteRun, State, accounts_of, before_turns, frame as frame_of, run}
 use Rattle.msg_frames.specs.Frames.{turn_order}
 use Rattle.msg_exec.specs.Prelude.{HasRunFrame, IsSpoiled, EngineStands, frame_number}
 use Rattle.msg_frames.specs.{declared.account.Account.Account, declared.frame.Frame.Frame, declared.log.Log.Log}
 use Rattle.msg_exec.specs.declared.engine.EngineOf.{EngineOf}
-use Rattle.msg_frames.proofs.Functions.{run_more}
+use Rattle.msg_frames.proofs.{Functions.run_more, SystemsStay.frames_keep}
 use Rattle.msg_world.specs.{declared.run_fault.RunFault.RunFault, Prelude.i64_values}
 use Rattle.msg_world.specs.declared.run_fault.RunFault.TheVariants as run_fault
 use Rattle.msg_json.specs.Prelude.{AppendsAtLeast, AppendsPrefix, Text, one_failure_more}
@@ -41,16 +41,6 @@ frames_text-append s number frames [] later = grind (arith, zip-nil {B = Log ℤ
 frames_text-append s number [] (log ∷ first) later = refl
 frames_text-append s number (frame ∷ frames) (log ∷ first) later =
     grind (arith, append_assoc, frames_text-append s (number + 1) frames first later)
-
--- the text of some frames, and of the next one
-text_more : (s : Scenario) (k : ℕ) (logs : List (Log ℤ)) (frame : Frame ℤ) (log : Log ℤ) → length logs ≡ k
-    → k < length s.frames → frame ≡ get_or s.frames k frame
-    → frames_text s 1 s.frames (logs ++ log ∷ []) ≡ frames_text s 1 s.frames logs ++ frame_text s (k + 1) frame log
-text_more s k logs frame log many lt is =
-    let more = frames_text-append s 1 s.frames logs (log ∷ []) in
-    let none = zip-nil {B = Log ℤ} (drop (k + 1) s.frames) in
-    let whole = append-nil (frame_text s (k + 1) frame log) in
-    grind (arith, more, many, is, drop_more s.frames k frame lt, none, whole)
 
 -- ---- what a report came to
 
@@ -135,7 +125,7 @@ module _ {S : Type 0} (contents : S → Option (List ℕ)) (failures : S → ℕ
     -- ---- a frame
 
     -- the frame after the first k was run, and its text isn't put yet
-    module _ (keep : FramesKeepSystems i64_values) (f : EngineOf X ℤ) (frame : Frame ℤ) (log : Log ℤ) (lt : k < length s.frames)
+    module _ (f : EngineOf X ℤ) (frame : Frame ℤ) (log : Log ℤ) (lt : k < length s.frames)
         (is : frame ≡ get_or s.frames k frame)
         (ran : (u : State i64_values) → EngineStands meaning e u → HasRunFrame meaning frame u log f)
         (counted : frame_number f ≡ min (frame_number e + 1) (2 ^ 32 - 1)) where
@@ -158,12 +148,16 @@ module _ {S : Type 0} (contents : S → Option (List ℕ)) (failures : S → ℕ
 
       counted_now : (left.frames ≡ k + 1) × (left.types ≡ length s.types)
       counted_now =
-          let kept = keep (turn_order (before_turns frame.posts far.state)) frame far.state in
+          let kept = frames_keep (turn_order (before_turns frame.posts far.state)) frame far.state in
           grind (arith, kept.counted, kept.after, far.frames, far.types)
 
       text_now : frames_text s 1 s.frames logs_now
           ≡ frames_text s 1 s.frames far.logs ++ frame_text s (k + 1) frame log
-      text_now = text_more s k far.logs frame log far.as_many lt is
+      text_now =
+          let more = frames_text-append s 1 s.frames far.logs (log ∷ []) in
+          let none = zip-nil {B = Log ℤ} (drop (k + 1) s.frames) in
+          let whole = append-nil (frame_text s (k + 1) frame log) in
+          grind (arith, more, far.as_many, is, drop_more s.frames k frame lt, none, whole)
 
       -- its text was put
       pub frame_put : (after : S) (g : EngineOf X ℤ)
@@ -212,12 +206,16 @@ module _ {S : Type 0} (contents : S → Option (List ℕ)) (failures : S → ℕ
 
     -- ---- no memory
 
-    -- what was run and put so far is all that was
-    out_after : (f : EngineOf X ℤ) → frame_number f ≡ frame_number e
-        → (IsSpoiled f × (length far.logs < length s.frames))
-        ⊎ (EngineStands meaning f far.state × (length far.logs ≡ length s.frames))
-        → Leaves (Err (report_fault.Run run_fault.NoMemory)) old now f
-    out_after f counted how = (
+    -- a frame or the accounts had none, so what was run and put so far is all that was; nor did they answer anything
+    -- else, as the engine wasn't spoiled
+    pub no_memory : {T : Type 0} (f : EngineOf X ℤ) (r : Result T RunFault) (fault : RunFault) → r ≡ Err fault
+        → (r ≡ Err run_fault.Spoiled → IsSpoiled e) → ¬ (r ≡ Err run_fault.BadOrder)
+        → (r ≡ Err run_fault.NoMemory → (frame_number f ≡ frame_number e)
+        × ((IsSpoiled f × (k < length s.frames)) ⊎ (EngineStands meaning f far.state × (k ≡ length s.frames))))
+        → Leaves (Err (report_fault.Run fault)) old now f
+    no_memory f r run_fault.Spoiled is spoiled in_order out = absurd (far.alive (spoiled is))
+    no_memory f r run_fault.BadOrder is spoiled in_order out = absurd (in_order is)
+    no_memory f r run_fault.NoMemory is spoiled in_order out = (
       record {
         logs = far.logs;
         state = far.state;
@@ -241,40 +239,27 @@ module _ {S : Type 0} (contents : S → Option (List ℕ)) (failures : S → ℕ
         begun = far.begun;
         ok = tt;
         stopped = λ in_text. absurd (no_run _ run_fault.NoMemory in_text refl);
-        counted = omega (arith, counted, far.counted, far.as_many);
-        run = λ is. how;
+        counted = omega (arith, (out is).0, far.counted, far.as_many);
+        run = λ _. rw far.as_many (out is).1;
       },
     )
-
-    -- a frame answers nothing else, as the engine wasn't spoiled
-    pub no_memory_for_frame : (f : EngineOf X ℤ) (r : Result (Log ℤ) RunFault) (fault : RunFault) → k < length s.frames
-        → r ≡ Err fault → (r ≡ Err run_fault.Spoiled → IsSpoiled e) → ¬ (r ≡ Err run_fault.BadOrder)
-        → (r ≡ Err run_fault.NoMemory → IsSpoiled f)
-        → (r ≡ Err run_fault.NoMemory → frame_number f ≡ frame_number e)
-        → Leaves (Err (report_fault.Run fault)) old now f
-    no_memory_for_frame f r run_fault.Spoiled lt is spoiled in_order out counted = absurd (far.alive (spoiled is))
-    no_memory_for_frame f r run_fault.BadOrder lt is spoiled in_order out counted = absurd (in_order is)
-    no_memory_for_frame f r run_fault.NoMemory lt is spoiled in_order out counted =
-        out_after f (counted is) (inl (out is, omega (arith, lt, far.as_many)))
-
-    -- nor do the accounts
-    pub no_memory_for_accounts : {T : Type 0} (r : Result T RunFault) (fault : RunFault) → k ≡ length s.frames
-        → r ≡ Err fault → (r ≡ Err run_fault.Spoiled → IsSpoiled e) → ¬ (r ≡ Err run_fault.BadOrder)
-        → Leaves (Err (report_fault.Run fault)) old now e
-    no_memory_for_accounts r run_fault.Spoiled all is spoiled in_order = absurd (far.alive (spoiled is))
-    no_memory_for_accounts r run_fault.BadOrder all is spoiled in_order = absurd (in_order is)
-    no_memory_for_accounts r run_fault.NoMemory all is spoiled in_order =
-        out_after e refl (inr (far.stands, far.as_many ∙ all))
 
     -- ---- the readers
 
     module _ (after : S) (accounts : List Account) (all : k ≡ length s.frames)
         (are : (u : State i64_values) → EngineStands meaning e u → accounts ≡ accounts_of u) where
-      -- their lines were put
-      readers_put : (u : Unit {0}) → ((frames : List (Frame ℤ)) → IsCompleteRun frames (state_of s))
-          → Appends (contents now) (contents after) (accounts_text s accounts) → failures after ≡ failures now
-          → Leaves (Ok u) old after e
-      readers_put u complete puts quiet =
+      -- what came of the put of their lines
+      pub readers_done : (came : Result (Unit {0}) ReportFault)
+          → ((frames : List (Frame ℤ)) → IsCompleteRun frames (state_of s))
+          → OnOk came (Appends (contents now) (contents after) (accounts_text s accounts))
+          → OnOk came (failures after ≡ failures now)
+          → OnErr came (AppendsPrefix (contents now) (contents after) (accounts_text s accounts))
+          → (came ≡ Err report_fault.Write → failures after ≡ one_failure_more (failures now))
+          → (came ≡ Err report_fault.NoMemory → after ≡ now)
+          → IfErr came (λ fault. (fault ≡ report_fault.Write) ⊎ (fault ≡ report_fault.NoMemory))
+          → Leaves came old after e
+      -- they were put
+      readers_done (Ok u) complete puts quiet prefix write memory faults =
           let whole = rw (all, take-length) at far.is_run in (
             record {
               logs = far.logs;
@@ -303,23 +288,18 @@ module _ {S : Type 0} (contents : S → Option (List ℕ)) (failures : S → ℕ
               run = λ is. absurd cc;
             },
           )
-
-      -- their lines were put in part
-      readers_stopped : (fault : ReportFault) → EndsInText (Err fault)
-          → AppendsPrefix (contents now) (contents after) (accounts_text s accounts)
-          → (ended fault ≡ ended report_fault.Write → failures after ≡ one_failure_more (failures now))
-          → (ended fault ≡ ended report_fault.NoMemory → after ≡ now) → Leaves (Err fault) old after e
-      readers_stopped fault in_text puts write memory =
+      -- they were put in part
+      readers_done (Err fault) complete puts quiet prefix write memory faults =
           let many = far.as_many in
           let texts = frames_text s 1 s.frames far.logs in
           let lines = accounts_text s (accounts_of far.state) in
-          let part : AppendsPrefix (contents now) (contents after) lines = rw (← are far.state far.stands) puts in
+          let part : AppendsPrefix (contents now) (contents after) lines = rw (← are far.state far.stands) prefix in
           let trans = Appends-trans (contents old) (contents now) (contents after) texts part.0 far.printed part.3 in
           let n = length far.logs - 1 in
           let begun = take n far.logs in
           let rest = frames_text s (1 + length begun) (drop (length begun) s.frames) (drop n far.logs) in
           let whole = rw take-append-drop at (frames_text-append s 1 s.frames begun (drop n far.logs)) in
-          left_in_text fault in_text old after e far.logs far.state (rw many far.is_run)
+          left_in_text fault (in_text_by fault faults) old after e far.logs far.state (rw many far.is_run)
           (AppendsPrefix_after (contents old) (contents now) (contents after) texts lines [] _
           (rw (eq-eqb (length far.logs) (length s.frames) (many ∙ all)) (sym (append-nil (texts ++ lines))))
           far.printed part)
@@ -327,17 +307,3 @@ module _ {S : Type 0} (contents : S → Option (List ℕ)) (failures : S → ℕ
           (inr (many ∙ all, (part.0, trans)))
           (λ is. rw (← far.quiet) (write is)) (λ is. ap failures (memory is) ∙ far.quiet) far.begun far.stands
           (omega (arith, far.counted, many))
-
-      -- what came of the put of their lines
-      pub readers_done : (came : Result (Unit {0}) ReportFault)
-          → ((frames : List (Frame ℤ)) → IsCompleteRun frames (state_of s))
-          → OnOk came (Appends (contents now) (contents after) (accounts_text s accounts))
-          → OnOk came (failures after ≡ failures now)
-          → OnErr came (AppendsPrefix (contents now) (contents after) (accounts_text s accounts))
-          → (came ≡ Err report_fault.Write → failures after ≡ one_failure_more (failures now))
-          → (came ≡ Err report_fault.NoMemory → after ≡ now)
-          → IfErr came (λ fault. (fault ≡ report_fault.Write) ⊎ (fault ≡ report_fault.NoMemory))
-          → Leaves came old after e
-      readers_done (Ok u) complete puts quiet part write memory faults = readers_put u complete puts quiet
-      readers_done (Err fault) complete puts quiet part write memory faults =
-          readers_stopped fault (in_text_by fault faults) part write memory

@@ -101,13 +101,10 @@ posts_text s posts answers = flat_map (λ p. post_line s p.0.0 p.1) (zip posts a
 abbrev pub op_start : Scenario → Text → Op ℤ → Text
 op_start s name this = name ++ codes " " ++ op_text s this
 
--- the line of an op of the system with this name
-abbrev pub op_line : Scenario → Text → Op ℤ → Reply ℤ → Text
-op_line s name this answer = answered_line s (op_start s name this) answer
-
--- a line for each op
+-- a line for each op of the system with this name
 abbrev pub ops_text : Scenario → Text → List (Op ℤ) → List (Reply ℤ) → Text
-ops_text s name ops answers = flat_map (λ p. op_line s name p.0 p.1) (zip ops answers)
+ops_text s name ops answers =
+    flat_map (λ p. answered_line s (op_start s name p.0) p.1) (zip ops answers)
 
 -- what came of a system's turn
 abbrev pub outcome_text : Scenario → SystemSpec → Outcome ℤ → Text

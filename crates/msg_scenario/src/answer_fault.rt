@@ -1,4 +1,5 @@
 ghost use Rattle.std.specs.Prelude.{◌≡◌};
+ghost use Rattle.msg_scenario.specs.declared.answer_fault.AnswerFault.TheVariants.{NoMemory as NoEngine, Refused as IsRefused, Report as NotReported};
 
 use msg_json::{Refusal, ReportFault};
 use msg_world::NoMemory;
@@ -22,8 +23,6 @@ pub enum AnswerFault {
 }
 
 impl From<Refusal> for AnswerFault {
-    ghost use Rattle.msg_scenario.specs.declared.answer_fault.AnswerFault.TheVariants.{Refused as IsRefused};
-
     ghost from_gives = { λ refusal fault. fault ≡ IsRefused refusal };
 
     fn from(refusal: Refusal) -> Self {
@@ -32,8 +31,6 @@ impl From<Refusal> for AnswerFault {
 }
 
 impl From<NoMemory> for AnswerFault {
-    ghost use Rattle.msg_scenario.specs.declared.answer_fault.AnswerFault.TheVariants.{NoMemory as NoEngine};
-
     ghost from_gives = { λ _ fault. fault ≡ NoEngine };
 
     fn from(_error: NoMemory) -> Self {
@@ -42,8 +39,6 @@ impl From<NoMemory> for AnswerFault {
 }
 
 impl From<ReportFault> for AnswerFault {
-    ghost use Rattle.msg_scenario.specs.declared.answer_fault.AnswerFault.TheVariants.{Report as NotReported};
-
     ghost from_gives = { λ came fault. fault ≡ NotReported came };
 
     fn from(came: ReportFault) -> Self {

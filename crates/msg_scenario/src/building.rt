@@ -6,25 +6,17 @@ ghost use Rattle.msg_exec.specs.Prelude.{EachIs, EngineStands};
 ghost use Rattle.msg_scenario.specs.Prelude.{IsSystemAt};
 ghost use Rattle.msg_reading.specs.Prelude.{IsRunnable, first_world, places_of, state_of};
 
-use msg_exec::{BuildRefusal, EngineOf, Items, NoMemory, Place};
-use msg_order::Rule;
-use msg_reading::{Scenario, SystemSpec};
+use msg_exec::{BuildRefusal, EngineOf, NoMemory, Place};
+use msg_reading::{Name, Scenario, SystemSpec};
 use msg_system::{MAX_OPS, Scripted, SystemOf};
 use msg_world::{MAX_RESOURCES, MAX_TYPES, World};
 use std::alloc::Global;
 
-fn limits_of(alloc: Global, scenario: &Scenario) -> Result<Vec<u64>, NoMemory>
-    ensures limits { IfOk result (λ v. v.items ≡ map (λ named. named.1) scenario.now.types) }
+/// What stands beside each name.
+fn beside_names<T: Copy>(alloc: Global, named: &[(Name, T)]) -> Result<Vec<T>, NoMemory>
+    ensures beside { IfOk result (λ v. v.items ≡ map (λ pair. pair.1) named.now) }
 {
-    let types = scenario.types.as_slice();
-    types.iter().map(|(_, limit)| *limit).collect(alloc)
-}
-
-fn values_of(alloc: Global, scenario: &Scenario) -> Result<Vec<i64>, NoMemory>
-    ensures values { IfOk result (λ v. v.items ≡ map (λ named. named.1) scenario.now.resources) }
-{
-    let resources = scenario.resources.as_slice();
-    resources.iter().map(|(_, value)| *value).collect(alloc)
+    named.iter().map(|(_, value)| *value).collect(alloc)
 }
 
 /// The world before the first frame.
@@ -36,23 +28,13 @@ fn world_of(alloc: Global, scenario: &Scenario) -> Result<World, NoMemory>
     ensures types { IfOk result (λ w. length w.types ≡ length scenario.now.types) }
     ensures resources { IfOk result (λ w. length w.resources ≡ length scenario.now.resources) }
 {
-    let limits = limits_of(alloc, scenario)?;
-    let values = values_of(alloc, scenario)?;
+    let limits = beside_names(alloc, scenario.types.as_slice())?;
+    let values = beside_names(alloc, scenario.resources.as_slice())?;
     let mut world = World::new(alloc, &limits, &values)?;
     if scenario.held {
         world.set_held();
     }
     Ok(world)
-}
-
-fn copy_place(alloc: Global, place: &Place) -> Result<Place, NoMemory>
-    ensures equal { IfOk result (λ p. p ≡ place.now) }
-{
-    let conditions = Vec::from_slice(alloc, place.conditions.as_slice())?;
-    Ok(Place {
-        conditions: Items::from_vec(conditions),
-        join: place.join,
-    })
 }
 
 /// The conditions and the join frame of each system.
@@ -61,15 +43,11 @@ fn places_of(alloc: Global, scenario: &Scenario) -> Result<Vec<Place>, NoMemory>
 {
     let mut places = Vec::new(alloc);
     for system in scenario.systems.as_slice() {
-        places.push(copy_place(alloc, &system.place)?)?;
+        let conditions = system.place.conditions.copy(alloc)?;
+        let join = system.place.join;
+        places.push(Place { conditions, join })?;
     }
     Ok(places)
-}
-
-fn rules_of(alloc: Global, scenario: &Scenario) -> Result<Vec<Rule>, NoMemory>
-    ensures rules { IfOk result (λ v. v.items ≡ scenario.now.rules) }
-{
-    Vec::from_slice(alloc, scenario.rules.as_slice())
 }
 
 /// The system of a spec, which writes as this number.
@@ -112,7 +90,7 @@ pub fn engine_of<S: SystemOf<Value = i64>>(
     ensures meaning { IfOk result (λ e. EngineStands S.meaning e (state_of scenario.now)) }
 {
     let places = places_of(alloc, scenario)?;
-    let rules = rules_of(alloc, scenario)?;
+    let rules = scenario.rules.copy(alloc)?.into_vec();
     let world = world_of(alloc, scenario)?;
     match EngineOf::new(alloc, world, systems, places, rules) {
         Ok(engine) => Ok(engine),

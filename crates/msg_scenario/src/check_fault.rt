@@ -1,4 +1,6 @@
 ghost use Rattle.std.specs.Prelude.{◌≡◌};
+ghost use Rattle.msg_json.specs.declared.report_fault.ReportFault.TheVariants.{NoMemory as NoRoom};
+ghost use Rattle.msg_scenario.specs.declared.check_fault.CheckFault.TheVariants.{Report as NotReported};
 
 use msg_json::{Refusal, ReportFault};
 use msg_world::NoMemory;
@@ -16,9 +18,6 @@ pub enum CheckFault {
 }
 
 impl From<NoMemory> for CheckFault {
-    ghost use Rattle.msg_scenario.specs.declared.check_fault.CheckFault.TheVariants.{Report as NotReported};
-    ghost use Rattle.msg_json.specs.declared.report_fault.ReportFault.TheVariants.{NoMemory as NoRoom};
-
     ghost from_gives = { λ _ fault. fault ≡ NotReported NoRoom };
 
     fn from(_error: NoMemory) -> Self {
@@ -27,8 +26,6 @@ impl From<NoMemory> for CheckFault {
 }
 
 impl From<ReportFault> for CheckFault {
-    ghost use Rattle.msg_scenario.specs.declared.check_fault.CheckFault.TheVariants.{Report as NotReported};
-
     ghost from_gives = { λ came fault. fault ≡ NotReported came };
 
     fn from(came: ReportFault) -> Self {

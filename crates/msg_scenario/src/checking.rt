@@ -1,10 +1,10 @@
 // A file that is checked, and not run.
-ghost use Rattle.std.specs.Prelude.{◌≡◌, [], IfErr, OnOk};
+ghost use Rattle.std.specs.Prelude.{◌≡◌, ◌≢◌, [], IfErr, OnOk};
 ghost use Rattle.serde_json.specs.View.{view};
 ghost use Rattle.msg_reading.specs.Prelude.{IsRunnable};
-ghost use Rattle.msg_json.specs.Prelude.{AppendsAtLeast};
-ghost use Rattle.msg_scenario.specs.Checked.{EndsCheck, IsEither, Passes};
-ghost use Rattle.msg_scenario.specs.inner.Checking.{EndsFor, EndsForEither, EndsBeforeText};
+ghost use Rattle.msg_json.specs.Prelude.{AppendsAtLeast, reason_refusal};
+ghost use Rattle.msg_scenario.specs.Checked.{EndsCheck, FailsFor, IsEither, Passes};
+ghost use Rattle.msg_scenario.specs.inner.Checking.{EndsIf, IsRefusalOfEither};
 
 use crate::CheckFault;
 use msg_advice::{fault_lines, remarks_of, unfit_lines};
@@ -40,7 +40,7 @@ pub fn check_bytes<S: Sink>(alloc: Global, bytes: &[u8], sink: &mut S) -> Result
 /// scenario; or the lines that tell where they are refused, and why.
 fn check(alloc: Global, bytes: &[u8]) -> Result<Vec<u8>, CheckFault>
     ensures passed { OnOk result (Passes bytes.now) }
-    ensures refused { IfErr result (EndsBeforeText bytes.now) }
+    ensures refused { IfErr result (EndsIf (FailsFor bytes.now)) }
 {
     match parse(alloc, bytes) {
         Ok(value) => {
@@ -59,7 +59,7 @@ fn check(alloc: Global, bytes: &[u8]) -> Result<Vec<u8>, CheckFault>
 /// The same, of the value that the bytes are a text of.
 fn check_value(alloc: Global, value: &Value) -> Result<Vec<u8>, CheckFault>
     ensures passed { OnOk result (IsEither (view value.now)) }
-    ensures refused { IfErr result (EndsForEither (view value.now)) }
+    ensures refused { IfErr result (EndsIf (IsRefusalOfEither (view value.now))) }
 {
     if is_calls_file(value) {
         match read_file(alloc, value) {
@@ -76,7 +76,8 @@ fn check_value(alloc: Global, value: &Value) -> Result<Vec<u8>, CheckFault>
 
 /// What ends the check at a fault of a value: the lines that tell of it, or want of memory.
 fn tell(alloc: Global, fault: &Fault, value: &Value) -> CheckFault
-    ensures ends { EndsFor fault.now result }
+    ensures ends { EndsIf (λ why. (fault.now.reason ≢ Reason.NoMemory)
+        × (why ≡ reason_refusal fault.now.reason)) result }
 {
     if matches!(fault.reason, Reason::NoMemory) {
         return CheckFault::Report(ReportFault::NoMemory);
@@ -87,27 +88,20 @@ fn tell(alloc: Global, fault: &Fault, value: &Value) -> CheckFault
     }
 }
 
-/// The lines that tell of a fault of a value.
+/// The lines that tell of a fault of a value, and what there is to tell of a scenario that is
+/// refused as a whole.
 fn lines_of(alloc: Global, fault: &Fault, value: &Value) -> Result<Vec<u8>, NoMemory> {
     let mut text = fault_lines(alloc, fault, value)?.into_bytes();
     if matches!(fault.reason, Reason::Clash(_) | Reason::Cycle(_)) {
-        add_unfit(alloc, &mut text, fault.reason, value)?;
+        match read_sections(alloc, value) {
+            Ok(scenario) => {
+                text.extend_from_slice(&unfit_lines(alloc, &scenario, fault.reason)?)?;
+            }
+            Err(fault) if matches!(fault.reason, Reason::NoMemory) => return Err(NoMemory),
+            Err(_) => {}
+        }
     }
     Ok(text)
-}
-
-/// Adds what there is to tell of a scenario that is refused as a whole.
-fn add_unfit(
-    alloc: Global,
-    text: &mut Vec<u8>,
-    why: Reason,
-    value: &Value,
-) -> Result<(), NoMemory> {
-    match read_sections(alloc, value) {
-        Ok(scenario) => text.extend_from_slice(&unfit_lines(alloc, &scenario, why)?),
-        Err(fault) if matches!(fault.reason, Reason::NoMemory) => Err(NoMemory),
-        Err(_) => Ok(()),
-    }
 }
 
 /// The lines that tell where bytes stop to be JSON.
@@ -124,27 +118,30 @@ fn tell_scenario(alloc: Global, scenario: &Scenario) -> Result<Vec<u8>, NoMemory
     requires runnable { IsRunnable scenario.now }
 {
     let mut text = Vec::new(alloc);
-    add_counts(&mut text, scenario)?;
-    text.extend_from_slice(&remarks_of(alloc, scenario)?)?;
-    Ok(text)
-}
-
-/// Adds the counts of a scenario.
-fn add_counts(text: &mut Vec<u8>, scenario: &Scenario) -> Result<(), NoMemory> {
-    add_count(text, b"ok: ", scenario.systems.as_slice().len() as u64)?;
-    add_count(text, b" systems, ", scenario.types.as_slice().len() as u64)?;
+    add_count(&mut text, b"ok: ", scenario.systems.as_slice().len() as u64)?;
     add_count(
-        text,
+        &mut text,
+        b" systems, ",
+        scenario.types.as_slice().len() as u64,
+    )?;
+    add_count(
+        &mut text,
         b" types, ",
         scenario.resources.as_slice().len() as u64,
     )?;
     add_count(
-        text,
+        &mut text,
         b" resources, ",
         scenario.rules.as_slice().len() as u64,
     )?;
-    add_count(text, b" rules, ", scenario.frames.as_slice().len() as u64)?;
-    text.extend_from_slice(b" frames\n")
+    add_count(
+        &mut text,
+        b" rules, ",
+        scenario.frames.as_slice().len() as u64,
+    )?;
+    text.extend_from_slice(b" frames\n")?;
+    text.extend_from_slice(&remarks_of(alloc, scenario)?)?;
+    Ok(text)
 }
 
 /// The counts of a calls file.

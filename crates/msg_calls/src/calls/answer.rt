@@ -1,7 +1,7 @@
 // One call on a buffer and its cursors, and its line.
 ghost use Rattle.std.specs.Prelude.{◌≡◌, ◌<◌, ℤ, ◌++◌, ◌∷◌, [], OnOk, codes, decimal, length, true};
-ghost use Rattle.msg_buffer.specs.Prelude.{History, StandsFor, get, write};
-ghost use Rattle.msg_calls.specs.{inner.Running.AreIn, Prelude.BufferState, Prelude.after, Prelude.has_cursor, Prelude.pairs_text, Prelude.line, Prelude.value_text, Prelude.range_text};
+ghost use Rattle.msg_buffer.specs.Prelude.{History, StandsFor, write};
+ghost use Rattle.msg_calls.specs.{inner.Running.AreIn, Prelude.BufferState, Prelude.after, Prelude.has_cursor, Prelude.pairs_text, Prelude.line, Prelude.range_text};
 
 use crate::call::Call;
 use crate::calls::text::{add_found, add_items, add_unread};
@@ -45,7 +45,12 @@ pub fn answer(
         Call::Clear(cursor) => clear(*cursor, messages, cursors, text),
         Call::Cursor => make(messages.get_cursor(), cursors, text),
         Call::CursorCurrent => make(messages.get_cursor_current(), cursors, text),
-        Call::Get(number) => get(*number, messages, text),
+        Call::Get(number) => {
+            add_count(text, b"get ", *number)?;
+            text.extend_from_slice(b" ")?;
+            add_found(text, messages.get(MessageId(*number)))?;
+            text.extend_from_slice(b"\n")
+        }
         Call::Current => add_list(text, b"current:", messages.current()),
         Call::Oldest => add_line(text, b"oldest ", messages.oldest()),
         Call::Count => add_line(text, b"count ", messages.count()),
@@ -129,18 +134,6 @@ fn write_batch(
         Err(BatchRefusal::NumbersSpent(_)) => text.extend_from_slice(b"batch spent\n"),
         Err(BatchRefusal::NoMemory(_)) => Err(NoMemory),
     }
-}
-
-fn get(number: u64, messages: &Messages<i64>, text: &mut Vec<u8>) -> Result<(), NoMemory>
-    ensures { OnOk result ((h : History ℤ) → StandsFor messages.now h
-        → text.new.items ≡ text.old.items
-        ++ (codes "get " ++ decimal number ++ codes " " ++ value_text (get h number)
-        ++ codes "\n")) }
-{
-    add_count(text, b"get ", number)?;
-    text.extend_from_slice(b" ")?;
-    add_found(text, messages.get(MessageId(number)))?;
-    text.extend_from_slice(b"\n")
 }
 
 /// One cursor more.

@@ -57,7 +57,8 @@ pub fn run_calls<S: Sink>(alloc: Global, calls: &Calls, sink: &mut S) -> Result<
 }
 
 /// Makes a call, and gathers its line, which is made in `line` first. If there is no memory for
-/// the call, it puts the lines that were gathered.
+/// the call, it puts the lines that were gathered. It puts them too if they are `FLUSH_BYTES` or
+/// more, or if there is no memory to gather the line, and then the line.
 fn answer_next<S: Sink>(
     call: &Call,
     messages: &mut Messages<i64>,
@@ -85,32 +86,16 @@ fn answer_next<S: Sink>(
         (λ fault. (fault ≡ ReportFault.Write) ⊎ (fault ≡ ReportFault.NoMemory)) }
 {
     line.clear();
-    match answer(*gathered.allocator(), call, messages, cursors, line) {
-        Ok(()) => gather(gathered, line.as_slice(), sink),
-        Err(_) => {
-            put_text(gathered.as_slice(), sink)?;
-            Err(ReportFault::NoMemory)
-        }
-    }
-}
-
-/// Adds a line to the gathered bytes. If there are `FLUSH_BYTES` of them or more, or no memory for
-/// the line, it puts them into the sink, and then the line.
-fn gather<S: Sink>(gathered: &mut Vec<u8>, line: &[u8], sink: &mut S) -> Result<(), ReportFault>
-    ensures ok { OnOk result (TakesFront (S.contents sink.old) (S.contents sink.new)
-        (gathered.old.items ++ line.now) gathered.new.items) }
-    ensures quiet { OnOk result (S.failures sink.new ≡ S.failures sink.old) }
-    ensures prefix { OnErr result (AppendsPrefix (S.contents sink.old) (S.contents sink.new)
-        (gathered.old.items ++ line.now)) }
-    ensures write { OnErr result (S.failures sink.new ≡ one_failure_more (S.failures sink.old)) }
-    ensures only_write { IfErr result (λ fault. fault ≡ ReportFault.Write) }
-{
-    if add_where_room(gathered, line) {
+    let Ok(()) = answer(*gathered.allocator(), call, messages, cursors, line) else {
+        put_text(gathered.as_slice(), sink)?;
+        return Err(ReportFault::NoMemory);
+    };
+    if add_where_room(gathered, line.as_slice()) {
         return Ok(());
     }
     put_text(gathered.as_slice(), sink)?;
     gathered.clear();
-    put_text(line, sink)
+    put_text(line.as_slice(), sink)
 }
 
 /// Adds a line unless many are there or memory is refused, and tells whether it did.

@@ -1,8 +1,8 @@
 // The parts of a line, made in memory.
-ghost use Rattle.std.specs.Prelude.{◌≡◌, ◌++◌, ℤ, List, [], IsOk, OnOk, codes, length};
+ghost use Rattle.std.specs.Prelude.{◌≡◌, ◌++◌, ℤ, List, OnOk, codes, length};
 ghost use Rattle.std.specs.Option.{option_copied};
 ghost use Rattle.msg_buffer.specs.Prelude.{History, StandsFor, at_most, given, next_place, read};
-ghost use Rattle.msg_calls.specs.Prelude.{pair_text, pairs_text, more_pairs, value_text};
+ghost use Rattle.msg_calls.specs.Prelude.{pair_text, pairs_text, value_text};
 
 use msg_buffer::{Instance, MessageCursor, MessageId, Messages, NoMemory};
 use msg_json::numerals::{add_pair, add_value};
@@ -31,16 +31,9 @@ pub fn add_items(text: &mut Vec<u8>, items: &[Instance<i64>]) -> Result<(), NoMe
     ensures appends { OnOk result
         (text.new.items ≡ text.old.items ++ (codes " " ++ pairs_text items.now)) }
 {
-    match items {
-        [] => text.extend_from_slice(b" none"),
-        [_, ..] => add_more(text, items),
+    if items.is_empty() {
+        return text.extend_from_slice(b" none");
     }
-}
-
-fn add_more(text: &mut Vec<u8>, items: &[Instance<i64>]) -> Result<(), NoMemory>
-    ensures appends { OnOk result (text.new.items ≡ text.old.items ++ more_pairs items.now) }
-    ensures no_memory { items.now ≡ [] → IsOk result }
-{
     for item in items {
         add_item(text, item.id, &item.message)?;
     }

@@ -1,5 +1,5 @@
 // What the lines of a system's turns begin with, which is the same in each frame.
-ghost use Rattle.std.specs.Prelude.{◌≡◌, ◌++◌, IfOk, codes, map};
+ghost use Rattle.std.specs.Prelude.{◌≡◌, IfOk, map};
 ghost use Rattle.msg_scenario.specs.Prelude.{op_start};
 ghost use Rattle.msg_scenario.specs.inner.LineStarts.{AreLines, lines_of, texts_in};
 
@@ -46,16 +46,6 @@ fn starts_of(
     Ok(starts)
 }
 
-/// The line of a turn that was skipped.
-fn skipped_of(alloc: Global, name: &Name) -> Result<Vec<u8>, NoMemory>
-    ensures made { IfOk result (λ line. line.items ≡ name.now ++ codes " skipped\n") }
-{
-    let mut line = Vec::new(alloc);
-    add_name(&mut line, name)?;
-    line.extend_from_slice(b" skipped\n")?;
-    Ok(line)
-}
-
 fn system_lines(
     alloc: Global,
     scenario: &Scenario,
@@ -63,7 +53,9 @@ fn system_lines(
 ) -> Result<SystemLines, NoMemory>
     ensures made { IfOk result (λ lines. texts_in lines ≡ lines_of scenario.now system.now) }
 {
-    let skipped = skipped_of(alloc, &system.name)?;
+    let mut skipped = Vec::new(alloc);
+    add_name(&mut skipped, &system.name)?;
+    skipped.extend_from_slice(b" skipped\n")?;
     let starts = starts_of(alloc, scenario, &system.name, system.program.ops.as_slice())?;
     Ok(SystemLines { skipped, starts })
 }

@@ -21,54 +21,30 @@ pub fn add_reply(text: &mut Vec<u8>, scenario: &Scenario, reply: &Reply) -> Resu
         Reply::Read(took) => add_took(text, scenario, took),
         Reply::Len(n) => add_count(text, b" ", *n),
         Reply::Missed(n) => add_count(text, b" ", *n),
-        Reply::Cleared { missed, n, .. } => add_cleared(text, *missed, *n),
-        Reply::Forwarded { took, wrote } => add_forwarded(text, scenario, took, *wrote),
-        Reply::Summed { took, value } => add_summed(text, scenario, took, *value),
+        Reply::Cleared { missed, n, .. } => {
+            add_count(text, b" missed ", *missed)?;
+            add_count(text, b" cleared ", *n)
+        }
+        Reply::Forwarded { took, wrote } => {
+            add_took(text, scenario, took)?;
+            match wrote {
+                Some(numbers) => add_numbers(text, b"; ", *numbers),
+                None => text.extend_from_slice(b"; spent"),
+            }
+        }
+        Reply::Summed { took, value } => {
+            add_took(text, scenario, took)?;
+            add_after(text, b"; ", *value)
+        }
         Reply::Value(value) => add_after(text, b" ", *value),
-        Reply::Drained { first, items } => add_drained(text, scenario, *first, items.as_slice()),
+        Reply::Drained { first, items } => {
+            text.extend_from_slice(b":")?;
+            add_items(text, scenario, *first, items.as_slice())
+        }
         Reply::Signalled => Ok(()),
         Reply::Outside(_) => text.extend_from_slice(b" outside"),
         Reply::Full(_) => text.extend_from_slice(b" full"),
     }
-}
-
-fn add_cleared(text: &mut Vec<u8>, missed: u64, n: u64) -> Result<(), NoMemory>
-    ensures { OnOk result (text.new.items ≡ text.old.items
-        ++ (codes " missed " ++ decimal missed ++ codes " cleared " ++ decimal n)) }
-{
-    add_count(text, b" missed ", missed)?;
-    add_count(text, b" cleared ", n)
-}
-
-fn add_forwarded(
-    text: &mut Vec<u8>,
-    scenario: &Scenario,
-    took: &Took,
-    wrote: Option<Written>,
-) -> Result<(), NoMemory>
-    ensures { OnOk result (text.new.items ≡ text.old.items
-        ++ (codes " " ++ Spec.took_text scenario.now took.now
-        ++ codes "; " ++ Spec.written_text wrote)) }
-{
-    add_took(text, scenario, took)?;
-    match wrote {
-        Some(numbers) => add_numbers(text, b"; ", numbers),
-        None => text.extend_from_slice(b"; spent"),
-    }
-}
-
-fn add_summed(
-    text: &mut Vec<u8>,
-    scenario: &Scenario,
-    took: &Took,
-    value: i64,
-) -> Result<(), NoMemory>
-    ensures { OnOk result (text.new.items ≡ text.old.items
-        ++ (codes " " ++ Spec.took_text scenario.now took.now
-        ++ codes "; " ++ signed_decimal value)) }
-{
-    add_took(text, scenario, took)?;
-    add_after(text, b"; ", value)
 }
 
 /// A value after a head.
@@ -78,19 +54,6 @@ fn add_after(text: &mut Vec<u8>, head: &[u8], value: i64) -> Result<(), NoMemory
 {
     text.extend_from_slice(head)?;
     add_value(text, value)
-}
-
-fn add_drained(
-    text: &mut Vec<u8>,
-    scenario: &Scenario,
-    first: u64,
-    items: &[Record],
-) -> Result<(), NoMemory>
-    ensures { OnOk result (text.new.items ≡ text.old.items
-        ++ (codes ": " ++ Spec.items_text scenario.now first items.now)) }
-{
-    text.extend_from_slice(b":")?;
-    add_items(text, scenario, first, items)
 }
 
 /// The numbers that were written, after a head.

@@ -1,8 +1,8 @@
 // One call of a file, by its head and the number of parts that follow it.
-ghost use Rattle.std.specs.Prelude.{◌≡◌, ◌≤◌, ◌<◌, IfOk, MatchResult, map};
+ghost use Rattle.std.specs.Prelude.{◌≡◌, ◌<◌, IfOk};
 ghost use Rattle.serde_json.specs.View.{view};
 ghost use Rattle.msg_calls.specs.CallsFormat as Spec;
-ghost use Rattle.msg_json.specs.{Faults.Reads, Faults.fault, Faults.in_element};
+ghost use Rattle.msg_json.specs.{Faults.Reads, Faults.in_element};
 ghost use Rattle.msg_calls.specs.inner.Cursors.{FitsCursors};
 
 use crate::call::Call;
@@ -10,7 +10,7 @@ use crate::calls::read::part;
 use crate::limits::MAX_CURSORS;
 use msg_json::fault::inside;
 use msg_json::json::head_and_parts;
-use msg_json::{Fault, PathStep, Reason};
+use msg_json::{Fault, PathStep, Reason, numbers};
 use serde_json::Value;
 use std::alloc::Global;
 
@@ -27,13 +27,6 @@ fn read_headed(alloc: Global, made: u32, value: &Value) -> Result<Call, Fault>
     ensures fits { IfOk result (FitsCursors made) }
 {
     let (head, parts) = head_and_parts(value)?;
-    read_parts(alloc, made, head, parts)
-}
-
-fn read_parts(alloc: Global, made: u32, head: &str, parts: &[Value]) -> Result<Call, Fault>
-    ensures call { Reads (Spec.call_with made head.now (map view parts.now)) result }
-    ensures fits { IfOk result (FitsCursors made) }
-{
     match parts {
         [] => read_bare(made, head),
         [part] => read_with_one(alloc, made, head, part),
@@ -48,14 +41,8 @@ fn read_bare(made: u32, head: &str) -> Result<Call, Fault>
 {
     match head {
         "update" => Ok(Call::Update),
-        "cursor" => {
-            room_for_cursor(made)?;
-            Ok(Call::Cursor)
-        }
-        "cursor_current" => {
-            room_for_cursor(made)?;
-            Ok(Call::CursorCurrent)
-        }
+        "cursor" => one_cursor_more(made, Call::Cursor),
+        "cursor_current" => one_cursor_more(made, Call::CursorCurrent),
         "current" => Ok(Call::Current),
         "oldest" => Ok(Call::Oldest),
         "count" => Ok(Call::Count),
@@ -66,13 +53,13 @@ fn read_bare(made: u32, head: &str) -> Result<Call, Fault>
     }
 }
 
-/// Whether one cursor more may be made.
-fn room_for_cursor(made: u32) -> Result<(), Fault>
-    ensures room { MatchResult result (λ _. made < MAX_CURSORS)
-        (λ e. (e ≡ fault (Reason.AtMost MAX_CURSORS)) × (MAX_CURSORS ≤ made)) }
+/// A call that makes a cursor, if one more may be made.
+fn one_cursor_more(made: u32, call: Call) -> Result<Call, Fault>
+    ensures call { result ≡ Spec.one_cursor_more made call }
+    ensures room { IfOk result (λ c. (c ≡ call) × (made < MAX_CURSORS)) }
 {
     if made < MAX_CURSORS {
-        Ok(())
+        Ok(call)
     } else {
         Err(Fault::here(Reason::AtMost(MAX_CURSORS as usize)))
     }
@@ -83,8 +70,8 @@ fn read_with_one(alloc: Global, made: u32, head: &str, part: &Value) -> Result<C
     ensures fits { IfOk result (FitsCursors made) }
 {
     match head {
-        "write" => Ok(Call::Write(part::value(part)?)),
-        "batch" => Ok(Call::Batch(part::values(alloc, part)?)),
+        "write" => Ok(Call::Write(inside(PathStep::Part(1), numbers::value(part))?)),
+        "batch" => Ok(Call::Batch(inside(PathStep::Part(1), numbers::values(alloc, part))?)),
         "read" => Ok(Call::Read(part::cursor(made, part)?, None)),
         "missed" => Ok(Call::Missed(part::cursor(made, part)?)),
         "len" => Ok(Call::Len(part::cursor(made, part)?)),

@@ -17,7 +17,8 @@ returns-in-Ok g c =
       meaning = rw (
         made,
         c.in_ok-places.ensures.places,
-        c.in_ok-rules.ensures.rules,
+        c.into_vec-rules.ensures.items,
+        c.in_ok-copy.ensures.equal,
         c.in_ok-world.ensures.types,
         c.in_ok-world.ensures.resources,
       ) at (c.in-Ok.ensures.since (first_world s) c.in_ok-world.ensures.meaning).stands;
@@ -31,5 +32,5 @@ unreachable-requires g c =
 pub unreachable-requires-in-Err-Cycle : goal.unreachable-requires-in-Err-Cycle
 unreachable-requires-in-Err-Cycle g c =
     let lowest = (rw c.in-Err-Cycle.field-0-is at c.in-Err-Cycle.ensures.refusal).1 in
-    (rw (← c.in_ok-rules.ensures.rules) at c.requires.runnable.acyclic)
+    (rw (← c.in_ok-copy.ensures.equal, ← c.into_vec-rules.ensures.items) at c.requires.runnable.acyclic)
     c.in-Err-Cycle.field-0-0 lowest.on_cycle

@@ -1,10 +1,10 @@
-use Rattle.std.proofs.Common.{[], ap, arith, length, refl, ◌∙◌}
+use Rattle.std.proofs.Common.{[], ap, arith, inr, length, refl, ◌∙◌}
 use Rattle.std.proofs.lemmas.Result.{err_from_is_err_and}
 use Rattle.msg_reading.specs.Prelude.{state_of}
 use Rattle.std.proofs.KnownBytes.{Appends-nil}
 use Rattle.msg_frames.proofs.ReaderOverRun.{runs_are_complete}
 use Rattle.msg_exec.proofs.EngineRunsFrames.{has_counted, is_alive, is_sound}
-use Rattle.msg_scenario.proofs.{TextsByPieces.zip-nil, Reporting.ended, Reporting.no_memory_for_accounts, Reporting.readers_done, Reporting.stopped_before_all}
+use Rattle.msg_scenario.proofs.{TextsByPieces.zip-nil, Reporting.ended, Reporting.no_memory, Reporting.readers_done, Reporting.stopped_before_all}
 use Rattle.msg_scenario.proofs.reports.run.report.Goals as goal
 
 pub loop-init : goal.loop-init
@@ -60,7 +60,7 @@ returns-in-Ok g c =
 
 pub returns : goal.returns
 returns g c = record {
-  leaves = no_memory_for_accounts _ _ _ _ _ _ _ _ _ c.loop.invariant.0 _ _
-      (omega (arith, ap length c.as_slice-items.ensures.items)) c.in-Err.is
-      (λ e. c.accounts.ensures.spoiled.0 e) c.accounts.ensures.no_bad_order;
+  leaves = no_memory _ _ _ _ _ _ _ _ _ c.loop.invariant.0 _ _ _ c.in-Err.is
+      (λ e. c.accounts.ensures.spoiled.0 e) c.accounts.ensures.no_bad_order
+      (λ e. (refl, inr (c.loop.invariant.0.stands, omega (arith, ap length c.as_slice-items.ensures.items))));
 }
