@@ -38,35 +38,19 @@ number_in most text =
     let number = digits_value 10 digits in
     if is_numeral digits && (nat_le 1 number && nat_le number most) then Some number else None
 
--- the number of workers that is asked for
-abbrev pub workers_asked : List Row → Option ℕ
-workers_asked rows = option_and_then (number_in MAX_WORKERS) (first_of (codes "workers") rows)
-
--- the frame that is asked for; no system joins after `LAST_FRAME`
-abbrev pub frame_asked : List Row → Option ℕ
-frame_asked rows = option_and_then (number_in LAST_FRAME) (first_of (codes "frame") rows)
+-- the number from 1 to `most` that an option has
+abbrev pub number_asked : Text → ℕ → List Row → Option ℕ
+number_asked option most rows = option_and_then (number_in most) (first_of option rows)
 
 -- whether this flag is among the words
 abbrev pub is_asked : Text → List Row → Bool
 is_asked flag rows = option_map_or (λ t. bytes_eq t (codes "true")) (first_of flag rows) false
 
--- a run of FILE on so many workers, if there are both
-abbrev pub run_asked : Option Text → Option ℕ → Bool → Option Request
-run_asked (Some file) (Some workers) json = Some (run file workers json)
-run_asked (Some file) None json = None
-run_asked None workers json = None
-
--- FILE served on so many workers, if there are both
-abbrev pub serve_asked : Option Text → Option ℕ → Option Request
-serve_asked (Some file) (Some workers) = Some (serve file workers)
-serve_asked (Some file) None = None
-serve_asked None workers = None
-
--- the plan of such a frame of FILE, if there are both
-abbrev pub plan_asked : Option Text → Option ℕ → Bool → Option Request
-plan_asked (Some file) (Some frame) dot = Some (plan file frame dot)
-plan_asked (Some file) None dot = None
-plan_asked None frame dot = None
+-- what is made of a FILE and a number, if there are both
+abbrev pub if_both : (Text → ℕ → Request) → Option Text → Option ℕ → Option Request
+if_both make (Some file) (Some number) = Some (make file number)
+if_both make (Some file) None = None
+if_both make None number = None
 
 -- without a subcommand, standard input; with the subcommand `buffer` or `check`, its FILE; with
 -- `run`, its FILE and N; with `plan`, its FILE, K, and whether it is for Graphviz
@@ -76,14 +60,16 @@ asked_by (Some (name, rows)) =
     if bytes_eq name (codes "buffer")
     then option_map (λ file. buffer (Some file)) (first_of (codes "FILE") rows)
     else (if bytes_eq name (codes "run")
-    then run_asked (first_of (codes "FILE") rows) (workers_asked rows)
-    (is_asked (codes "json") rows)
+    then if_both (λ file workers. run file workers (is_asked (codes "json") rows))
+    (first_of (codes "FILE") rows) (number_asked (codes "workers") MAX_WORKERS rows)
     else (if bytes_eq name (codes "check")
     then option_map (λ file. check file) (first_of (codes "FILE") rows)
     else (if bytes_eq name (codes "plan")
-    then plan_asked (first_of (codes "FILE") rows) (frame_asked rows) (is_asked (codes "dot") rows)
+    then if_both (λ file frame. plan file frame (is_asked (codes "dot") rows))
+    (first_of (codes "FILE") rows) (number_asked (codes "frame") LAST_FRAME rows)
     else (if bytes_eq name (codes "serve")
-    then serve_asked (first_of (codes "FILE") rows) (workers_asked rows) else None))))
+    then if_both serve (first_of (codes "FILE") rows)
+    (number_asked (codes "workers") MAX_WORKERS rows) else None))))
 
 -- what the words ask for, by the subcommand that clap finds in them
 abbrev pub asked : List Text → Option Request

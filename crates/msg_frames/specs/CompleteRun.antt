@@ -36,20 +36,28 @@ module _ {V : Type 0} {values : Values V} where
   abbrev pub entries_in_run : ℕ → ℕ → List (Frame V) → State values → List (ReadEntry V)
   entries_in_run i t frames s = map (λ m. m.entry) (moments i t frames s)
 
+  -- where a run found a reader
+  abbrev pub found_in_run : ℕ → ℕ → List (Frame V) → State values → ℕ
+  found_in_run i t frames s = found_at s (run frames s).state i t
+
+  -- the place of a reader after a run
+  abbrev pub place_after_run : ℕ → ℕ → List (Frame V) → State values → ℕ
+  place_after_run i t frames s = reader_place (run frames s).state i t
+
 -- What a run did for system i in type t. One that doesn't read the type has no entry there.
 pub record IsServed {V : Type 0} {values : Values V} (i t : ℕ) (frames : List (Frame V))
     (s : State values) : Type 0 where
   -- Its entries tell each number from where it was found to its place: once, in order, no other.
-  pub forward : found_at s (run frames s).state i t ≤ reader_place (run frames s).state i t
+  pub forward : found_in_run i t frames s ≤ place_after_run i t frames s
   pub once : flat_map entry_numbers (entries_in_run i t frames s)
-      ≡ range_with_len (found_at s (run frames s).state i t)
-      (reader_place (run frames s).state i t - found_at s (run frames s).state i t)
+      ≡ range_with_len (found_in_run i t frames s)
+      (place_after_run i t frames s - found_in_run i t frames s)
   -- each is true
   pub true : All (IsTrueEntry ((run frames s).state.world.histories t)) (moments i t frames s)
   -- and its totals count what they tell, from those that it had, or new ones if it joined then
   pub totals : ((run frames s).state.members i).totals t
       ≡ with_entries (entries_in_run i t frames s) (if has_joined (join_flags s) i
-      then (s.members i).totals t else totals_from (found_at s (run frames s).state i t))
+      then (s.members i).totals t else totals_from (found_in_run i t frames s))
 
 -- What a run comes to.
 pub record IsCompleteRun {V : Type 0} {values : Values V} (frames : List (Frame V))

@@ -70,38 +70,6 @@ fn kept<A: Allocator>(alloc: A, sets: &[SystemSet]) -> Result<Vec<SystemSet, A>,
     Ok(kept)
 }
 
-/// The plan, by way of sets that have no path yet. The order is settled before it takes memory.
-fn plan_over<A: Allocator + Copy>(
-    alloc: A,
-    before: &mut [SystemSet],
-    accesses: &[Access],
-    rules: &[Rule],
-    joined: &[bool],
-) -> Result<Plan<A>, PlanRefusal>
-    requires few { length accesses.now ≤ MAX_SYSTEMS }
-    requires one_each { length joined.now ≡ length accesses.now }
-    requires in_range { NameSystemsBelow (length accesses.now) rules.now }
-    requires as_many { length before.old ≡ length accesses.now }
-    requires none_yet { ArePaths [] before.old }
-    ensures plan { IfOk result (IsPlanOf accesses.now rules.now joined.now) }
-    ensures acyclic { OnOk result (IsAcyclic (rules_among joined.now rules.now)) }
-    ensures refusal { IfErr result (RefusesPlan (rules_among joined.now rules.now)) }
-    ensures no_memory { result ≡ Err NoMemory
-        → IsAcyclic (rules_among joined.now rules.now) × (0 < length accesses.now) }
-{
-    if let Some(s) = settle(before, accesses, rules, joined) {
-        return Err(PlanRefusal::Cycle(s));
-    }
-    let joined = set_of(joined);
-    let before = kept(alloc, before)?;
-    let batches = batches_of(alloc, &before, &joined)?;
-    Ok(Plan {
-        before,
-        batches,
-        joined,
-    })
-}
-
 impl<A: Allocator + Copy> Plan<A> {
     /// Settles the order of the joined systems, given by their accesses and by rules, and parts
     /// them into batches.
@@ -133,13 +101,19 @@ impl<A: Allocator + Copy> Plan<A> {
             → IsAcyclic (rules_among joined.now rules.now) × (0 < length accesses.now) }
     {
         let mut before = [SystemSet::empty(); MAX_SYSTEMS];
-        plan_over(
-            alloc,
-            &mut before[..accesses.len()],
-            accesses,
-            rules,
+        let before = &mut before[..accesses.len()];
+        // (the order is settled before it takes memory)
+        if let Some(s) = settle(before, accesses, rules, joined) {
+            return Err(PlanRefusal::Cycle(s));
+        }
+        let joined = set_of(joined);
+        let before = kept(alloc, before)?;
+        let batches = batches_of(alloc, &before, &joined)?;
+        Ok(Plan {
+            before,
+            batches,
             joined,
-        )
+        })
     }
 }
 

@@ -77,38 +77,25 @@ resource_named names name = found (resource_number names name) reason.NoResource
 abbrev pub system_named : Declared → Text → Reading ℕ
 system_named names name = found (system_number names name) reason.NoSystem
 
--- ---- pairs of parts: what they are, and then what they mean; m is the number of the first
+-- ---- two parts, of which m is the number of the first
 
--- a text and a number
-abbrev pub text_and_number : ℕ → Data → Data → Reading (Text × Num)
-text_and_number m d e =
-    in_part m (text_in d) >>= λ name. in_part (m + 1) (number_of e) >>= λ n. Ok (name, n)
-
--- two texts
-abbrev pub two_texts : ℕ → Data → Data → Reading (Text × Text)
-two_texts m d e =
-    in_part m (text_in d) >>= λ name. in_part (m + 1) (text_in e) >>= λ other. Ok (name, other)
-
--- a text and a list of numbers
-abbrev pub text_and_numbers : ℕ → Data → Data → Reading (Text × List Data)
-text_and_numbers m d e =
-    in_part m (text_in d) >>= λ name. in_part (m + 1) (numbers_of e) >>= λ ns. Ok (name, ns)
+-- a text and another part: what they are, and then what they mean
+abbrev pub two_parts : {X A B : Type 0} → (Data → Reading X) → (Text → Reading A) → (X → Reading B)
+    → ℕ → Data → Data → Reading (A × B)
+two_parts read first second m d e =
+    in_part m (text_in d) >>= λ name.
+    in_part (m + 1) (read e) >>= λ x.
+    in_part m (first name) >>= λ a.
+    in_part (m + 1) (second x) >>= λ b.
+    Ok (a, b)
 
 -- a type and a value
 abbrev pub type_and_value : Declared → ℕ → Data → Data → Reading (ℕ × ℤ)
-type_and_value names m d e =
-    text_and_number m d e >>= λ p.
-    in_part m (type_named names p.0) >>= λ t.
-    in_part (m + 1) (whole p.1) >>= λ v.
-    Ok (t, v)
+type_and_value names = two_parts number_of (type_named names) whole
 
 -- a resource and a value
 abbrev pub resource_and_value : Declared → Data → Data → Reading (ℕ × ℤ)
-resource_and_value names d e =
-    text_and_number 1 d e >>= λ p.
-    in_part 1 (resource_named names p.0) >>= λ r.
-    in_part 2 (whole p.1) >>= λ v.
-    Ok (r, v)
+resource_and_value names = two_parts number_of (resource_named names) whole 1
 
 -- ---- types and resources
 
@@ -116,19 +103,15 @@ resource_and_value names d e =
 abbrev pub type_of : Declared → Data → Reading ((Text × ℕ) × Declared)
 type_of names d =
     two (elements d) >>= λ pair.
-    text_and_number 0 pair.0 pair.1 >>= λ p.
-    in_part 0 (new_name names.types p.0) >>= λ name.
-    in_part 1 (limit p.1) >>= λ most.
-    Ok ((name, most), record names { types = names.types ++ name ∷ [] })
+    two_parts number_of (new_name names.types) limit 0 pair.0 pair.1 >>= λ p.
+    Ok (p, record names { types = names.types ++ p.0 ∷ [] })
 
 -- a resource, which declares its name
 abbrev pub resource_of : Declared → Data → Reading ((Text × ℤ) × Declared)
 resource_of names d =
     two (elements d) >>= λ pair.
-    text_and_number 0 pair.0 pair.1 >>= λ p.
-    in_part 0 (new_name names.resources p.0) >>= λ name.
-    in_part 1 (whole p.1) >>= λ v.
-    Ok ((name, v), record names { resources = names.resources ++ name ∷ [] })
+    two_parts number_of (new_name names.resources) whole 0 pair.0 pair.1 >>= λ p.
+    Ok (p, record names { resources = names.resources ++ p.0 ∷ [] })
 
 -- ---- ops
 
@@ -150,35 +133,19 @@ resource_part names d = in_part 1 (resource_in names d)
 
 -- a type, and how many messages are read at most
 abbrev pub type_and_limit : Declared → Data → Data → Reading (ℕ × ℕ)
-type_and_limit names d e =
-    text_and_number 1 d e >>= λ p.
-    in_part 1 (type_named names p.0) >>= λ t.
-    in_part 2 (limit p.1) >>= λ k.
-    Ok (t, k)
+type_and_limit names = two_parts number_of (type_named names) limit 1
 
 -- a type and the values of a batch
 abbrev pub type_and_values : Declared → Data → Data → Reading (ℕ × List ℤ)
-type_and_values names d e =
-    text_and_numbers 1 d e >>= λ p.
-    in_part 1 (type_named names p.0) >>= λ t.
-    in_part 2 (batch_of p.1) >>= λ vs.
-    Ok (t, vs)
+type_and_values names = two_parts numbers_of (type_named names) batch_of 1
 
 -- two types
 abbrev pub two_types : Declared → Data → Data → Reading (ℕ × ℕ)
-two_types names d e =
-    two_texts 1 d e >>= λ p.
-    in_part 1 (type_named names p.0) >>= λ t.
-    in_part 2 (type_named names p.1) >>= λ u.
-    Ok (t, u)
+two_types names = two_parts text_in (type_named names) (type_named names) 1
 
 -- a type and a resource
 abbrev pub type_and_resource : Declared → Data → Data → Reading (ℕ × ℕ)
-type_and_resource names d e =
-    two_texts 1 d e >>= λ p.
-    in_part 1 (type_named names p.0) >>= λ t.
-    in_part 2 (resource_named names p.1) >>= λ r.
-    Ok (t, r)
+type_and_resource names = two_parts text_in (type_named names) (resource_named names) 1
 
 -- an op of a head alone
 abbrev pub bare_op : Text → Reading (Op ℤ)
@@ -262,10 +229,11 @@ on_message names nots d =
 -- a probe of a resource: its parts, the number of `not`s, and then the resource and the value
 abbrev pub resource_equals : Declared → ℕ → Data → Data → Reading (Probe ℤ)
 resource_equals names nots d e =
-    in_nots nots (text_and_number 1 d e) >>= λ p.
+    in_nots nots (in_part 1 (text_in d)) >>= λ name.
+    in_nots nots (in_part 2 (number_of e)) >>= λ n.
     few_nots nots >>= λ _.
-    in_nots nots (in_part 1 (resource_named names p.0)) >>= λ r.
-    in_nots nots (in_part 2 (whole p.1)) >>= λ v.
+    in_nots nots (in_part 1 (resource_named names name)) >>= λ r.
+    in_nots nots (in_part 2 (whole n)) >>= λ v.
     Ok (probe.ResourceEquals r v)
 
 -- a probe of a head, and of what stands after it, round which there are so many `not`s
@@ -402,10 +370,8 @@ system_of names d =
 abbrev pub rule_of : Declared → Data → Reading Rule
 rule_of names d =
     two (elements d) >>= λ pair.
-    two_texts 0 pair.0 pair.1 >>= λ p.
-    in_part 0 (system_named names p.0) >>= λ i.
-    in_part 1 (system_named names p.1) >>= λ j.
-    Ok (record { earlier = i; later = j })
+    two_parts text_in (system_named names) (system_named names) 0 pair.0 pair.1 >>= λ p.
+    Ok (record { earlier = p.0; later = p.1 })
 
 -- a post: a type and a value
 abbrev pub post_of : Declared → Data → Reading (ℕ × ℤ)

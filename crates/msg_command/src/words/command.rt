@@ -1,8 +1,8 @@
 // The command line, as `clap` is told of it.
-ghost use Rattle.std.specs.Prelude.{◌≡◌, ◌⊎◌, [], IfOk, IfErr, OnOk, false, true};
+ghost use Rattle.std.specs.Prelude.{◌≡◌, ◌⊎◌, [], IfOk, IfErr, OnOk, codes, false, true};
 ghost use Rattle.clap.specs.{Words.App, Words.app_of, Words.with_subcommand, Words.rule_of, Words.fault_of, Words.takes, Words.subcommand_of, Words.subcommand_rows_of, Words.kind_of, declared.Command.out-Command as fields_of, declared.error.ErrorKind.TheVariants.OutOfMemory};
 ghost use Rattle.msg_command.specs.CommandLine.{bare_app};
-ghost use Rattle.msg_command.specs.Prelude.{IsShown, IsWordFaultOf, buffer_app, check_app, dot_rule, file_app, file_rule, frame_rule, json_rule, msgrun_app, plan_app, run_app, serve_app, texts_of, workers_rule};
+ghost use Rattle.msg_command.specs.Prelude.{IsShown, IsWordFaultOf, file_app, file_rule, flag_rule, msgrun_app, number_rule, plan_app, run_app, serve_app, texts_of};
 ghost use Rattle.msg_command.specs.inner.Telling.{IsHelp};
 
 use crate::words::{WordFault, help};
@@ -23,48 +23,36 @@ fn file_arg<'a>(alloc: Global, what: &'a str) -> Arg<'a>
         .action(ArgAction::Set)
 }
 
+/// An option that is a number, 1 if it isn't given.
+fn number_arg<'a>(alloc: Global, name: &'a str, unit: &'a str, what: &'a str) -> Arg<'a>
+    ensures rule { rule_of result ≡ number_rule name.now }
+    ensures local { result.global ≡ false }
+{
+    Arg::new(alloc, name)
+        .long(name)
+        .value_name(unit)
+        .help(what)
+        .action(ArgAction::Set)
+        .default_value("1")
+}
+
 fn workers_arg<'a>(alloc: Global) -> Arg<'a>
-    ensures rule { rule_of result ≡ workers_rule }
+    ensures rule { rule_of result ≡ number_rule (codes "workers") }
     ensures local { result.global ≡ false }
 {
-    Arg::new(alloc, "workers")
-        .long("workers")
-        .value_name("N")
-        .help("How many workers run the systems, from 1 to 64")
-        .action(ArgAction::Set)
-        .default_value("1")
+    let what = "How many workers run the systems, from 1 to 64";
+    number_arg(alloc, "workers", "N", what)
 }
 
-fn dot_arg<'a>(alloc: Global) -> Arg<'a>
-    ensures rule { rule_of result ≡ dot_rule }
+/// An option without a value.
+fn flag_arg<'a>(alloc: Global, name: &'a str, what: &'a str) -> Arg<'a>
+    ensures rule { rule_of result ≡ flag_rule name.now }
     ensures local { result.global ≡ false }
 {
-    Arg::new(alloc, "dot")
-        .long("dot")
-        .help("Tells it as a graph, for Graphviz")
+    Arg::new(alloc, name)
+        .long(name)
+        .help(what)
         .action(ArgAction::SetTrue)
-}
-
-fn json_arg<'a>(alloc: Global) -> Arg<'a>
-    ensures rule { rule_of result ≡ json_rule }
-    ensures local { result.global ≡ false }
-{
-    Arg::new(alloc, "json")
-        .long("json")
-        .help("Tells each frame as a line of JSON")
-        .action(ArgAction::SetTrue)
-}
-
-fn frame_arg<'a>(alloc: Global) -> Arg<'a>
-    ensures rule { rule_of result ≡ frame_rule }
-    ensures local { result.global ≡ false }
-{
-    Arg::new(alloc, "frame")
-        .long("frame")
-        .value_name("K")
-        .help("Which frame, from 1 to 10000")
-        .action(ArgAction::Set)
-        .default_value("1")
 }
 
 /// Adds the summary line, and the texts after short and after long help.
@@ -108,7 +96,8 @@ fn run_command<'a>(alloc: Global) -> Result<Command<'a>, AllocError>
         help::RUN,
         help::RUN_IN_FULL,
     )?;
-    command.arg(json_arg(alloc))?.arg(workers_arg(alloc))
+    let json = flag_arg(alloc, "json", "Tells each frame as a line of JSON");
+    command.arg(json)?.arg(workers_arg(alloc))
 }
 
 fn serve_command<'a>(alloc: Global) -> Result<Command<'a>, AllocError>
@@ -138,35 +127,9 @@ fn plan_command<'a>(alloc: Global) -> Result<Command<'a>, AllocError>
         help::PLAN,
         help::PLAN,
     )?;
-    command.arg(dot_arg(alloc))?.arg(frame_arg(alloc))
-}
-
-fn buffer_command<'a>(alloc: Global) -> Result<Command<'a>, AllocError>
-    ensures app { IfOk result (λ c. app_of c ≡ buffer_app) }
-    ensures local { IfOk result (λ c. (fields_of c).has_globals ≡ false) }
-{
-    file_command(
-        alloc,
-        "buffer",
-        "The calls file",
-        "Answers the calls file FILE",
-        help::BUFFER,
-        help::BUFFER_IN_FULL,
-    )
-}
-
-fn check_command<'a>(alloc: Global) -> Result<Command<'a>, AllocError>
-    ensures app { IfOk result (λ c. app_of c ≡ check_app) }
-    ensures local { IfOk result (λ c. (fields_of c).has_globals ≡ false) }
-{
-    file_command(
-        alloc,
-        "check",
-        "The scenario file or calls file",
-        "Checks the file FILE, and says where and why it is refused",
-        help::CHECK,
-        help::CHECK,
-    )
+    let dot = flag_arg(alloc, "dot", "Tells it as a graph, for Graphviz");
+    let frame = number_arg(alloc, "frame", "K", "Which frame, from 1 to 10000");
+    command.arg(dot)?.arg(frame)
 }
 
 /// The command without its subcommands.
@@ -204,9 +167,25 @@ fn command<'a>(alloc: Global) -> Result<Command<'a>, AllocError>
     ensures app { IfOk result (λ c. app_of c ≡ msgrun_app) }
     ensures local { IfOk result (λ c. (fields_of c).has_globals ≡ false) }
 {
-    let command = with_subcommand(bare_command(alloc), buffer_command(alloc));
+    let buffer = file_command(
+        alloc,
+        "buffer",
+        "The calls file",
+        "Answers the calls file FILE",
+        help::BUFFER,
+        help::BUFFER_IN_FULL,
+    );
+    let check = file_command(
+        alloc,
+        "check",
+        "The scenario file or calls file",
+        "Checks the file FILE, and says where and why it is refused",
+        help::CHECK,
+        help::CHECK,
+    );
+    let command = with_subcommand(bare_command(alloc), buffer);
     let command = with_subcommand(command, run_command(alloc));
-    let command = with_subcommand(command, check_command(alloc));
+    let command = with_subcommand(command, check);
     let command = with_subcommand(command, plan_command(alloc));
     with_subcommand(command, serve_command(alloc))
 }

@@ -1,6 +1,6 @@
-ghost use Rattle.std.specs.Prelude.{◌≡◌, ◌<◌, ◌≤◌, ◌⊎◌, [], IfSome, Some, None, true, IfOk, IfErr, OnOk, codes, option_and_then, string_bytes};
+ghost use Rattle.std.specs.Prelude.{◌≡◌, ◌<◌, ◌≤◌, ◌⊎◌, [], IfSome, Some, None, true, IfOk, IfErr, OnOk, codes, string_bytes};
 ghost use Rattle.clap.specs.Words.{fault_of, takes, first_of, rows_of, found_of, subcommand_rows_of};
-ghost use Rattle.msg_command.specs.Prelude.{AsksForNone, IsInRange, IsWordFaultOf, asked, asked_by, is_asked, msgrun_app, number_in, request_of, texts_of};
+ghost use Rattle.msg_command.specs.Prelude.{AsksForNone, IsInRange, IsWordFaultOf, asked, asked_by, is_asked, msgrun_app, number_asked, number_in, request_of, texts_of};
 
 use crate::limits::{LAST_FRAME, MAX_WORKERS};
 use crate::words::command::matches;
@@ -84,12 +84,12 @@ fn file_of(alloc: Global, inner: &ArgMatches<'_>) -> Result<String, WordFault>
 /// The number from 1 to `most` that an option has.
 #[tactic(auto, using(crate::proofs::RowValues::row_value))]
 fn number_of(inner: &ArgMatches<'_>, option: &str, most: u32) -> Result<u32, WordFault>
-    ensures number { IfOk result (λ n. option_and_then (number_in most)
-        (first_of option.now (rows_of (found_of inner.now))) ≡ Some n) }
+    ensures number { IfOk result (λ n.
+        number_asked option.now most (rows_of (found_of inner.now)) ≡ Some n) }
     ensures some { IfOk result (λ n. 0 < n) }
     ensures at_most { IfOk result (λ n. n ≤ most) }
-    ensures refused { IfErr result (λ e. (e ≡ WordFault.Bad) × (option_and_then (number_in most)
-        (first_of option.now (rows_of (found_of inner.now))) ≡ None)) }
+    ensures refused { IfErr result (λ e. (e ≡ WordFault.Bad)
+        × (number_asked option.now most (rows_of (found_of inner.now)) ≡ None)) }
 {
     let text = inner.get_str(option).ok_or(WordFault::Bad)?;
     number_in(text, most).ok_or(WordFault::Bad)

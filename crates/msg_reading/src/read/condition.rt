@@ -7,10 +7,9 @@ use crate::Fault;
 use crate::limits::{MAX_NOTS, MOST_NESTED};
 use crate::read::list::Element;
 use crate::read::names::Declarations;
-use crate::read::part::text_and_number;
 use msg_json::fault::inside;
 use msg_json::json::{head_and_parts, text};
-use msg_json::numbers::whole_number;
+use msg_json::numbers::{number, whole_number};
 use msg_json::{PathStep, Reason};
 use msg_system::{Condition, Probe};
 use serde_json::Value;
@@ -106,7 +105,10 @@ fn read_resource_equals(
     ensures reads { result
         ≡ Spec.resource_equals names.now nots (view part.now) (view other.now) }
 {
-    let (name, value) = inside(PathStep::Nots(nots), text_and_number(1, part, other))?;
+    let name = inside(PathStep::Part(1), text(part));
+    let name = inside(PathStep::Nots(nots), name)?;
+    let value = inside(PathStep::Part(2), number(other));
+    let value = inside(PathStep::Nots(nots), value)?;
     few_nots(nots)?;
     let resource = inside(
         PathStep::Nots(nots),

@@ -5,10 +5,11 @@ ghost use Rattle.msg_reading.specs.{ScenarioFormat.resource_at, ScenarioFormat.r
 
 use crate::read::list::Element;
 use crate::read::names::Declarations;
-use crate::read::part::{text_and_number, two};
+use crate::read::part::two;
 use crate::{Fault, Name};
 use msg_json::fault::inside;
-use msg_json::numbers::{small_number, whole_number};
+use msg_json::json::text;
+use msg_json::numbers::{number, small_number, whole_number};
 use msg_json::{MAX_LIMIT, PathStep};
 use serde_json::Value;
 use std::alloc::Global;
@@ -30,7 +31,8 @@ fn read_type(alloc: Global, names: &mut Declarations, value: &Value) -> Result<(
     ensures reads { ReadsWith (type_of names.old (view value.now)) names.new result }
 {
     let (name, limit) = two(value)?;
-    let (name, limit) = text_and_number(0, name, limit)?;
+    let name = inside(PathStep::Part(0), text(name))?;
+    let limit = inside(PathStep::Part(1), number(limit))?;
     let name = inside(PathStep::Part(0), names.declare_type(alloc, name))?;
     let limit = inside(PathStep::Part(1), small_number(limit, MAX_LIMIT + 1))?;
     Ok((name, u64::from(limit)))
@@ -57,7 +59,8 @@ fn read_resource(
     ensures reads { ReadsWith (resource_of names.old (view value.now)) names.new result }
 {
     let (name, value) = two(value)?;
-    let (name, value) = text_and_number(0, name, value)?;
+    let name = inside(PathStep::Part(0), text(name))?;
+    let value = inside(PathStep::Part(1), number(value))?;
     let name = inside(PathStep::Part(0), names.declare_resource(alloc, name))?;
     let value = inside(PathStep::Part(1), whole_number(value))?;
     Ok((name, value))

@@ -3,7 +3,7 @@ ghost use Rattle.std.specs.Prelude.{◌≡◌, ◌≤◌};
 ghost use Rattle.serde_json.specs.View.{view};
 ghost use Rattle.msg_json.specs.Prelude.{Reads, elements};
 ghost use Rattle.msg_reading.specs.ScenarioFormat as Spec;
-ghost use Rattle.msg_reading.specs.inner.PartsSeen.{number_and_text_seen, numbers_and_text_seen, pair_seen, texts_seen};
+ghost use Rattle.msg_reading.specs.inner.PartsSeen.{pair_seen};
 
 use crate::Fault;
 use crate::read::names::Declarations;
@@ -12,7 +12,7 @@ use msg_json::json::text;
 use msg_json::numbers::{batch_values, list_of_numbers, number, small_number, whole_number};
 use msg_json::{MAX_LIMIT, PathStep, Reason};
 use msg_world::{Items, ResNo, TypeNo};
-use serde_json::{Number, Value};
+use serde_json::Value;
 use std::alloc::Global;
 
 /// The two elements of a list of two.
@@ -30,50 +30,6 @@ pub fn two(value: &Value) -> Result<(&Value, &Value), Fault>
     Ok((&items[0], &items[1]))
 }
 
-/// A text and a number.
-pub fn text_and_number<'a>(
-    m: usize,
-    first: &'a Value,
-    second: &'a Value,
-) -> Result<(&'a str, &'a Number), Fault>
-    requires few { m ≤ 1 }
-    ensures are { number_and_text_seen result
-        ≡ Spec.text_and_number m (view first.now) (view second.now) }
-{
-    let first = inside(PathStep::Part(m), text(first))?;
-    Ok((first, inside(PathStep::Part(m + 1), number(second))?))
-}
-
-/// Two texts.
-pub fn two_texts<'a>(
-    m: usize,
-    first: &'a Value,
-    second: &'a Value,
-) -> Result<(&'a str, &'a str), Fault>
-    requires few { m ≤ 1 }
-    ensures are { texts_seen result ≡ Spec.two_texts m (view first.now) (view second.now) }
-{
-    let first = inside(PathStep::Part(m), text(first))?;
-    Ok((first, inside(PathStep::Part(m + 1), text(second))?))
-}
-
-/// A text and a list of numbers.
-fn text_and_numbers<'a>(
-    m: usize,
-    first: &'a Value,
-    second: &'a Value,
-) -> Result<(&'a str, &'a [Value]), Fault>
-    requires few { m ≤ 1 }
-    ensures are { numbers_and_text_seen result
-        ≡ Spec.text_and_numbers m (view first.now) (view second.now) }
-{
-    let first = inside(PathStep::Part(m), text(first))?;
-    Ok((
-        first,
-        inside(PathStep::Part(m + 1), list_of_numbers(second))?,
-    ))
-}
-
 /// A type and a value.
 pub fn type_and_value(
     names: &Declarations,
@@ -85,7 +41,8 @@ pub fn type_and_value(
     ensures are { result
         ≡ Spec.type_and_value names.now m (view of_type.now) (view value.now) }
 {
-    let (name, value) = text_and_number(m, of_type, value)?;
+    let name = inside(PathStep::Part(m), text(of_type))?;
+    let value = inside(PathStep::Part(m + 1), number(value))?;
     let of_type = inside(PathStep::Part(m), names.type_no(name))?;
     Ok((of_type, inside(PathStep::Part(m + 1), whole_number(value))?))
 }
@@ -99,7 +56,8 @@ pub fn resource_and_value(
     ensures are { result
         ≡ Spec.resource_and_value names.now (view resource.now) (view value.now) }
 {
-    let (name, value) = text_and_number(1, resource, value)?;
+    let name = inside(PathStep::Part(1), text(resource))?;
+    let value = inside(PathStep::Part(2), number(value))?;
     let resource = inside(PathStep::Part(1), names.res_no(name))?;
     Ok((resource, inside(PathStep::Part(2), whole_number(value))?))
 }
@@ -138,7 +96,8 @@ pub fn type_and_limit(
 ) -> Result<(TypeNo, u32), Fault>
     ensures are { result ≡ Spec.type_and_limit names.now (view of_type.now) (view limit.now) }
 {
-    let (name, limit) = text_and_number(1, of_type, limit)?;
+    let name = inside(PathStep::Part(1), text(of_type))?;
+    let limit = inside(PathStep::Part(2), number(limit))?;
     let of_type = inside(PathStep::Part(1), names.type_no(name))?;
     Ok((
         of_type,
@@ -156,7 +115,8 @@ pub fn type_and_values(
     ensures are { Reads (Spec.type_and_values names.now (view of_type.now) (view values.now))
         result }
 {
-    let (name, values) = text_and_numbers(1, of_type, values)?;
+    let name = inside(PathStep::Part(1), text(of_type))?;
+    let values = inside(PathStep::Part(2), list_of_numbers(values))?;
     let of_type = inside(PathStep::Part(1), names.type_no(name))?;
     Ok((
         of_type,
@@ -168,7 +128,8 @@ pub fn type_and_values(
 pub fn two_types(names: &Declarations, from: &Value, to: &Value) -> Result<(TypeNo, TypeNo), Fault>
     ensures are { result ≡ Spec.two_types names.now (view from.now) (view to.now) }
 {
-    let (from, to) = two_texts(1, from, to)?;
+    let from = inside(PathStep::Part(1), text(from))?;
+    let to = inside(PathStep::Part(2), text(to))?;
     let from = inside(PathStep::Part(1), names.type_no(from))?;
     Ok((from, inside(PathStep::Part(2), names.type_no(to))?))
 }
@@ -182,7 +143,8 @@ pub fn type_and_resource(
     ensures are { result
         ≡ Spec.type_and_resource names.now (view of_type.now) (view resource.now) }
 {
-    let (of_type, resource) = two_texts(1, of_type, resource)?;
+    let of_type = inside(PathStep::Part(1), text(of_type))?;
+    let resource = inside(PathStep::Part(2), text(resource))?;
     let of_type = inside(PathStep::Part(1), names.type_no(of_type))?;
     Ok((of_type, inside(PathStep::Part(2), names.res_no(resource))?))
 }

@@ -6,9 +6,10 @@ ghost use Rattle.msg_reading.specs.ScenarioFormat.{rule_at, rule_of};
 use crate::Fault;
 use crate::read::list::Element;
 use crate::read::names::Declarations;
-use crate::read::part::{two, two_texts};
+use crate::read::part::two;
 use msg_json::PathStep;
 use msg_json::fault::inside;
+use msg_json::json::text;
 use msg_order::Rule;
 use serde_json::Value;
 use std::alloc::Global;
@@ -30,7 +31,8 @@ fn read_rule(names: &Declarations, value: &Value) -> Result<Rule, Fault>
     ensures reads { result ≡ rule_of names.now (view value.now) }
 {
     let (earlier, later) = two(value)?;
-    let (earlier, later) = two_texts(0, earlier, later)?;
+    let earlier = inside(PathStep::Part(0), text(earlier))?;
+    let later = inside(PathStep::Part(1), text(later))?;
     let earlier = inside(PathStep::Part(0), names.system_no(earlier))?;
     let later = inside(PathStep::Part(1), names.system_no(later))?;
     Ok(Rule { earlier, later })

@@ -1,15 +1,22 @@
-use Rattle.std.proofs.Common.{arith}
-use Rattle.std.proofs.lemmas.Result.{IfErr-weaker}
-use Rattle.msg_command.specs.Prelude.{texts_of}
+use Rattle.std.proofs.Common.{ap, arith, inl, inr, is_some, sym, ◌∙◌}
+use Rattle.std.proofs.lemmas.{Bool.false≢true, Result.IfErr-weaker}
+use Rattle.msg_command.specs.Prelude.{asked_by, texts_of}
 use Rattle.msg_command.proofs.{ClapErrors.told_on, ClapTakesAsk.takes_asks}
 use Rattle.msg_command.proofs.words.parse.parse_words.Goals as goal
 
 -- words that clap takes ask for something, or for what there can't be, so that else only want of memory is left
 pub returns-clause-refused : goal.returns-clause-refused
 returns-clause-refused c =
-    let rows = c.in_ok-matches.ensures.rows in
     IfErr-weaker c.action_of-action.result _ _
-    (λ fault refused taken. grind (arith, refused, rows, takes_asks (texts_of c.args.words.now) taken))
+    (λ fault refused taken. elim refused [
+      | inl wants ↦ inl wants
+      | inr bad ↦ elim (takes_asks (texts_of c.args.words.now) taken) [
+        | inl there ↦
+            let out = sym (ap asked_by c.in_ok-matches.ensures.rows) ∙ bad.1 in
+            absurd (false≢true (sym (ap (λ o. is_some o) out) ∙ there))
+        | inr nothing ↦ inr (bad.0, nothing)
+      ]
+    ])
     c.action_of-action.ensures.refused
 
 -- and clap found nothing in them
