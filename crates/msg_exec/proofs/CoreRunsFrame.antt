@@ -7,12 +7,12 @@ use Rattle.msg_system.specs.declared.reply.Reply.{Reply}
 use Rattle.msg_system.specs.Prelude.{Meaning}
 use Rattle.msg_exec.specs.Prelude.{AreJoins, Core, CoreStands, Lender, LenderStands, FixedParts}
 use Rattle.msg_frames.specs.{declared.frame.Frame.Frame}
-use Rattle.msg_exec.specs.{inner.FrameSteps.HasLeft, inner.FrameSteps.HasOpened, inner.FrameSteps.NobodyJoins, inner.FrameSteps.one_frame_more, inner.SystemsOut.HaveReadNothing, inner.FrameSteps.PlansNext}
-use Rattle.msg_frames.specs.Prelude.{IsLawfulFor, IsSoundState, SameSystems, State, after_joining, are_in_conflict, before_turns, frame, join_flags}
+use Rattle.msg_exec.specs.{inner.FrameSteps.begun, inner.FrameSteps.HasLeft, inner.FrameSteps.HasOpened, inner.FrameSteps.NobodyJoins, inner.SystemsOut.HaveReadNothing, inner.FrameSteps.PlansNext}
+use Rattle.msg_frames.specs.Prelude.{IsLawfulFor, IsSoundState, SameSystems, State, are_in_conflict, before_turns, frame, join_flags}
 use Rattle.msg_frames.specs.Frames.{settled_order, turn_order}
 use Rattle.msg_frames.proofs.StatesStaySound.{frame_sound}
 use Rattle.msg_frames.proofs.Functions.{batches_apart, plan_is}
-use Rattle.msg_frames.proofs.SystemsStay.{accesses_stay, before_keeps, joined_is, joined_stay, joining_keeps, joining_makes_no_frame, no_cycle_stays, turns_keep_systems, turns_make_no_frame, uses_stay}
+use Rattle.msg_frames.proofs.SystemsStay.{accesses_stay, before_keeps, joined_is, joined_stay, joining_keeps, no_cycle_stays, turns_keep_systems, turns_make_no_frame, uses_stay}
 use Rattle.msg_world.specs.Prelude.{Values}
 
 -- ---- what no frame changes
@@ -34,11 +34,11 @@ module _ {V : Type 0} {values : Values V} where
       (length-map js (λ j. nat_le j frame) ∙ are.as_many) (λ k lt. grind (arith, are.each k lt, get_or-map))
 
   -- if none joins with the next frame, the same have joined by it
-  pub nobody_more : (s : State values) → NobodyJoins s → join_flags (one_frame_more (after_joining s)) ≡ join_flags s
+  pub nobody_more : (s : State values) → NobodyJoins s → join_flags (begun s) ≡ join_flags s
   nobody_more s none =
-      joined_stay (one_frame_more s) (one_frame_more (after_joining s)) (grind (arith, joining_keeps))
-      (ap suc (joining_makes_no_frame s))
-      ∙ fill_by_all (λ i. nat_le (s.members i).join (max 1 s.frames)) (join_flags (one_frame_more s)) s.systems false
+      let counted : State values = record s { frames = suc s.frames } in
+      joined_stay counted (begun s) (grind (arith, joining_keeps)) refl
+      ∙ fill_by_all (λ i. nat_le (s.members i).join (max 1 s.frames)) (join_flags counted) s.systems false
       (length-map-range_with_len _ 0 s.systems) (λ k lt.
       get_or-map-range_with_len _ 0 s.systems k k false lt (omega arith)
       ∙ grind (arith, nat_tests, none k lt))
@@ -87,7 +87,7 @@ module _ {S V : Type 0} {values : Values V} (meaning : S → Meaning V) where
             plan = rw (accesses, same.rules, joined_stay bt _ same (turns_make_no_frame order bt)) has.plan;
             sound = frame_sound f s sound;
           };
-          frames = turns_make_no_frame order bt ∙ ap suc (joining_makes_no_frame s);
+          frames = turns_make_no_frame order bt;
         }
 
   -- ---- which orders are lawful

@@ -7,7 +7,6 @@ use Rattle.msg_world.specs.{Prelude.Values, Prelude.WorldState, Prelude.after_up
 use Rattle.msg_system.specs.{Prelude.AfterProgram, Prelude.Job, Prelude.Meaning, Prelude.after_at_most, Prelude.after_job, Prelude.after_op, Prelude.again_by, Prelude.next_op, Prelude.one_more, Prelude.took, Prelude.turn, declared.limits.TheConstants.MAX_OPS, declared.op.Op.Op}
 use Rattle.msg_system.specs.declared.op.Op.TheVariants.{Batch, Drain, Forward, Write}
 use Rattle.msg_frames.specs.Prelude.{Frame, State, after_posts, after_turn_of, after_turns_of, before_turns, frame, frame_in}
-use Rattle.msg_frames.proofs.SystemsStay.{joining_world}
 
 module _ {V : Type 0} where
   pub stays : (h : History (Record V)) → IsSound h → GoesOn h h
@@ -99,7 +98,7 @@ module _ {V : Type 0} {values : Values V} where
   pub before_goes_on : (posts : List (ℕ × V)) (s : State values) → WorldGoesOn s.world (before_turns posts s).world
   before_goes_on posts s t sound =
       let posted = posts_change Grows grown posts (after_update s.world) t in
-      grind (arith, joining_world s, cases_Bool, stays, only_grows (s.world.histories t) sound, posted, goes_further)
+      grind (arith, cases_Bool, stays, only_grows (s.world.histories t) sound, posted, goes_further)
 
   pub frame_goes_on : (order : List ℕ) (frame : Frame V) (s : State values)
       → WorldGoesOn s.world (frame_in order frame s).state.world

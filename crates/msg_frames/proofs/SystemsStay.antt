@@ -31,9 +31,6 @@ module _ {V : Type 0} {values : Values V} where
   pub joining_keeps : (s : State values) → SameSystems s (after_joining s)
   joining_keeps s = grind (arith, cases_Bool, map-map)
 
-  pub joining_makes_no_frame : (s : State values) → (after_joining s).frames ≡ s.frames
-  joining_makes_no_frame s = grind (arith, cases_Bool)
-
   pub joining_world : (s : State values) → (after_joining s).world ≡ s.world
   joining_world s = grind (arith, cases_Bool)
 
@@ -46,10 +43,9 @@ module _ {V : Type 0} {values : Values V} where
 
   pub frames_keep : FramesKeepSystems values
   frames_keep order frame s =
-      let joined = joining_makes_no_frame s in
       let turns = turns_make_no_frame order (before_turns frame.posts s) in
       let keeps = (λ (k : ℕ). joining_on_keeps k s) in
-      grind (arith, keeps, joining_keeps s, before_keeps frame.posts s, frame_keeps order frame s, joined, turns)
+      grind (arith, keeps, joining_keeps s, before_keeps frame.posts s, frame_keeps order frame s, turns)
 
   pub accesses_stay : (s u : State values) (accesses : List Access) → SameSystems s u → AreAccessesOf s accesses
       → AreAccessesOf u accesses

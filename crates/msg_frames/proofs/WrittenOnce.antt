@@ -10,7 +10,7 @@ use Rattle.msg_system.specs.Prelude.{AfterOp, AfterProgram, Job, Step, after_job
 use Rattle.msg_frames.specs.Frames.{turn_order}
 use Rattle.msg_frames.specs.Prelude.{Frame, IsSoundState, IsWrittenOnce, State, after_posts, after_turn_of, after_turns_of, all_written, before_turns, frame, post_steps, run, turns_steps}
 use Rattle.msg_order.proofs.Elements.{Contains-head, Contains-tail}
-use Rattle.msg_frames.proofs.{BeforeTurns.prepares, HistoriesGrow.by_ops, ReaderOverJob.by_system, StatesStaySound.frame_sound, StatesStaySound.prepared_sound, StatesStaySound.turn_below, SystemsStay.joining_world, SystemsStay.one_turn_keeps}
+use Rattle.msg_frames.proofs.{BeforeTurns.prepares, HistoriesGrow.by_ops, ReaderOverJob.by_system, StatesStaySound.frame_sound, StatesStaySound.prepared_sound, StatesStaySound.turn_below, SystemsStay.one_turn_keeps}
 
 enumerate_from-append : {X : Type 0} (n : ℕ) (xs ys : List X)
     → enumerate_from n (xs ++ ys) ≡ enumerate_from n xs ++ enumerate_from (n + length xs) ys
@@ -95,7 +95,7 @@ module _ {V : Type 0} {values : Values V} (t : ℕ) where
   pub before_writes : (posts : List (ℕ × V)) (s : State values)
       → IsWrittenOnce t s.world (post_steps posts (after_update s.world)) (before_turns posts s).world
   before_writes posts s = record {
-    grew = grind (arith, cases_Bool, joining_world s, (posts_write posts (after_update s.world)).grew);
+    grew = grind (arith, cases_Bool, (posts_write posts (after_update s.world)).grew);
   }
 
   pub run_writes : (frames : List (Frame V)) (s : State values) → IsSoundState s

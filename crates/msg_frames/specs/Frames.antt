@@ -33,10 +33,14 @@ pub record State {V : Type 0} (values : Values V) : Type 0 where
   pub frames : ℕ
 
 module _ {V : Type 0} {values : Values V} where
-  -- Of each system, whether it has joined: its frame is at most the number of frames run, or is 1.
+  -- The last frame whose systems have joined: the last one that was run, or frame 1, whose systems
+  -- join before any is run.
+  abbrev pub last_joined : State values → ℕ
+  last_joined s = max 1 s.frames
+
+  -- of each system, whether it has joined
   abbrev pub join_flags : State values → List Bool
-  join_flags s =
-      map (λ i. nat_le (s.members i).join (max 1 s.frames)) (range_with_len 0 s.systems)
+  join_flags s = map (λ i. nat_le (s.members i).join (last_joined s)) (range_with_len 0 s.systems)
 
 -- ---- joining
 
@@ -68,9 +72,10 @@ module _ {V : Type 0} {values : Values V} where
         then joined_member (counts s) (s.members i) else s.members i;
   }
 
-  -- those that join with the next frame do so; those of frame 1 have joined before it
+  -- those that join with the next frame do so, if they haven't yet
   abbrev pub after_joining : State values → State values
-  after_joining s = if s.frames == 0 then s else with_joining (suc s.frames) s
+  after_joining s =
+      if nat_lt (last_joined s) (suc s.frames) then with_joining (suc s.frames) s else s
 
 -- ---- what the host posts
 
@@ -147,8 +152,8 @@ module _ {V : Type 0} {values : Values V} where
   -- what comes before the turns: some join, the world is updated, and the posts are written
   abbrev pub before_turns : List (ℕ × V) → State values → State values
   before_turns posts s = record (after_joining s) {
-    world = after_posts posts (after_update (after_joining s).world);
-    frames = suc (after_joining s).frames;
+    world = after_posts posts (after_update s.world);
+    frames = suc s.frames;
   }
 
 -- What a frame leaves, its log, and its steps: the posts, and those of the turns.

@@ -1,5 +1,5 @@
 -- Frames with an observer and without it.
-use Rattle.std.proofs.Common.{All, List, [], ap, arith, filter, get_or, inl, inr, length, not, refl, subst, suc, sym, ℕ, ◌++◌, ◌<◌, ◌==◌, ◌∙◌, ◌∷◌, ◌≡◌, ◌≢◌}
+use Rattle.std.proofs.Common.{All, List, [], ap, arith, filter, get_or, inl, inr, length, nat_lt, not, refl, subst, suc, sym, ℕ, ◌++◌, ◌<◌, ◌==◌, ◌∙◌, ◌∷◌, ◌≡◌, ◌≢◌}
 use Rattle.std.proofs.lemmas.{Bool.cases_Bool, Bool.cases_eq, Bool.cases_lt, Bool.eq-eqb, Bool.lt-ltb, Bool.ne_eqb, Bool.Decides.nat_tests, List.Elements.All-contains_itself, List.Elements.All-head, List.Elements.All-tail, List.get_or_append_left, List.length_push, List.FromFn.length-map-range_with_len}
 use Rattle.std.proofs.Math.Seq.{get_or-append_seam}
 use Rattle.msg_world.specs.Prelude.{Values, WorldState, after_update}
@@ -8,9 +8,9 @@ use Rattle.msg_system.proofs.FootprintsHold.{job_footprint}
 use Rattle.msg_system.specs.Prelude.{AfterJob}
 use Rattle.msg_frames.specs.{declared.frame.Frame.Frame, declared.log.Turn.Turn}
 use Rattle.msg_frames.specs.FirstState.{before_joining, default_place, default_system}
-use Rattle.msg_frames.specs.Frames.{settled_order, turn_order}
+use Rattle.msg_frames.specs.Frames.{last_joined, settled_order, turn_order}
 use Rattle.msg_frames.specs.Prelude.{SameSystems, State, after_turn_of, after_turns_of, are_in_conflict, before_turns, counts, frame, join_flags, logged_turn, post_replies, turn_of, with_joining}
-use Rattle.msg_frames.proofs.{StatesStaySound.turn_below, SystemsStay.before_keeps, SystemsStay.frame_keeps, SystemsStay.joined_is, SystemsStay.joining_makes_no_frame, SystemsStay.joining_on_keeps, SystemsStay.joining_world, SystemsStay.one_turn_keeps, SystemsStay.turns_keep_systems, TurnsCommute.same_world}
+use Rattle.msg_frames.proofs.{StatesStaySound.turn_below, SystemsStay.before_keeps, SystemsStay.frame_keeps, SystemsStay.joined_is, SystemsStay.joining_on_keeps, SystemsStay.one_turn_keeps, SystemsStay.turns_keep_systems, TurnsCommute.same_world}
 use Rattle.msg_laws.specs.Prelude.{IsWithoutObserver, ObserversDisturbNobody, ObserversMayBeAdded, rules_without, without_turns_of}
 use Rattle.msg_laws.proofs.ObserversOrder.{others, turns_cut}
 
@@ -46,12 +46,11 @@ module _ {V : Type 0} {values : Values V} where
   before posts s t w =
       let joined = joining_on (suc s.frames) s t w in
       still s t _ _ w (before_keeps posts s) (before_keeps posts t)
-      (λ i lt. rw (w.frames) (elim (cases_Bool (s.frames == 0)) [
-        | inl h ↦ rw h (w.others i lt)
-        | inr h ↦ rw h (joined.others i lt)
+      (λ i lt. rw (w.frames) (elim (cases_Bool (nat_lt (last_joined s) (suc s.frames))) [
+        | inl h ↦ rw h (joined.others i lt)
+        | inr h ↦ rw h (w.others i lt)
       ]))
-      (rw (joining_world s, joining_world t, w.world) refl)
-      (rw (joining_makes_no_frame s, joining_makes_no_frame t, w.frames) refl)
+      (rw w.world refl) (ap suc w.frames)
 
   -- ---- the turns
 

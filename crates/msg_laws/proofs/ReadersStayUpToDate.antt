@@ -15,9 +15,9 @@ use Rattle.msg_frames.proofs.ReaderOverJob.{IsWritten, tile_of}
 use Rattle.msg_frames.proofs.ReaderOverTurns.{turns_moments}
 use Rattle.msg_frames.proofs.StatesStaySound.{joined_alike, frame_sound, has_no_turn}
 use Rattle.msg_frames.proofs.TellsEachOnce.{tile_fits}
-use Rattle.msg_frames.proofs.SystemsStay.{frame_keeps, joining_world, turns_keep}
+use Rattle.msg_frames.proofs.SystemsStay.{frame_keeps, turns_keep}
 use Rattle.msg_frames.specs.{Frames.turn_order, declared.frame.Frame.Frame, declared.log.Outcome.TheVariants.Skipped}
-use Rattle.msg_frames.specs.Prelude.{IsSoundState, Moment, State, after_joining, after_turns_of, before_turns, frame, join_flags, moments, reader_place, run}
+use Rattle.msg_frames.specs.Prelude.{IsSoundState, Moment, State, after_turns_of, before_turns, frame, join_flags, moments, reader_place, run}
 use Rattle.msg_laws.proofs.{OneTurn.frame_reads, OneTurn.goes_to_turn, OneTurn.in_log, OneTurn.job_left, OneTurn.within_turn, ReadersTakeAll.job_takes, StampsStayRecent.AreRecent, StampsStayRecent.StaysRecent, StampsStayRecent.earlier_recent, StampsStayRecent.stays_recent}
 use Rattle.msg_laws.specs.Prelude.{IsUpToDate, ListsOnlyGrow, MissesNothing, NothingDrained, ReadsAll, WhoIsUpToDateMissesNothing, WhoReadsEachFrameMissesNothing}
 
@@ -78,8 +78,7 @@ module _ {V : Type 0} {values : Values V} where
     -- a frame keeps recent what its update leaves recent
     pub frame_recent : (k p : ℕ) → AreRecent k p ((after_update s.world).histories t) → AreRecent k p (u.world.histories t)
     frame_recent k p recent = turns_change (StaysRecent k p) (stays_recent k p) order b t
-        (posts_change (StaysRecent k p) (stays_recent k p) f.posts (after_update (after_joining s).world) t
-        (rw (joining_world s) recent))
+        (posts_change (StaysRecent k p) (stays_recent k p) f.posts (after_update s.world) t recent)
 
     -- what is written from the frame's update on is
     pub new_recent : AreRecent 0 (count (s.world.histories t)) (u.world.histories t)

@@ -9,9 +9,9 @@ use Rattle.msg_frames.specs.{declared.frame.Frame.Frame, declared.log.Log.Log}
 use Rattle.msg_frames.specs.Prelude.{IsLawfulFor, TellsTheSame, before_turns, after_joining, post_replies, State, frame, join_flags, turn_order_in}
 
 module _ {V : Type 0} {values : Values V} where
-  -- the state with one frame more counted
-  abbrev pub one_frame_more : State values → State values
-  one_frame_more s = record s { frames = suc s.frames }
+  -- the state as its next frame begins: those that join have joined, and the frame is counted
+  abbrev pub begun : State values → State values
+  begun s = record (after_joining s) { frames = suc s.frames }
 
 -- A frame on the state s was replayed in this order, which is lawful: the log tells the same as the
 -- frame's, with the turns in this order.
@@ -31,7 +31,7 @@ module _ {S V : Type 0} {values : Values V} where
   -- the plan is that of those that will have joined by the next frame
   abbrev pub PlansNext : Core S V → State values → PlanView → Type 0
   PlansNext c s plan = IsPlanOf c.lender.accesses.items s.rules
-      (join_flags (one_frame_more (after_joining s))) plan
+      (join_flags (begun s)) plan
 
   -- the number of the next frame and its plan, if some join with it; none if nobody does
   abbrev pub IsNextPlan : Core S V → State values → Option (ℕ × PlanView) → Type 0
@@ -44,7 +44,7 @@ module _ {S V : Type 0} {values : Values V} (meaning : S → Meaning V) where
     pub lender : LenderStands meaning c.lender (after_joining s)
     pub fixed : FixedParts c (after_joining s)
     pub plan : IsPlanOf c.lender.accesses.items (after_joining s).rules
-        (join_flags (one_frame_more (after_joining s))) c.plan
+        (join_flags (begun s)) c.plan
 
   -- All is done that a frame on the state s does before its turns, and the posts were answered so.
   pub record HasOpened (frame : Frame V) (s : State values) (c : Core S V)

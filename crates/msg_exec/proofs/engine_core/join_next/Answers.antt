@@ -1,5 +1,5 @@
-use Rattle.std.proofs.Common.{arith, refl}
-use Rattle.std.proofs.lemmas.Bool.{ne_eqb, cases_Bool, eqb-false}
+use Rattle.std.proofs.Common.{arith, max, refl, suc}
+use Rattle.std.proofs.lemmas.Bool.{ne_eqb, cases_Bool, eqb-false, lt-ltb}
 use Rattle.msg_frames.proofs.SystemsStay.{joining_keeps}
 use Rattle.msg_exec.proofs.{CoreRunsFrame.about_to_join, CoreRunsFrame.nobody_more, CoreRunsFrame.fixed_along, SystemsJoin.members_alike}
 use Rattle.msg_exec.proofs.engine_core.join_next.Goals as goal
@@ -27,7 +27,7 @@ returns-in-Some-clause-begun g c s stands is =
     let lender = c.join_those.ensures.joined s stands.lender (rw c.deref.ensures.value stands.fixed.joins)
     (rw next.1 (about_to_join s stands.sound next.0)) in
     record {
-      lender = rw (ne_eqb s.frames 0 (omega (arith, next.0)), ← next.1) lender;
+      lender = rw (lt-ltb (max 1 s.frames) (suc s.frames) (omega (arith, next.0)), ← next.1) lender;
       fixed = fixed_along refl refl (joining_keeps s) stands.fixed;
       plan = rw ((joining_keeps s).rules, c.join_those.ensures.accesses) next.2;
     }

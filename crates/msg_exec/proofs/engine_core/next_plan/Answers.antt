@@ -1,7 +1,7 @@
 use Rattle.std.proofs.Common.{refl, ◌≡◌, length, ap, ◌∙◌, arith, suc}
-use Rattle.msg_frames.specs.Prelude.{after_joining, SameSystems}
-use Rattle.msg_frames.proofs.SystemsStay.{joining_keeps, joining_makes_no_frame}
-use Rattle.msg_exec.specs.inner.FrameSteps.{one_frame_more}
+use Rattle.msg_frames.specs.Prelude.{SameSystems}
+use Rattle.msg_frames.proofs.SystemsStay.{joining_keeps}
+use Rattle.msg_exec.specs.inner.FrameSteps.{begun}
 use Rattle.msg_exec.proofs.{CoreRunsFrame.joined_by_frame, CoreRunsFrame.fixed_along, ItemsOfLists.if_refused}
 use Rattle.msg_exec.specs.Prelude.{FixedParts}
 use Rattle.msg_exec.proofs.engine_core.next_plan.Goals as goal
@@ -16,10 +16,10 @@ pub returns-clause-plan : goal.returns-clause-plan
 returns-clause-plan g c s stands is =
     let core = c.args.core.now in
     let next : c.in-Some.next ≡ suc s.frames = omega (arith, is, c.in-Some.ensures) in
-    let keeps : SameSystems s (one_frame_more (after_joining s)) = grind (arith, joining_keeps) in
-    let later : FixedParts core (one_frame_more (after_joining s)) = fixed_along refl refl keeps stands.fixed in
-    let flags = joined_by_frame core.joins.items (one_frame_more (after_joining s)) c.in-Some.next later.joins
-    (omega (arith, next, joining_makes_no_frame s)) in
+    let keeps : SameSystems s (begun s) = grind (arith, joining_keeps) in
+    let later : FixedParts core (begun s) = fixed_along refl refl keeps stands.fixed in
+    let flags = joined_by_frame core.joins.items (begun s) c.in-Some.next later.joins
+    (omega (arith, next)) in
     let plan = rw (c.deref-2.ensures.value, c.deref-3.ensures.value, c.deref-4.ensures.value)
     at c.in_ok-plan.ensures.plan in
     (omega (arith, is, c.if-frames-eq0.false), next, rw (stands.fixed.rules, flags) at plan)

@@ -1,6 +1,5 @@
 use Rattle.std.proofs.Common.{◌∙◌, arith, refl}
 use Rattle.msg_world.specs.Prelude.{SameShape, WorldState, after_update}
-use Rattle.msg_frames.specs.Prelude.{after_joining}
 use Rattle.msg_frames.proofs.SystemsStay.{joining_world}
 use Rattle.msg_exec.proofs.{CoreRunsFrame.fixed_along, SystemAfterTurn.member_stays}
 use Rattle.msg_exec.proofs.engine_core.open_frame.Goals as goal
@@ -24,8 +23,8 @@ pub returns : goal.returns
 returns g c = record {
   opened = λ s stands is.
       let has = c.in_ok-join_next.ensures.begun s stands is in
-      let w : WorldState g.V.Value.values = after_update (after_joining s).world in
-      let now = c.update_all.ensures.meaning (after_joining s).world has.lender.world in
+      let w : WorldState g.V.Value.values = after_update s.world in
+      let now = c.update_all.ensures.meaning s.world (rw (joining_world s) at has.lender.world) in
       let updated = c.update_all.ensures.shape in
       let posted = c.in_ok-post_all.ensures.shape in
       let shape : SameShape c.join_next.new.core.lender.world _ = grind (arith, updated, posted) in
@@ -44,6 +43,6 @@ returns g c = record {
         };
         fixed = fixed_along refl refl (grind arith) has.fixed;
         plan = has.plan;
-        posts = rw (c.as_slice-posts.ensures.items, joining_world) at (c.in_ok-post_all.ensures.replies w now);
+        posts = rw c.as_slice-posts.ensures.items at (c.in_ok-post_all.ensures.replies w now);
       };
 }
