@@ -41,8 +41,8 @@ fn serve_systems<R: Threads + Sync + AllocGlobal, B: BufRead, S: Sink>(
     serve_scenario(rt, scenario, systems, workers, input, sink)
 }
 
-/// Runs the frames of a scenario file, and then a frame for each line of the input; each line is
-/// answered by a line of JSON, before the next is read.
+/// Runs the frames of a scenario file, and then a frame for each line of the input that is a list of
+/// posts; each line is answered by a line of JSON, before the next is read.
 ///
 /// # Errors
 ///

@@ -1,5 +1,5 @@
-//! A scenario whose frames go on as lines of an input: each line is a frame, and is answered by a
-//! line of JSON.
+//! A scenario whose frames go on as lines of an input: a list of posts is a frame, and each line is
+//! answered by a line of JSON.
 #![tactic(auto)]
 
 mod from_bytes;

@@ -23,8 +23,8 @@ use std::thread::Threads;
 ///
 /// # Errors
 ///
-/// `NoMemory` if there was none for the engine or a line, `Run` with the fault of a frame, and
-/// `Write` if the sink failed.
+/// `NoMemory` if there was none for the engine or a line, `Run` if there was none for a frame or
+/// the accounts, and `Write` if the sink failed.
 pub fn trace_scenario<R: Threads + Sync + AllocGlobal, X: SystemOf<Value = i64> + Send, S: Sink>(
     rt: &R,
     scenario: &Scenario,

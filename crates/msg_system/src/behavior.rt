@@ -54,7 +54,7 @@ pub trait Behavior: Drop {
     /// The next op of this turn, by the replies so far; None if the turn is over. An op past
     /// `MAX_OPS`, or outside the access of its system, isn't done: it ends the turn, whose last
     /// reply is then `Full` or `Outside`. If no op is outside the access, and there is none after
-    /// `MAX_OPS` replies, no turn is cut (`laws::turns_within_bounds_are_whole`).
+    /// `MAX_OPS` replies, no turn is cut (`turns_within_bounds_are_whole`).
     fn next(
         &self,
         alloc: Global,

@@ -47,8 +47,8 @@ pub trait SystemOf: Drop {
         ensures started { meaning self.new ≡ after_start counts.now (meaning self.old) };
 
     /// Takes its turn on a loan that covers its access, and gives back what the loan owned. The
-    /// replies are appended, one for each op. After `NoMemory` nothing is known of the system or of
-    /// the replies, and the loan is gone.
+    /// replies are appended, one for each op, and one more if the turn was cut. After `NoMemory`
+    /// nothing is known of the system or of the replies, and the loan is gone.
     fn run(
         &mut self,
         alloc: Global,
@@ -91,8 +91,8 @@ pub trait System: Send + Drop {
         ensures started { meaning self.new ≡ after_start counts.now (meaning self.old) };
 
     /// Takes its turn on a loan that covers its access, and gives back what the loan owned. The
-    /// replies are appended, one for each op. After `NoMemory` nothing is known of the system or of
-    /// the replies, and the loan is gone.
+    /// replies are appended, one for each op, and one more if the turn was cut. After `NoMemory`
+    /// nothing is known of the system or of the replies, and the loan is gone.
     fn run(&mut self, alloc: Global, lent: Lent, out: &mut Vec<Reply>) -> Result<Taken, NoMemory>
         requires covers { Covers (meaning self.old).needs lent }
         ensures ran { IfOk result (λ taken. Ran i64_values (meaning self.old) (meaning self.new)

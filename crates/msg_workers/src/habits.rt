@@ -8,7 +8,7 @@ use std::marker::Model;
 const PLACES: usize = MAX_JOBS;
 
 /// What a try costs, if it doesn't pay, for its threads. It takes as long as the start of a thread
-/// and its end, from 30 to 400 us; a batch in place that is as large takes some 5 ms.
+/// and its end, from 10 to 400 us; a batch in place that is as large takes some 5 ms.
 const PRICE: i64 = 4_194_304;
 
 /// What it costs beside for each job, which goes to a board and comes back.

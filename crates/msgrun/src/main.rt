@@ -1,8 +1,8 @@
 //! Runs a scenario file, and reports what its systems were answered and what each reader got,
 //! missed and cleared; or answers a calls file: the calls of one message buffer and its cursors, a
 //! line for each; or checks a file, and tells where and why it is refused; or tells in which order
-//! the systems of a scenario run, and why; or serves a scenario: each line of standard input is a
-//! frame, and is answered by a line of JSON.
+//! the systems of a scenario run, and why; or serves a scenario: each line of standard input, a
+//! frame or a question, is answered by a line of JSON.
 //!
 //! `msgrun run FILE --workers N` runs a scenario, `msgrun serve FILE --workers N` serves one,
 //! `msgrun buffer FILE` answers calls, and `msgrun` alone those of standard input; `msgrun check
