@@ -35,7 +35,7 @@ def main():
         try:
             engine.frame([("ordre", 1)])
         except Refused as refused:
-            print(f"refused: {refused}")
+            print(f"refused: {refused.answer['name']} at {refused.answer['at']}")
         for reader in engine.readers():
             print(f"{reader['system']} of {reader['type']}: got {reader.get('got', 0)}, missed {reader.get('missed', 0)}, "
                   f"unread {reader['unread']} of {reader['written']}")

@@ -35,7 +35,10 @@ class Engine:
         return answer
 
     def record(self, file):
-        """Writes a scenario file with all frames so far: `msgrun run` gives the same replies."""
+        """Writes a scenario file with all frames so far: `msgrun run` gives the same replies. A file has at most 10,000
+        frames and 4 MiB."""
+        if len(self.frames) > 10_000:
+            raise ValueError(f"a file has at most 10,000 frames, and these are {len(self.frames)}")
         with open(file, "w", encoding="utf-8") as text:
             json.dump({**self.scenario, "frames": self.frames}, text)
 

@@ -30,14 +30,16 @@ def passed(reply):
 class Reader:
     """The places of a reader, frame by frame from its first turn on, and the stretches that it missed."""
 
-    def __init__(self, frame, start):
-        self.places, self.missed = [(frame, start)], []
+    def __init__(self, frame, place):
+        self.places, self.missed = [(frame, place)], []
 
     def take(self, frame, reply):
         """Follows a reply: it missed the messages right before its first, and passed those from there on."""
-        end = reply["first"] + passed(reply)
+        start, end = reply["first"] - reply["missed"], reply["first"] + passed(reply)
+        if len(self.places) == 1:
+            self.places[0] = (self.places[0][0], start)
         if reply["missed"]:
-            self.missed.append((frame, reply["first"] - reply["missed"], reply["first"]))
+            self.missed.append((frame, start, reply["first"]))
         self.places.append((frame, end))
 
 
@@ -48,7 +50,7 @@ def follow(frames, accounts):
         for turn in frame["turns"]:
             system = turn["system"]
             if system not in turns:
-                readers.update({(of["type"], system): Reader(frame["frame"], of.get("start", 0))
+                readers.update({(of["type"], system): Reader(frame["frame"], of.get("place", 0))
                                 for of in accounts if of["system"] == system})
             ran, skipped = turns.get(system, (0, 0))
             turns[system] = (ran, skipped + 1) if turn.get("skipped") else (ran + 1, skipped)
@@ -141,11 +143,21 @@ def row(reader, turns):
     return f"<tr{missed}>" + "".join(f"<td>{escape(str(cell))}</td>" for cell in cells) + "</tr>"
 
 
+def bare_row(system, turns):
+    """The row of a system that reads nothing."""
+    ran, skipped = turns[system]
+    cells = [system, "-", ran or "never", skipped or "-"] + ["-"] * 7
+    missed = "" if ran else ' class="lost"'
+    return f"<tr{missed}>" + "".join(f"<td>{escape(str(cell))}</td>" for cell in cells) + "</tr>"
+
+
 def page(frames, accounts):
     readers, turns = follow(frames, accounts)
-    heads = "reader type ran skipped start got missed cleared place lost unread".split()
+    heads = "system type ran skipped start got missed cleared place lost unread".split()
     table = "<table><tr>" + "".join(f"<th>{head}</th>" for head in heads) + "</tr>"
-    table += "".join(row(reader, turns) for reader in accounts) + "</table>"
+    table += "".join(row(reader, turns) for reader in accounts)
+    others = turns.keys() - {reader["system"] for reader in accounts}
+    table += "".join(bare_row(system, turns) for system in turns if system in others) + "</table>"
     names = frames[-1]["types"] if frames else []
     plots = "".join(plot(name, frames, readers, accounts) for name in names) or "<p>No frame was run.</p>"
     legend = ("Grey: the messages that are kept. A line: the place of a reader, the number of the next message that it can "

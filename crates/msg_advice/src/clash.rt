@@ -57,10 +57,18 @@ pub(crate) fn add_clash(
     let Some(system) = scenario.systems.as_slice().get(system as usize) else {
         return Ok(());
     };
-    let Some(clash) = clash_of(system.program.ops.as_slice()) else {
+    let ops = system.program.ops.as_slice();
+    let Some(clash) = clash_of(ops) else {
         return Ok(());
     };
     let t = type_name(scenario, clash.of_type);
     let (reader, writer) = (clash.reader, clash.writer);
-    writeln!(text, "ops[{reader}] reads {t}, and ops[{writer}] writes it")
+    let writes = match ops.get(writer) {
+        Some(Op::Drain(_)) => "drains",
+        _ => "writes",
+    };
+    writeln!(
+        text,
+        "ops[{reader}] reads {t}, and ops[{writer}] {writes} it"
+    )
 }

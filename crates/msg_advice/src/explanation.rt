@@ -14,13 +14,8 @@ pub use sentence::why;
 /// How many bytes of a text are shown at most.
 const LONGEST: usize = 60;
 
-/// Two lines on a fault of the JSON value that a file is: where it lies and what stands there, and
-/// why that is refused.
-///
-/// ```text
-/// at systems[7].ops[1][1]: "arive2" (system "tower2")
-/// no type has this name; did you mean arrive2?
-/// ```
+/// Two lines on a fault of the JSON value that a file is: where it lies and what stands there, as
+/// `at systems[7].ops[1][1]: "arive2" (system "tower2")`, and why that is refused.
 pub fn fault_lines(alloc: Global, fault: &Fault, file: &Value) -> Result<String, NoMemory> {
     let place = fault.location;
     let there = value_at(file, place);

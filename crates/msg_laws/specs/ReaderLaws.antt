@@ -1,12 +1,12 @@
 -- What holds of readers over every run.
-use Rattle.msg_frames.specs.{declared.frame.Frame.Frame, declared.log.Log.Log, declared.place.Place.Place}
-use Rattle.msg_frames.specs.Prelude.{IsBalanced, IsSoundState, State, entries_in_run, first_state, found_at, frame, join_flags, no_totals, reader_place, replies_of, run, totals_from, with_entries}
+use Rattle.msg_frames.specs.{declared.backlog.Backlog.Backlog, declared.frame.Frame.Frame, declared.log.Log.Log, declared.place.Place.Place}
+use Rattle.msg_frames.specs.Prelude.{IsBalanced, IsSoundState, State, account_of, backlog_of, entries_in_run, first_state, found_at, frame, join_flags, no_totals, reader_place, replies_of, run, totals_from, with_entries}
 use Rattle.msg_order.specs.Prelude.{has_joined}
 use Rattle.msg_order.specs.declared.rule.Rule.{Rule}
 use Rattle.msg_buffer.specs.Prelude.{count}
 use Rattle.msg_system.specs.{Prelude.Meaning, Prelude.is_cut, declared.reply.Reply.Reply, declared.start.Start.Start, declared.start.Start.TheVariants.Current, declared.start.Start.TheVariants.Zero}
 use Rattle.msg_world.specs.{Prelude.Values, Prelude.WorldState, declared.part.Part.TheVariants.OfType, declared.record.TheConstants.HOST}
-use Rattle.std.specs.Prelude.{IsFalse, IsTrue, List, filter, flat_map, map, not, ℕ, ◌++◌, ◌<◌, ◌∷◌, ◌≡◌}
+use Rattle.std.specs.Prelude.{IsFalse, IsTrue, List, filter, flat_map, map, not, ℕ, ◌+◌, ◌++◌, ◌<◌, ◌∷◌, ◌≡◌}
 
 module _ {V : Type 0} where
   -- the replies of a turn to the ops that were done
@@ -61,6 +61,13 @@ abbrev pub AccountsBalance : {V : Type 0} → Values V → Type 0
 AccountsBalance values = (s : State values) (i t : ℕ) → IsSoundState s → t < s.types
     → IsTrue (has_joined (join_flags s) i)
     → IsBalanced ((s.members i).totals t) (reader_place s i t)
+
+-- The place of a reader, what was dropped past it and what it can still read add up to all that
+-- was written.
+abbrev pub BacklogsAddUp : {V : Type 0} → Values V → Type 0
+BacklogsAddUp values = (s : State values) (i t : ℕ) → IsSoundState s → t < s.types →
+    let left : Backlog = backlog_of s (account_of s i t) in
+    reader_place s i t + left.lost + left.unread ≡ count (s.world.histories t)
 
 -- A reader that hasn't joined has no totals, and stands at 0.
 abbrev pub NoneBeforeJoining : {V : Type 0} → Values V → Type 0

@@ -23,9 +23,11 @@ pub fn readers_tile_over_runs<V: Value>()
     ensures law { Spec.ReadersTile V.values }
 {}
 
-/// A reader's totals lead from its start to its place. One that hasn't joined has none.
+/// A reader's totals lead from its start to its place, and what it lost and has not read yet from
+/// there to the end. One that hasn't joined has no totals.
 pub fn accounts_add_up<V: Value>()
     ensures balance { Spec.AccountsBalance V.values }
+    ensures backlogs { Spec.BacklogsAddUp V.values }
     ensures before_joining { Spec.NoneBeforeJoining V.values }
 {}
 

@@ -41,8 +41,9 @@ pub fn answer_bytes<S: Sink>(alloc: Global, bytes: &[u8], sink: &mut S) -> Resul
     ensures unread { (why : RefusalView) → result ≡ Err (AnswerFault.Refused why)
         → sink.new ≡ sink.old }
 
-    // An answer needs no engine.
+    // An answer needs no engine, and no input of lines.
     ensures no_engine { ¬ (result ≡ Err AnswerFault.NoMemory) }
+    ensures no_input { ¬ (result ≡ Err AnswerFault.Input) }
 {
     let calls = read_calls(alloc, bytes)?;
     Ok(run_calls(alloc, &calls, sink)?)
@@ -80,6 +81,7 @@ pub fn report_bytes<R: Threads + Sync + AllocGlobal, S: Sink>(
         → sink.new ≡ sink.old }
     ensures no_engine { result ≡ Err AnswerFault.NoMemory
         → IsOfScenario bytes.now (λ scenario. sink.new ≡ sink.old) }
+    ensures no_input { ¬ (result ≡ Err AnswerFault.Input) }
 {
     let scenario = read_scenario(rt.alloc(), bytes)?;
     let systems = systems_of(rt.alloc(), &scenario)?;
@@ -118,8 +120,9 @@ pub fn plan_bytes<S: Sink>(
     ensures unread { (why : RefusalView) → result ≡ Err (AnswerFault.Refused why)
         → sink.new ≡ sink.old }
 
-    // A plan needs no engine.
+    // A plan needs no engine, and no input of lines.
     ensures no_engine { ¬ (result ≡ Err AnswerFault.NoMemory) }
+    ensures no_input { ¬ (result ≡ Err AnswerFault.Input) }
 {
     let scenario = read_scenario(alloc, bytes)?;
     Ok(put_plan(alloc, &scenario, frame, form, sink)?)

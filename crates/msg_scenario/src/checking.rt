@@ -7,10 +7,9 @@ ghost use Rattle.msg_scenario.specs.Checked.{EndsCheck, FailsFor, IsEither, Pass
 ghost use Rattle.msg_scenario.specs.inner.Checking.{EndsIf, IsRefusalOfEither};
 
 use crate::CheckFault;
-use msg_advice::{fault_lines, remarks_of, unfit_lines};
+use msg_advice::{fault_lines, remarks_of, repeated_line, unfit_lines};
 use msg_calls::{Calls, read_file};
 use msg_json::json::parse;
-use msg_json::numerals::add_count;
 use msg_json::{Fault, FileFault, Reason, Refusal, ReportFault, Sink, is_calls_file, put_text};
 use msg_reading::{Scenario, read_sections, read_value};
 use msg_world::NoMemory;
@@ -44,7 +43,7 @@ fn check(alloc: Global, bytes: &[u8]) -> Result<Vec<u8>, CheckFault>
 {
     match parse(alloc, bytes) {
         Ok(value) => {
-            let checked = check_value(alloc, &value);
+            let checked = check_value(alloc, bytes, &value);
             drop(value);
             checked
         }
@@ -57,40 +56,48 @@ fn check(alloc: Global, bytes: &[u8]) -> Result<Vec<u8>, CheckFault>
 }
 
 /// The same, of the value that the bytes are a text of.
-fn check_value(alloc: Global, value: &Value) -> Result<Vec<u8>, CheckFault>
+fn check_value(alloc: Global, bytes: &[u8], value: &Value) -> Result<Vec<u8>, CheckFault>
     ensures passed { OnOk result (IsEither (view value.now)) }
     ensures refused { IfErr result (EndsIf (IsRefusalOfEither (view value.now))) }
 {
+    let repeated = repeated_line(alloc, bytes)?;
+    let repeated = repeated.as_slice();
     if is_calls_file(value) {
         match read_file(alloc, value) {
-            Ok(calls) => Ok(count_calls(alloc, &calls)?),
-            Err(fault) => Err(tell(alloc, &fault, value)),
+            Ok(calls) => Ok(count_calls(alloc, &calls, repeated)?),
+            Err(fault) => Err(tell(alloc, &fault, value, repeated)),
         }
     } else {
         match read_value(alloc, value) {
-            Ok(scenario) => Ok(tell_scenario(alloc, &scenario)?),
-            Err(fault) => Err(tell(alloc, &fault, value)),
+            Ok(scenario) => Ok(tell_scenario(alloc, &scenario, repeated)?),
+            Err(fault) => Err(tell(alloc, &fault, value, repeated)),
         }
     }
 }
 
-/// What ends the check at a fault of a value: the lines that tell of it, or want of memory.
-fn tell(alloc: Global, fault: &Fault, value: &Value) -> CheckFault
+/// What ends the check at a fault of a value: the lines that tell of it and of a repeated key, or want
+/// of memory.
+fn tell(alloc: Global, fault: &Fault, value: &Value, repeated: &[u8]) -> CheckFault
     ensures ends { EndsIf (λ why. (fault.now.reason ≢ Reason.NoMemory)
         × (why ≡ reason_refusal fault.now.reason)) result }
 {
     if matches!(fault.reason, Reason::NoMemory) {
         return CheckFault::Report(ReportFault::NoMemory);
     }
-    match lines_of(alloc, fault, value) {
+    match lines_of(alloc, fault, value, repeated) {
         Ok(lines) => CheckFault::Refused(fault.reason.refusal(), lines),
         Err(_) => CheckFault::Report(ReportFault::NoMemory),
     }
 }
 
-/// The lines that tell of a fault of a value, and what there is to tell of a scenario that is
-/// refused as a whole.
-fn lines_of(alloc: Global, fault: &Fault, value: &Value) -> Result<Vec<u8>, NoMemory> {
+/// The lines that tell of a fault of a value, what there is to tell of a scenario that is refused as
+/// a whole, and the line of a repeated key.
+fn lines_of(
+    alloc: Global,
+    fault: &Fault,
+    value: &Value,
+    repeated: &[u8],
+) -> Result<Vec<u8>, NoMemory> {
     let mut text = fault_lines(alloc, fault, value)?.into_bytes();
     if matches!(fault.reason, Reason::Clash(_) | Reason::Cycle(_)) {
         match read_sections(alloc, value) {
@@ -101,53 +108,57 @@ fn lines_of(alloc: Global, fault: &Fault, value: &Value) -> Result<Vec<u8>, NoMe
             Err(_) => {}
         }
     }
+    text.extend_from_slice(repeated)?;
     Ok(text)
 }
 
-/// The lines that tell where bytes stop to be JSON.
+/// The line that tells where bytes stop to be JSON.
 fn tell_not_json(alloc: Global, line: usize, column: usize) -> Result<Vec<u8>, NoMemory> {
-    let mut text = Vec::new(alloc);
-    add_count(&mut text, b"at line ", line as u64)?;
-    add_count(&mut text, b", column ", column as u64)?;
-    text.extend_from_slice(b"\n")?;
-    Ok(text)
+    let mut text = String::new(alloc);
+    writeln!(text, "at line {line}, column {column}")?;
+    Ok(text.into_bytes())
 }
 
 /// The counts of a scenario that can be run, and what is remarked of it.
-fn tell_scenario(alloc: Global, scenario: &Scenario) -> Result<Vec<u8>, NoMemory>
+fn tell_scenario(alloc: Global, scenario: &Scenario, repeated: &[u8]) -> Result<Vec<u8>, NoMemory>
     requires runnable { IsRunnable scenario.now }
 {
-    let mut text = Vec::new(alloc);
-    add_count(&mut text, b"ok: ", scenario.systems.as_slice().len() as u64)?;
-    add_count(
-        &mut text,
-        b" systems, ",
-        scenario.types.as_slice().len() as u64,
+    let mut text = String::new(alloc);
+    let (systems, types) = (scenario.systems.as_slice(), scenario.types.as_slice());
+    write!(
+        text,
+        "ok: {} systems, {} types, ",
+        systems.len(),
+        types.len()
     )?;
-    add_count(
-        &mut text,
-        b" types, ",
-        scenario.resources.as_slice().len() as u64,
+    let (resources, rules) = (scenario.resources.as_slice(), scenario.rules.as_slice());
+    write!(
+        text,
+        "{} resources, {} rules, ",
+        resources.len(),
+        rules.len()
     )?;
-    add_count(
-        &mut text,
-        b" resources, ",
-        scenario.rules.as_slice().len() as u64,
-    )?;
-    add_count(
-        &mut text,
-        b" rules, ",
-        scenario.frames.as_slice().len() as u64,
-    )?;
-    text.extend_from_slice(b" frames\n")?;
+    writeln!(text, "{} frames", scenario.frames.as_slice().len())?;
+    let mut text = text.into_bytes();
     text.extend_from_slice(&remarks_of(alloc, scenario)?)?;
+    add_remark(&mut text, repeated)?;
     Ok(text)
 }
 
-/// The counts of a calls file.
-fn count_calls(alloc: Global, calls: &Calls) -> Result<Vec<u8>, NoMemory> {
-    let mut text = Vec::new(alloc);
-    add_count(&mut text, b"ok: ", calls.calls().len() as u64)?;
-    text.extend_from_slice(b" calls\n")?;
+/// The count of a calls file, and what is remarked of it.
+fn count_calls(alloc: Global, calls: &Calls, repeated: &[u8]) -> Result<Vec<u8>, NoMemory> {
+    let mut text = String::new(alloc);
+    writeln!(text, "ok: {} calls", calls.calls().len())?;
+    let mut text = text.into_bytes();
+    add_remark(&mut text, repeated)?;
     Ok(text)
+}
+
+/// Adds a line as a remark, if there is one.
+fn add_remark(text: &mut Vec<u8>, line: &[u8]) -> Result<(), NoMemory> {
+    if !line.is_empty() {
+        text.extend_from_slice(b"remark: ")?;
+        text.extend_from_slice(line)?;
+    }
+    Ok(())
 }

@@ -110,6 +110,9 @@ pub fn add_wanted(
             form,
             ..
         } = kind;
+        if place.nots > 0 {
+            return write!(text, "{one} is a list {form}");
+        }
         return write!(text, "{one} is a list, in a list of {many}: [{form}]");
     };
     if kind.heads.is_empty() {
@@ -121,15 +124,20 @@ pub fn add_wanted(
     }
 }
 
-/// Adds the forms of a list with this head, or the nearest head.
+/// Adds the forms of a list with this head; or what else begins so, or the nearest head.
 fn add_head(alloc: Global, text: &mut String, kind: Kind, head: &Value) -> Result<(), NoMemory> {
     let word = head.as_str().unwrap_or("");
     if let Some((_, forms)) = kind.heads.iter().find(|(known, _)| *known == word) {
         return write!(text, "{word} has the parts {forms}");
     }
-    let heads: Vec<&str> = kind.heads.iter().map(|(known, _)| *known).collect(alloc)?;
     write!(text, "{} can't begin with ", kind.one)?;
     super::add_shown(alloc, text, head)?;
+    for (one, others) in &[("an op", OPS), ("a condition", IFS), ("a call", CALLS)] {
+        if others.iter().any(|(known, _)| *known == word) {
+            return write!(text, "; {one} does");
+        }
+    }
+    let heads: Vec<&str> = kind.heads.iter().map(|(known, _)| *known).collect(alloc)?;
     add_question(text, nearest(word, &heads))
 }
 

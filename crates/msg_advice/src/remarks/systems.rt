@@ -3,21 +3,25 @@
 use crate::names::{type_name, types_of};
 use crate::uses::{Use, asks_for, op_uses};
 use msg_reading::{Scenario, SystemSpec};
-use msg_system::Op;
+use msg_system::{Condition, Op};
 use msg_world::{NoMemory, TypeNo};
 
 pub(super) fn add_signals(text: &mut String, scenario: &Scenario) -> Result<(), NoMemory> {
-    let systems = scenario.systems.as_slice();
-    if scenario.held && !systems.iter().any(signals) {
+    if is_never_updated(scenario) {
         return text.push_str("remark: updates are held, and no system signals\n");
     }
-    for system in systems {
+    for system in scenario.systems.as_slice() {
         if signals(system) && !scenario.held {
             let name = system.name.as_str();
             writeln!(text, "remark: {name} signals, and updates aren't held")?;
         }
     }
     Ok(())
+}
+
+/// Whether no message is ever dropped, since updates are held and no system signals.
+fn is_never_updated(scenario: &Scenario) -> bool {
+    scenario.held && !scenario.systems.as_slice().iter().any(signals)
 }
 
 fn signals(system: &SystemSpec) -> bool {
@@ -38,6 +42,9 @@ pub(super) fn add_absent(text: &mut String, scenario: &Scenario) -> Result<(), N
 }
 
 pub(super) fn add_skipped(text: &mut String, scenario: &Scenario) -> Result<(), NoMemory> {
+    if is_never_updated(scenario) {
+        return Ok(());
+    }
     let types = types_of(*text.allocator(), scenario)?;
     for system in scenario.systems.as_slice() {
         for t in types.as_slice() {
@@ -51,7 +58,7 @@ pub(super) fn add_skipped(text: &mut String, scenario: &Scenario) -> Result<(), 
 }
 
 /// How a system with conditions may miss messages of a type that an op of it reads, if it may. One
-/// whose only condition is that messages of the type came, and that takes all of them, misses none.
+/// that waits for nothing but messages of the type, and takes all of them, misses none.
 fn may_miss(system: &SystemSpec, t: TypeNo) -> Option<&'static str> {
     let conditions = system.place.conditions.as_slice();
     let ops = system.program.ops.as_slice();
@@ -59,15 +66,18 @@ fn may_miss(system: &SystemSpec, t: TypeNo) -> Option<&'static str> {
         return None;
     }
     let takes_all = ops.iter().any(|op| takes_all(op, t));
-    let mut woken = conditions.iter();
-    let is_woken = woken.any(|condition| condition.nots == 0 && asks_for(condition, t));
-    if is_woken && !takes_all {
+    if conditions.iter().any(|condition| wakes(condition, t)) && !takes_all {
         Some("runs only if new messages came, and doesn't take all of them, so it may miss some")
-    } else if !is_woken || conditions.len() > 1 {
+    } else if !conditions.iter().all(|condition| wakes(condition, t)) {
         Some("may skip its turns, and so miss messages")
     } else {
         None
     }
+}
+
+/// Whether the condition holds exactly if new messages of the type came.
+fn wakes(condition: &Condition, t: TypeNo) -> bool {
+    condition.nots % 2 == 0 && asks_for(condition, t)
 }
 
 /// Whether nothing of the type is unread after the op.

@@ -173,10 +173,10 @@ buffer` does. Nothing is run. A file that can be run is told with its counts:
 and a scenario with a remark on each thing that its author may not have meant:
   remark: r reads hit a frame late, since it runs before w (rules[0])
 One that is refused is told with the place of its first fault, what stands there, and why
-that is refused:
+that is refused, with the name that may have been meant:
   msgrun: refused 8 UnknownName
   at systems[1].ops[0][1]: \"hat\" (system \"r\")
-  no type has this name; did you mean hit?
+  ..
 Systems, types and all lists are counted from 0.";
 
 pub(crate) const PLAN: &str = "\
@@ -200,7 +200,6 @@ read:
    \"types\":{\"hit\":{\"oldest\":1,\"written\":5}},\"resources\":{}}
 A line that is refused changes nothing, and is answered by where and why:
   [[\"hat\",6]]
-  {\"refused\":8,\"name\":\"UnknownName\",\"at\":\"[0][0]\",
-   \"why\":\"no type has this name; did you mean hit?\"}
+  {\"refused\":8,\"name\":\"UnknownName\",\"at\":\"[0][0]\",\"why\":\"..\"}
 The line \"readers\", with its quotes, asks what each reader got, missed and cleared; that is
 told at the end of input too. A line has at most 4194304 bytes. docs/FORMATS.md has it all.";
