@@ -5,7 +5,7 @@ pub use Rattle.msg_json.specs.Seen.{head_seen, items_seen, number_seen, text_see
 pub use Rattle.msg_json.specs.Values.{at_key, batch_of, below, headed, known_keys, limit, limit_of, list_up_to, natural, number_of, numbers_of, text_of as text_in, value_of, values_from, values_of, whole}
 pub use Rattle.msg_json.specs.Keys.{is_calls_file}
 pub use Rattle.msg_json.specs.Text.{Text}
-pub use Rattle.msg_json.specs.Sinks.{AppendsAtLeast, AppendsPrefix, TakesUnlessFailed, failures_after, one_failure_more}
+pub use Rattle.msg_json.specs.Sinks.{AppendsAtLeast, AppendsPrefix, IsPut, TakesUnlessFailed, failures_after, one_failure_more}
 pub use Rattle.msg_json.specs.declared.refusal.Refusal.{Refusal}
 pub use Rattle.msg_json.specs.declared.refusal.Refusal.TheVariants.{NoMemory, NotJson, Shape, TooMany, UnknownKey}
 pub use Rattle.msg_json.specs.declared.sink.PutFault.{PutFault}

@@ -1,6 +1,9 @@
 -- What sinks show, what a put does to them, and what a text in several puts leaves.
-use Rattle.std.specs.Prelude.{◌≡◌, ◌⊎◌, ℕ, ◌+◌, ◌-◌, ◌^◌, min, ◌==◌, if◌then◌else◌, List, [], ◌∷◌, ◌++◌, Option, Result, Ok, Err, IsErr}
+use Rattle.std.specs.Prelude.{◌≡◌, ◌≢◌, ◌⊎◌, ℕ, ◌+◌, ◌-◌, ◌^◌, min, ◌==◌, if◌then◌else◌, List, [], ◌∷◌, ◌++◌, Option, Result, Ok, Err, IsErr, OnErr, OnOk}
 use Rattle.std.specs.Io.KnownBytes.{Appends}
+use Rattle.msg_json.specs.Text.{Text}
+use Rattle.msg_json.specs.declared.report_fault.ReportFault.{ReportFault}
+use Rattle.msg_json.specs.declared.report_fault.ReportFault.TheVariants as report_fault
 
 -- a sink in memory: the bytes that it took, and how often it failed
 pub record InMemory : Type 0 where
@@ -41,3 +44,13 @@ abbrev pub TakesUnlessFailed : Option (List ℕ) → Option (List ℕ) → ℕ �
 TakesUnlessFailed old new failures failures' text =
     (Appends old new text × (failures' ≡ failures))
     ⊎ (AppendsPrefix old new text × (failures' ≡ one_failure_more failures))
+
+-- What a put of a text left that came to this: the text was taken whole, or a front of it, and then
+-- the sink failed or was given nothing.
+pub record IsPut {S : Type 0} (contents : S → Option (List ℕ)) (failures : S → ℕ) (text : Text)
+    (came : Result (Unit {0}) ReportFault) (old new : S) : Type 0 where
+  pub ok : OnOk came (Appends (contents old) (contents new) text)
+  pub quiet : OnOk came (failures new ≡ failures old)
+  pub part : OnErr came (AppendsPrefix (contents old) (contents new) text)
+  pub failed : came ≡ Err report_fault.Write → failures new ≡ one_failure_more (failures old)
+  pub none : OnErr came (came ≢ Err report_fault.Write → new ≡ old)

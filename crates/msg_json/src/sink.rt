@@ -1,6 +1,6 @@
 ghost use Rattle.std.specs.Prelude.{◌≡◌, ◌≤◌, List, ℕ, Option, OnOk, OnErr, IfErr, IfOk, length};
 ghost use Rattle.std.specs.Io.KnownBytes.{WriteAppends, Appends};
-ghost use Rattle.msg_json.specs.Sinks.{failures_after, one_failure_more, AppendsPrefix};
+ghost use Rattle.msg_json.specs.Sinks.{failures_after, one_failure_more, AppendsPrefix, IsPut};
 
 use crate::report_fault::ReportFault;
 use thiserror::Error;
@@ -49,11 +49,7 @@ pub fn put_all<S: Sink>(sink: &mut S, piece: &[u8]) -> Result<(), PutFault>
 
 /// Puts a whole text, as `put_all` does. If the sink fails, the error is `Write`.
 pub fn put_text<S: Sink>(text: &[u8], sink: &mut S) -> Result<(), ReportFault>
-    ensures ok { OnOk result (Appends (S.contents sink.old) (S.contents sink.new) text.now) }
-    ensures quiet { OnOk result (S.failures sink.new ≡ S.failures sink.old) }
-    ensures prefix { OnErr result
-        (AppendsPrefix (S.contents sink.old) (S.contents sink.new) text.now) }
-    ensures write { OnErr result (S.failures sink.new ≡ one_failure_more (S.failures sink.old)) }
+    ensures put { IsPut S.contents S.failures text.now result sink.old sink.new }
     ensures only_write { IfErr result (λ fault. fault ≡ ReportFault.Write) }
 {
     put_all(sink, text).map_err(|_| ReportFault::Write)

@@ -1,5 +1,5 @@
 -- The frames of a scenario, run one after another, and what the sink took of their text.
-use Rattle.std.proofs.Common.{min, ◌^◌, ◌≡◌, ◌≢◌, ℕ, ◌+◌, ◌-◌, ◌<◌, List, [], ◌∷◌, ◌++◌, length, get_or, take, drop, refl, sym, ◌∙◌, append_assoc, append-nil, Option, Result, Ok, Err, IfErr, OnErr, OnOk, ap, arith, inl, inr, eq-eqb, ◌==◌, if◌then◌else◌, ◌⊎◌, ℤ}
+use Rattle.std.proofs.Common.{min, ◌^◌, ◌≡◌, ◌≢◌, ℕ, ◌+◌, ◌-◌, ◌<◌, List, [], ◌∷◌, ◌++◌, length, get_or, take, drop, refl, sym, ◌∙◌, append_assoc, append-nil, Option, Result, Ok, Err, IfErr, ap, arith, inl, inr, eq-eqb, ◌==◌, if◌then◌else◌, ◌⊎◌, ℤ}
 use Rattle.std.proofs.lemmas.{Grind.common_steps, List.drop_more, List.take_more, List.take-append-drop}
 use Rattle.std.proofs.Math.Seq.{take-append_seam, take-length}
 use Rattle.std.specs.Io.KnownBytes.{Appends}
@@ -13,7 +13,7 @@ use Rattle.msg_exec.specs.declared.engine.EngineOf.{EngineOf}
 use Rattle.msg_frames.proofs.{Functions.run_more, SystemsStay.frames_keep}
 use Rattle.msg_world.specs.{declared.run_fault.RunFault.RunFault, Prelude.i64_values}
 use Rattle.msg_world.specs.declared.run_fault.RunFault.TheVariants as run_fault
-use Rattle.msg_json.specs.Prelude.{AppendsAtLeast, AppendsPrefix, Text, one_failure_more}
+use Rattle.msg_json.specs.Prelude.{AppendsAtLeast, AppendsPrefix, IsPut, Text, one_failure_more}
 use Rattle.msg_json.specs.declared.report_fault.ReportFault.{ReportFault}
 use Rattle.msg_json.specs.declared.report_fault.ReportFault.TheVariants as report_fault
 use Rattle.msg_scenario.specs.Prelude.{EndsInText, HasRunFirst, LeavesEngine, LeavesReport, accounts_text, frame_text, frames_text, text_so_far}
@@ -183,10 +183,8 @@ module _ {S : Type 0} (contents : S → Option (List ℕ)) (failures : S → ℕ
 
       -- its text was put in part
       pub frame_stopped : (fault : ReportFault) → EndsInText (Err fault) → (after : S)
-          → AppendsPrefix (contents now) (contents after) (frame_text s (k + 1) frame log)
-          → (ended fault ≡ ended report_fault.Write → failures after ≡ one_failure_more (failures now))
-          → (ended fault ≡ ended report_fault.NoMemory → after ≡ now) → Leaves (Err fault) old after f
-      frame_stopped fault in_text after puts write memory =
+          → IsPut contents failures (frame_text s (k + 1) frame log) (Err fault) now after → Leaves (Err fault) old after f
+      frame_stopped fault in_text after put =
           let texts = frames_text s 1 s.frames far.logs in
           let here = frame_text s (k + 1) frame log in
           let earlier : take (length logs_now - 1) logs_now ≡ far.logs =
@@ -194,14 +192,14 @@ module _ {S : Type 0} (contents : S → Option (List ℕ)) (failures : S → ℕ
           left_in_text fault in_text old after f logs_now left (rw many_now was_run)
           (AppendsPrefix_after (contents old) (contents now) (contents after) texts here
           (rest_of s logs_now (accounts_of left)) _
-          (rw (← text_now) (text_so_far_parts s logs_now (accounts_of left))) far.printed puts) (
-            puts.0,
+          (rw (← text_now) (text_so_far_parts s logs_now (accounts_of left))) far.printed put.part) (
+            put.part.0,
             rw earlier
-                (Appends-trans (contents old) (contents now) (contents after) texts puts.0 far.printed puts.3),
+                (Appends-trans (contents old) (contents now) (contents after) texts put.part.0 far.printed put.part.3),
           )
           (inl (AppendsPrefix_after (contents old) (contents now) (contents after) texts here [] _
-          (text_now ∙ sym (append-nil (texts ++ here))) far.printed puts))
-          (λ is. rw (← far.quiet) (write is)) (λ is. ap failures (memory is) ∙ far.quiet) far.begun one.stands
+          (text_now ∙ sym (append-nil (texts ++ here))) far.printed put.part))
+          (λ is. rw (← far.quiet) (put.failed is)) (λ is. ap failures (put.none (λ write. cc)) ∙ far.quiet) far.begun one.stands
           (omega (arith, counted, far.counted, many_now))
 
     -- ---- no memory
@@ -251,15 +249,11 @@ module _ {S : Type 0} (contents : S → Option (List ℕ)) (failures : S → ℕ
       -- what came of the put of their lines
       pub readers_done : (came : Result (Unit {0}) ReportFault)
           → ((frames : List (Frame ℤ)) → IsCompleteRun frames (state_of s))
-          → OnOk came (Appends (contents now) (contents after) (accounts_text s accounts))
-          → OnOk came (failures after ≡ failures now)
-          → OnErr came (AppendsPrefix (contents now) (contents after) (accounts_text s accounts))
-          → (came ≡ Err report_fault.Write → failures after ≡ one_failure_more (failures now))
-          → (came ≡ Err report_fault.NoMemory → after ≡ now)
+          → IsPut contents failures (accounts_text s accounts) came now after
           → IfErr came (λ fault. (fault ≡ report_fault.Write) ⊎ (fault ≡ report_fault.NoMemory))
           → Leaves came old after e
       -- they were put
-      readers_done (Ok u) complete puts quiet prefix write memory faults =
+      readers_done (Ok u) complete put faults =
           let whole = rw (all, take-length) at far.is_run in (
             record {
               logs = far.logs;
@@ -269,7 +263,7 @@ module _ {S : Type 0} (contents : S → Option (List ℕ)) (failures : S → ℕ
                 complete = complete s.frames;
                 printed = rw (← whole.0, ← whole.1) (Appends-trans (contents old) (contents now) (contents after)
                     (frames_text s 1 s.frames far.logs) (accounts_text s (accounts_of far.state)) far.printed
-                    (rw (are far.state far.stands) at puts));
+                    (rw (are far.state far.stands) at put.ok));
               };
               prefix = tt;
               run = λ is. absurd cc;
@@ -278,7 +272,7 @@ module _ {S : Type 0} (contents : S → Option (List ℕ)) (failures : S → ℕ
               not_spoiled = λ is. cc;
               no_bad_order = λ is. cc;
               write = λ is. absurd cc;
-              quiet = λ is. quiet ∙ far.quiet;
+              quiet = λ is. put.quiet ∙ far.quiet;
             },
             record {
               begun = far.begun;
@@ -289,11 +283,11 @@ module _ {S : Type 0} (contents : S → Option (List ℕ)) (failures : S → ℕ
             },
           )
       -- they were put in part
-      readers_done (Err fault) complete puts quiet prefix write memory faults =
+      readers_done (Err fault) complete put faults =
           let many = far.as_many in
           let texts = frames_text s 1 s.frames far.logs in
           let lines = accounts_text s (accounts_of far.state) in
-          let part : AppendsPrefix (contents now) (contents after) lines = rw (← are far.state far.stands) prefix in
+          let part : AppendsPrefix (contents now) (contents after) lines = rw (← are far.state far.stands) put.part in
           let trans = Appends-trans (contents old) (contents now) (contents after) texts part.0 far.printed part.3 in
           let n = length far.logs - 1 in
           let begun = take n far.logs in
@@ -305,5 +299,5 @@ module _ {S : Type 0} (contents : S → Option (List ℕ)) (failures : S → ℕ
           far.printed part)
           (rest ++ part.0, rw (← append_assoc, ← whole) trans)
           (inr (many ∙ all, (part.0, trans)))
-          (λ is. rw (← far.quiet) (write is)) (λ is. ap failures (memory is) ∙ far.quiet) far.begun far.stands
+          (λ is. rw (← far.quiet) (put.failed is)) (λ is. ap failures (put.none (λ write. cc)) ∙ far.quiet) far.begun far.stands
           (omega (arith, far.counted, many))

@@ -7,7 +7,7 @@ use Rattle.std.proofs.KnownBytes.{Appends-nil, Appends-trans}
 use Rattle.std.proofs.lemmas.{Bool.cases_Bool, List.drop_more, List.length-map, List.map-append, List.take_more, Result.IfOk-weaker}
 use Rattle.serde_json.specs.Data.{Data}
 use Rattle.msg_serve.specs.declared.limits.TheConstants.{MAX_LINE}
-use Rattle.msg_json.specs.Prelude.{IsJsonOf, IsNotJson, Reading, ◌>>=◌, AppendsPrefix, Text, one_failure_more}
+use Rattle.msg_json.specs.Prelude.{IsJsonOf, IsNotJson, Reading, ◌>>=◌, AppendsPrefix, IsPut, Text, one_failure_more}
 use Rattle.msg_reading.specs.ScenarioFormat as Spec
 use Rattle.msg_reading.specs.Prelude.{Declared, state_of}
 use Rattle.msg_reading.proofs.{ReadScenarioRuns.posts_fit, WhatIsUsedIsThere.HasNames}
@@ -24,7 +24,7 @@ use Rattle.msg_reading.specs.declared.scenario.Scenario.{Scenario}
 use Rattle.msg_serve.specs.Prelude.{AsksFor, AsksNext, EndsServing, EndsTrace, IsServed, IsTraced, Request, StopsAfter, lines_of, after_own, after_request, after_requests, answer_of, answers_of, frames_among, own_requests}
 use Rattle.msg_serve.specs.Requests.{frame_in, is_for_readers, names_of, readers, refused, request_of, run}
 use Rattle.msg_serve.specs.declared.server.Server.{Server}
-use Rattle.msg_serve.specs.inner.Answering.{AnsweredSoFar, Answers, AreAsked, IsPut, IsWantOfMemory, Serves, ValueAsksFor}
+use Rattle.msg_serve.specs.inner.Answering.{AnsweredSoFar, Answers, AreAsked, IsWantOfMemory, Serves, ValueAsksFor}
 use Rattle.msg_serve.specs.inner.Input.{IsRead, first_line}
 use Rattle.msg_serve.specs.declared.input.Line.{Line}
 use Rattle.msg_serve.specs.declared.input.Line.TheVariants as what
@@ -145,7 +145,7 @@ module _ {S : Type 0} (contents : S → Option (List ℕ)) (failures : S → ℕ
       pub stopped_put : (next : Request) → IsNext next → (fault : ReportFault) (new : S)
           → IsPut contents failures (answer_of s next (after_requests requests first)) (Err fault) now new
           → StopsAfter contents failures s requests first IsNext (serve_fault.Report fault) old new
-      stopped_put next is report_fault.Write new put = stopped_within next is new (put.part refl) (put.failed refl)
+      stopped_put next is report_fault.Write new put = stopped_within next is new put.part (put.failed refl)
       stopped_put next is report_fault.NoMemory new put = rw (put.none (λ e. cc)) (stopped (serve_fault.Report report_fault.NoMemory) (λ e. cc))
       stopped_put next is (report_fault.Run fault) new put = rw (put.none (λ e. cc)) (stopped (serve_fault.Report (report_fault.Run fault)) (λ e. cc))
 

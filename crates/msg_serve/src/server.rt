@@ -4,8 +4,8 @@ ghost use Rattle.msg_world.specs.Prelude.{i64_values};
 ghost use Rattle.msg_exec.specs.Prelude.{EngineStands, PostsFit};
 ghost use Rattle.msg_frames.specs.Prelude.{State};
 ghost use Rattle.msg_log_json.specs.Prelude.{frame_line, not_json_line, refused_line, too_long_line};
-ghost use Rattle.msg_json.specs.Prelude.{Text};
-ghost use Rattle.msg_serve.specs.{Served.after_request, Served.number_of, Requests.readers, Requests.run, inner.Answering.Answers, inner.Answering.IsPut, inner.Answering.IsWantOfMemory, inner.Answering.Serves};
+ghost use Rattle.msg_json.specs.Prelude.{IsPut, Text};
+ghost use Rattle.msg_serve.specs.{Served.after_request, Served.number_of, Requests.readers, Requests.run, inner.Answering.Answers, inner.Answering.IsWantOfMemory, inner.Answering.Serves};
 
 use crate::limits::MAX_LINE;
 use msg_exec::{EngineOf, Frame, Log, NoGate, Workers};

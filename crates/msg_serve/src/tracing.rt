@@ -2,12 +2,13 @@
 ghost use Rattle.std.specs.Prelude.{◌≡◌, Err, OnOk, length};
 ghost use Rattle.msg_exec.specs.Prelude.{EachIs, EngineStands, PostsFit};
 ghost use Rattle.msg_frames.specs.Prelude.{State};
+ghost use Rattle.msg_json.specs.Prelude.{IsPut};
 ghost use Rattle.msg_json.specs.declared.report_fault.ReportFault.{ReportFault as FaultView};
 ghost use Rattle.msg_world.specs.Prelude.{i64_values};
 ghost use Rattle.msg_world.specs.declared.run_fault.RunFault.{RunFault as RunView};
 ghost use Rattle.msg_scenario.specs.Prelude.{IsSystemAt};
 ghost use Rattle.msg_reading.specs.Prelude.{IsRunnable, state_of};
-ghost use Rattle.msg_serve.specs.{Requests.run, Served.EndsTrace, Served.IsTraced, Served.after_request, Served.answer_of, inner.Answering.IsPut, inner.Answering.Serves};
+ghost use Rattle.msg_serve.specs.{Requests.run, Served.EndsTrace, Served.IsTraced, Served.after_request, Served.answer_of, inner.Answering.Serves};
 
 use crate::server::{Server, put_answer, run_frame, tell_readers};
 use msg_exec::{Frame, Workers};

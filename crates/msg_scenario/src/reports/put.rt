@@ -1,9 +1,8 @@
 // Parts of a report, made in memory and put into a sink.
-ghost use Rattle.std.specs.Prelude.{◌≡◌, ◌≢◌, ◌⊎◌, [], Err, IfErr, OnOk, OnErr};
-ghost use Rattle.std.specs.Io.KnownBytes.{Appends};
+ghost use Rattle.std.specs.Prelude.{◌≡◌, ◌≢◌, ◌⊎◌, [], Err, IfErr};
 ghost use Rattle.msg_scenario.specs.Prelude.{accounts_text, frame_text};
 ghost use Rattle.msg_scenario.specs.{inner.LineStarts.AreLines, inner.SoFar.IsAfter};
-ghost use Rattle.msg_json.specs.Prelude.{AppendsPrefix, one_failure_more};
+ghost use Rattle.msg_json.specs.Prelude.{IsPut};
 
 use crate::reports::accounts::add_accounts;
 use crate::reports::frame::add_frame;
@@ -32,16 +31,9 @@ pub fn put_frame<S: Sink>(
 ) -> Result<(), ReportFault>
     requires lines { AreLines reporter.old.scenario.now reporter.old.lines.items }
     ensures same { IsAfter reporter.old.reported reporter.old reporter.new }
-    ensures ok { OnOk result (Appends (S.contents sink.old) (S.contents sink.new)
-        (frame_text reporter.old.scenario.now number frame.now log.now)) }
-    ensures quiet { OnOk result (S.failures sink.new ≡ S.failures sink.old) }
-    ensures prefix { OnErr result (AppendsPrefix (S.contents sink.old) (S.contents sink.new)
-        (frame_text reporter.old.scenario.now number frame.now log.now)) }
-
-    // The sink failed if the fault is `Write`, and was given nothing if it is `NoMemory`.
-    ensures write { result ≡ Err ReportFault.Write
-        → S.failures sink.new ≡ one_failure_more (S.failures sink.old) }
-    ensures memory { result ≡ Err ReportFault.NoMemory → sink.new ≡ sink.old }
+    ensures put { IsPut S.contents S.failures
+        (frame_text reporter.old.scenario.now number frame.now log.now)
+        result sink.old sink.new }
     ensures faults { IfErr result
         (λ fault. (fault ≡ ReportFault.Write) ⊎ (fault ≡ ReportFault.NoMemory)) }
 {
@@ -64,16 +56,8 @@ pub fn put_accounts<S: Sink>(
     accounts: &[Account],
     sink: &mut S,
 ) -> Result<(), ReportFault>
-    ensures ok { OnOk result (Appends (S.contents sink.old) (S.contents sink.new)
-        (accounts_text reporter.old.scenario.now accounts.now)) }
-    ensures quiet { OnOk result (S.failures sink.new ≡ S.failures sink.old) }
-    ensures prefix { OnErr result (AppendsPrefix (S.contents sink.old) (S.contents sink.new)
-        (accounts_text reporter.old.scenario.now accounts.now)) }
-
-    // The sink failed if the fault is `Write`, and was given nothing if it is `NoMemory`.
-    ensures write { result ≡ Err ReportFault.Write
-        → S.failures sink.new ≡ one_failure_more (S.failures sink.old) }
-    ensures memory { result ≡ Err ReportFault.NoMemory → sink.new ≡ sink.old }
+    ensures put { IsPut S.contents S.failures
+        (accounts_text reporter.old.scenario.now accounts.now) result sink.old sink.new }
     ensures faults { IfErr result
         (λ fault. (fault ≡ ReportFault.Write) ⊎ (fault ≡ ReportFault.NoMemory)) }
     ensures no_memory { accounts.now ≡ [] → result ≢ Err ReportFault.NoMemory }

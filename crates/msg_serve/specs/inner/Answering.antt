@@ -1,12 +1,12 @@
 -- What an answer is while lines are served: the words of private functions.
-use Rattle.std.specs.Prelude.{◌≡◌, ◌≢◌, ◌⊎◌, ℕ, ℤ, List, ◌++◌, Option, Some, Result, Ok, Err, OnErr, OnOk}
+use Rattle.std.specs.Prelude.{◌≡◌, ◌⊎◌, ℕ, ℤ, List, ◌++◌, Option, Some, Result, Ok, Err}
 use Rattle.std.specs.Io.KnownBytes.{Appends}
 use Rattle.std.specs.List.{AllZip}
 use Rattle.serde_json.specs.Data.{Data}
 use Rattle.msg_exec.specs.Prelude.{EngineStands}
 use Rattle.msg_exec.specs.declared.engine.EngineOf.{EngineOf}
 use Rattle.msg_frames.specs.Prelude.{SameSystems, State}
-use Rattle.msg_json.specs.Prelude.{Reading, AppendsPrefix, Text, one_failure_more}
+use Rattle.msg_json.specs.Prelude.{Reading, Text}
 use Rattle.msg_json.specs.declared.fault.Fault.{Fault}
 use Rattle.msg_log_json.specs.Prelude.{refused_line}
 use Rattle.msg_reading.specs.Prelude.{IsRunnable, state_of}
@@ -68,19 +68,11 @@ module _ {X : Type 0} (meaning : X → Meaning ℤ) where
   Answers request before after = (now : State i64_values) → EngineStands meaning before.engine now
       → IsAnswer before.scenario.now request now after
 
-module _ {S : Type 0} (contents : S → Option (List ℕ)) (failures : S → ℕ) where
-  -- what the put of a text left that came to this
-  pub record IsPut (text : Text) (came : Result (Unit {0}) ReportFault) (old new : S) : Type 0 where
-    pub ok : OnOk came (Appends (contents old) (contents new) text)
-    pub quiet : OnOk came (failures new ≡ failures old)
-    pub part : came ≡ Err report_fault.Write → AppendsPrefix (contents old) (contents new) text
-    pub failed : came ≡ Err report_fault.Write → failures new ≡ one_failure_more (failures old)
-    pub none : OnErr came (came ≢ Err report_fault.Write → new ≡ old)
-
-  module _ {X : Type 0} (meaning : X → Meaning ℤ) (s : Scenario) (first : State i64_values) where
-    -- from a state on these requests were answered, and no put failed
-    pub record AnsweredSoFar (requests : List Request) (old now : S) (e : EngineOf X ℤ)
-        : Type 0 where
-      pub took : Appends (contents old) (contents now) (answers_of s requests first)
-      pub quiet : failures now ≡ failures old
-      pub stands : EngineStands meaning e (after_requests requests first)
+module _ {S : Type 0} (contents : S → Option (List ℕ)) (failures : S → ℕ) {X : Type 0}
+    (meaning : X → Meaning ℤ) (s : Scenario) (first : State i64_values) where
+  -- from a state on these requests were answered, and no put failed
+  pub record AnsweredSoFar (requests : List Request) (old now : S) (e : EngineOf X ℤ)
+      : Type 0 where
+    pub took : Appends (contents old) (contents now) (answers_of s requests first)
+    pub quiet : failures now ≡ failures old
+    pub stands : EngineStands meaning e (after_requests requests first)

@@ -28,10 +28,10 @@ pub returns-clause-ok : goal.returns-clause-ok
 returns-clause-ok g c =
     on_ok_weaker _ (OnTheWay_ends _ _ _ _ _ _ c.args.calls.now _ _ c.loop-call.invariant.0 c.calls-call-items.ensures.same
     c.loop-call-test.false)
-    (rw c.as_slice.ensures.value at c.put_text.ensures.ok)
+    (rw c.as_slice.ensures.value at c.put_text.ensures.put.ok)
 
 pub returns-clause-prefix : goal.returns-clause-prefix
 returns-clause-prefix g c =
     on_err_weaker _ (OnTheWay_stops _ _ _ _ _ _ c.args.calls.now _ _ c.loop-call.invariant.0 c.calls-call-items.ensures.same
     c.loop-call-test.false)
-    (rw c.as_slice.ensures.value at c.put_text.ensures.prefix)
+    (rw c.as_slice.ensures.value at c.put_text.ensures.put.part)

@@ -48,14 +48,13 @@ returns-in_err-report_frame g c =
 
 pub returns-in-Ok : goal.returns-in-Ok
 returns-in-Ok g c =
-    let put = c.put_accounts.ensures in
     let same = c.loop.invariant.1 in
     record {
       leaves = readers_done _ _ _ _ _ _ _ _ _ c.loop.invariant.0 _ c.as_slice.result.now
           (omega (arith, ap length c.as_slice-items.ensures.items))
           (λ u stands. c.as_slice.ensures.value ∙ c.in-Ok.ensures.accounts u stands) _
           (λ frames. runs_are_complete frames (state_of c.args.scenario.now) (is_sound g.X.SystemOf.meaning _ _ c.requires.engine))
-          (rw same.scenario at put.ok) put.quiet (rw same.scenario at put.prefix) put.write put.memory put.faults;
+          (rw same.scenario at c.put_accounts.ensures.put) c.put_accounts.ensures.faults;
     }
 
 pub returns : goal.returns

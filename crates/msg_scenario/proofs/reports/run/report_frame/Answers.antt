@@ -25,12 +25,12 @@ returns-in_err-put_frame-clause-leaves g c =
     rw (passed.1 ∙ ap ended passed.2)
     (λ old first far. frame_stopped _ _ _ _ _ _ _ _ _ far c.run_frame.new.self _ c.in-Ok.log
     c.requires.next (rw c.as_slice.ensures.items at c.index-as_slice-reporter.is) c.in-Ok.ensures.ran
-    c.in-Ok.ensures.counted _ (in_text_by _ put.faults) _ put.prefix put.write put.memory)
+    c.in-Ok.ensures.counted _ (in_text_by _ put.faults) _ put.put)
 
 pub returns-clause-ok : goal.returns-clause-ok
 returns-clause-ok g c old first far =
     frame_put _ _ _ _ _ _ _ _ _ far c.run_frame.new.self _ c.in-Ok.log
     c.requires.next (rw c.as_slice.ensures.items at c.index-as_slice-reporter.is) c.in-Ok.ensures.ran
     c.in-Ok.ensures.counted _ c.recycle.new.self c.recycle.ensures.meaning c.recycle.ensures.counted
-    (λ spoiled. c.in-Ok.ensures.alive (c.recycle.ensures.spoiled.0 spoiled)) c.in_ok-put_frame.ensures.ok
-    c.in_ok-put_frame.ensures.quiet
+    (λ spoiled. c.in-Ok.ensures.alive (c.recycle.ensures.spoiled.0 spoiled)) c.in_ok-put_frame.ensures.put.ok
+    c.in_ok-put_frame.ensures.put.quiet
