@@ -8,7 +8,7 @@ mod list;
 mod nearest;
 mod sentence;
 
-pub use nearest::Names;
+pub use nearest::KnownNames;
 pub use sentence::why;
 
 /// How many bytes of a text are shown at most.
@@ -19,7 +19,7 @@ const LONGEST: usize = 60;
 pub fn fault_lines(alloc: Global, fault: &Fault, file: &Value) -> Result<String, NoMemory> {
     let place = fault.location;
     let there = value_at(file, place);
-    let names = Names::of_file(alloc, file)?;
+    let names = KnownNames::of_file(alloc, file)?;
     let why = why(alloc, fault, file, &names)?;
     let mut text = String::new(alloc);
     add_path(&mut text, place)?;

@@ -24,7 +24,7 @@ mod uses;
 pub use clash::{Clash, clash_of};
 pub use cycle::shortest_cycle;
 pub use engine_plan::scenario_of_engine;
-pub use explanation::{Names, fault_lines, why};
+pub use explanation::{KnownNames, fault_lines, why};
 pub use planned::{Planned, plan_frame};
 pub use put::{Form, put_plan};
 pub use remarks::remarks_of;

@@ -4,7 +4,7 @@ ghost use Rattle.msg_log_json.specs.Prelude as Spec;
 ghost use Rattle.msg_log_json.specs.RefusedJson.{number_step};
 ghost use Rattle.msg_json.specs.Prelude.{Text};
 
-use msg_advice::{Names, why};
+use msg_advice::{KnownNames, why};
 use msg_buffer::NoMemory;
 use msg_json::numerals::add_count;
 use msg_json::{Fault, Location, Refusal};
@@ -45,7 +45,7 @@ fn why_refused(
     fault: &Fault,
     line: &Value,
 ) -> Result<String, NoMemory> {
-    let mut names = Names {
+    let mut names = KnownNames {
         types: Vec::new(alloc),
         resources: Vec::new(alloc),
         systems: Vec::new(alloc),

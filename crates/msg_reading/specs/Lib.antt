@@ -4,5 +4,6 @@ pub mod Prelude
 pub mod Runnable
 pub mod Declarations
 pub mod ScenarioFormat
+pub mod PartsSeen
 pub mod Reading
 pub mod inner

@@ -1,3 +1,2 @@
 -- What only private functions cite.
 pub mod Elements
-pub mod PartsSeen

@@ -14,5 +14,5 @@ mod scenario;
 pub use kind::Kind;
 pub use msg_json::{Fault, FileFault, Refusal};
 pub use name::Name;
-pub use read::{check_scenario, read_scenario, read_sections, read_value};
+pub use read::{check_scenario, pair, read_scenario, read_sections, read_value};
 pub use scenario::{Scenario, SystemSpec};

@@ -25,6 +25,7 @@ mod rule;
 mod system;
 
 pub use file::read_sections;
+pub use part::pair;
 
 /// The scenario that the bytes are a JSON text of.
 ///

@@ -114,9 +114,7 @@ fn lines_of(
 
 /// The line that tells where bytes stop to be JSON.
 fn tell_not_json(alloc: Global, line: usize, column: usize) -> Result<Vec<u8>, NoMemory> {
-    let mut text = String::new(alloc);
-    writeln!(text, "at line {line}, column {column}")?;
-    Ok(text.into_bytes())
+    Ok(format!(in alloc; "at line {line}, column {column}\n")?.into_bytes())
 }
 
 /// The counts of a scenario that can be run, and what is remarked of it.
@@ -124,21 +122,15 @@ fn tell_scenario(alloc: Global, scenario: &Scenario, repeated: &[u8]) -> Result<
     requires runnable { IsRunnable scenario.now }
 {
     let mut text = String::new(alloc);
-    let (systems, types) = (scenario.systems.as_slice(), scenario.types.as_slice());
-    write!(
+    writeln!(
         text,
-        "ok: {} systems, {} types, ",
-        systems.len(),
-        types.len()
+        "ok: {} systems, {} types, {} resources, {} rules, {} frames",
+        scenario.systems.as_slice().len(),
+        scenario.types.as_slice().len(),
+        scenario.resources.as_slice().len(),
+        scenario.rules.as_slice().len(),
+        scenario.frames.as_slice().len(),
     )?;
-    let (resources, rules) = (scenario.resources.as_slice(), scenario.rules.as_slice());
-    write!(
-        text,
-        "{} resources, {} rules, ",
-        resources.len(),
-        rules.len()
-    )?;
-    writeln!(text, "{} frames", scenario.frames.as_slice().len())?;
     let mut text = text.into_bytes();
     text.extend_from_slice(&remarks_of(alloc, scenario)?)?;
     add_remark(&mut text, repeated)?;
@@ -147,9 +139,8 @@ fn tell_scenario(alloc: Global, scenario: &Scenario, repeated: &[u8]) -> Result<
 
 /// The count of a calls file, and what is remarked of it.
 fn count_calls(alloc: Global, calls: &Calls, repeated: &[u8]) -> Result<Vec<u8>, NoMemory> {
-    let mut text = String::new(alloc);
-    writeln!(text, "ok: {} calls", calls.calls().len())?;
-    let mut text = text.into_bytes();
+    let counts = format!(in alloc; "ok: {} calls\n", calls.calls().len())?;
+    let mut text = counts.into_bytes();
     add_remark(&mut text, repeated)?;
     Ok(text)
 }

@@ -2,8 +2,8 @@
 ghost use Rattle.std.specs.Prelude.{◌≡◌, map, position};
 ghost use Rattle.std.specs.Str.{bytes_eq};
 ghost use Rattle.serde_json.specs.View.{view};
-ghost use Rattle.msg_reading.specs.{ScenarioFormat.each_from, ScenarioFormat.post_at, ScenarioFormat.post_of, ScenarioFormat.two, ScenarioFormat.type_named, inner.Elements.ReadsWith, inner.PartsSeen.pair_seen};
-ghost use Rattle.msg_json.specs.Prelude.{Reads, elements};
+ghost use Rattle.msg_reading.specs.{ScenarioFormat.each_from, ScenarioFormat.post_at, ScenarioFormat.post_of, ScenarioFormat.type_named, inner.Elements.ReadsWith};
+ghost use Rattle.msg_json.specs.Prelude.{Reads};
 ghost use Rattle.msg_reading.specs.Declarations.{position_of};
 ghost use Rattle.msg_serve.specs.Requests.{frame_in, is_for_readers, names_of, request_of};
 ghost use Rattle.msg_serve.specs.inner.Answering.{request_seen};
@@ -14,7 +14,7 @@ use msg_json::fault::inside;
 use msg_json::json::{list, text};
 use msg_json::numbers::{number, whole_number};
 use msg_json::{Fault, PathStep, Reason};
-use msg_reading::{Name, Scenario};
+use msg_reading::{Name, Scenario, pair};
 use msg_world::{MAX_TYPES, TypeNo};
 use serde_json::Value;
 use std::alloc::Global;
@@ -87,26 +87,11 @@ fn read_posts(
 fn read_post(scenario: &Scenario, post: &Value) -> Result<(TypeNo, i64), Fault>
     ensures post { result ≡ post_of (names_of scenario.now) (view post.now) }
 {
-    let (name, value) = two(post)?;
+    let (name, value) = pair(post)?;
     let name = inside(PathStep::Part(0), text(name))?;
     let value = inside(PathStep::Part(1), number(value))?;
     let of_type = inside(PathStep::Part(0), type_named(scenario, name))?;
     Ok((of_type, inside(PathStep::Part(1), whole_number(value))?))
-}
-
-/// The two elements of a list of two.
-#[tactic(auto, using(msg_json::proofs::WalksOverLists::list_steps))]
-fn two(value: &Value) -> Result<(&Value, &Value), Fault>
-    ensures two { pair_seen result ≡ two (elements (view value.now)) }
-{
-    let Some(items) = value.as_array() else {
-        return Err(Fault::here(Reason::Parts));
-    };
-    let items = items.as_slice();
-    if items.len() != 2 {
-        return Err(Fault::here(Reason::Parts));
-    }
-    Ok((&items[0], &items[1]))
 }
 
 /// The number of the type of a name.

@@ -1,6 +1,6 @@
 // Why a value is refused, as a sentence.
 use crate::explanation::list::{add_question, add_wanted, contents};
-use crate::explanation::nearest::{Names, nearest};
+use crate::explanation::nearest::{KnownNames, nearest};
 use crate::explanation::{key_at, value_at};
 use msg_json::{
     CALLS_KEYS, Fault, Key, Location, Reason, SCENARIO_KEYS, SYSTEM_KEYS, is_calls_file,
@@ -11,7 +11,12 @@ use std::alloc::Global;
 
 /// Why a value is refused for a fault: what is wanted in place of what stands there, and the name
 /// that may have been meant by it.
-pub fn why(alloc: Global, fault: &Fault, value: &Value, names: &Names) -> Result<String, NoMemory> {
+pub fn why(
+    alloc: Global,
+    fault: &Fault,
+    value: &Value,
+    names: &KnownNames,
+) -> Result<String, NoMemory> {
     let there = value_at(value, fault.location);
     let mut text = String::new(alloc);
     add_sentence(alloc, &mut text, fault, there)?;
@@ -89,7 +94,7 @@ fn add_hint(
     fault: &Fault,
     word: &str,
     there: Option<&Value>,
-    names: &Names,
+    names: &KnownNames,
 ) -> Result<(), NoMemory> {
     let near = match fault.reason {
         Reason::NoType => return add_name(text, word, names.types.as_slice(), names),
@@ -112,7 +117,7 @@ fn add_name(
     text: &mut String,
     word: &str,
     through: &[&str],
-    names: &Names,
+    names: &KnownNames,
 ) -> Result<(), NoMemory> {
     let kinds = [
         ("type", &names.types),

@@ -5,7 +5,7 @@ ghost use Rattle.msg_reading.specs.{ScenarioFormat.resource_at, ScenarioFormat.r
 
 use crate::read::list::Element;
 use crate::read::names::Declarations;
-use crate::read::part::two;
+use crate::read::part::pair;
 use crate::{Fault, Name};
 use msg_json::fault::inside;
 use msg_json::json::text;
@@ -30,7 +30,7 @@ impl Element for (Name, u64) {
 fn read_type(alloc: Global, names: &mut Declarations, value: &Value) -> Result<(Name, u64), Fault>
     ensures reads { ReadsWith (type_of names.old (view value.now)) names.new result }
 {
-    let (name, limit) = two(value)?;
+    let (name, limit) = pair(value)?;
     let name = inside(PathStep::Part(0), text(name))?;
     let limit = inside(PathStep::Part(1), number(limit))?;
     let name = inside(PathStep::Part(0), names.declare_type(alloc, name))?;
@@ -58,7 +58,7 @@ fn read_resource(
 ) -> Result<(Name, i64), Fault>
     ensures reads { ReadsWith (resource_of names.old (view value.now)) names.new result }
 {
-    let (name, value) = two(value)?;
+    let (name, value) = pair(value)?;
     let name = inside(PathStep::Part(0), text(name))?;
     let value = inside(PathStep::Part(1), number(value))?;
     let name = inside(PathStep::Part(0), names.declare_resource(alloc, name))?;

@@ -7,7 +7,7 @@ use crate::Fault;
 use crate::limits::MAX_POSTS;
 use crate::read::list::{Element, read_list};
 use crate::read::names::Declarations;
-use crate::read::part::{two, type_and_value};
+use crate::read::part::{pair, type_and_value};
 use msg_frames::Frame;
 use msg_json::PathStep;
 use msg_json::fault::inside;
@@ -51,6 +51,6 @@ impl Element for (TypeNo, i64) {
 fn read_post(names: &Declarations, value: &Value) -> Result<(TypeNo, i64), Fault>
     ensures reads { result ≡ post_of names.now (view value.now) }
 {
-    let (of_type, value) = two(value)?;
+    let (of_type, value) = pair(value)?;
     type_and_value(names, 0, of_type, value)
 }

@@ -3,7 +3,7 @@ ghost use Rattle.std.specs.Prelude.{◌≡◌, ◌≤◌};
 ghost use Rattle.serde_json.specs.View.{view};
 ghost use Rattle.msg_json.specs.Prelude.{Reads, elements};
 ghost use Rattle.msg_reading.specs.ScenarioFormat as Spec;
-ghost use Rattle.msg_reading.specs.inner.PartsSeen.{pair_seen};
+ghost use Rattle.msg_reading.specs.PartsSeen.{pair_seen};
 
 use crate::Fault;
 use crate::read::names::Declarations;
@@ -17,8 +17,8 @@ use std::alloc::Global;
 
 /// The two elements of a list of two.
 #[tactic(auto, using(msg_json::proofs::WalksOverLists::list_steps))]
-pub fn two(value: &Value) -> Result<(&Value, &Value), Fault>
-    ensures two { pair_seen result ≡ Spec.two (elements (view value.now)) }
+pub fn pair(value: &Value) -> Result<(&Value, &Value), Fault>
+    ensures pair { pair_seen result ≡ Spec.two (elements (view value.now)) }
 {
     let Some(items) = value.as_array() else {
         return Err(Fault::here(Reason::Parts));

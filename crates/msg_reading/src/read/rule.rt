@@ -6,7 +6,7 @@ ghost use Rattle.msg_reading.specs.ScenarioFormat.{rule_at, rule_of};
 use crate::Fault;
 use crate::read::list::Element;
 use crate::read::names::Declarations;
-use crate::read::part::two;
+use crate::read::part::pair;
 use msg_json::PathStep;
 use msg_json::fault::inside;
 use msg_json::json::text;
@@ -30,7 +30,7 @@ impl Element for Rule {
 fn read_rule(names: &Declarations, value: &Value) -> Result<Rule, Fault>
     ensures reads { result ≡ rule_of names.now (view value.now) }
 {
-    let (earlier, later) = two(value)?;
+    let (earlier, later) = pair(value)?;
     let earlier = inside(PathStep::Part(0), text(earlier))?;
     let later = inside(PathStep::Part(1), text(later))?;
     let earlier = inside(PathStep::Part(0), names.system_no(earlier))?;
