@@ -132,7 +132,7 @@ module _ {S V : Type 0} {values : Values V} (meaning : S → Meaning V) where
         ];
         totals = λ k below. grind (arith, eqb_tells, get_other, its_own, of_another, totals_back);
         untouched = λ k there. grind (arith, Contains-tail, of_another);
-        world = home_merges (access_of whole.accesses.items i) d.taken now.world new.world (turn_of s i).state u.world
+        world = home_merges (access_of whole.accesses.items i) d.taken now.world new.world (turn_of s i).world u.world
             (λ p isnt. none_there (slot p d.taken) (back.there p ∙ isnt)) out_of_world comes.taken_back
             back.after.written half.world;
         size = grind (arith, comes.taken_back.size, half.size);

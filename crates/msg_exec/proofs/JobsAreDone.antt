@@ -19,7 +19,7 @@ module _ {V : Type 0} {values : Values V} where
       → none ≡ [] → replies ≡ after → true ≡ all_hold before.guards.items w → now.guards.items
       ≡ map (after_asking w) before.guards.items
       → Ran values (meaning before.system) (meaning now.system) l taken none after → LoanStands l w
-      → PartsStand taken (turn (meaning before.system) w).state
+      → PartsStand taken (turn (meaning before.system) w).world
       → IsAfterJob meaning (after_job (job_state meaning before) w) now taken (outcome.Ran replies)
   ran_job meaning before now l taken w none after replies nothing given holds asked ran stands written =
       let moved : meaning now.system ≡ after_turn (meaning before.system) w = ran.means

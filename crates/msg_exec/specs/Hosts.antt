@@ -15,11 +15,11 @@ module _ {V : Type 0} where
 module _ {V H : Type 0} (gives : H → Option (Log V) → Option (Frame V) → H → Type 0) where
   -- The host gave these frames one by one, the first of them as it was told `log`, and each later
   -- one as it was told the log of the frame before. Then it was `after`.
-  abbrev pub HasGiven : Option (Log V) → H → List (Frame V) → List (Log V) → H → Type 0
-  HasGiven log host [] [] after = after ≡ host
-  HasGiven log host (f ∷ frames) (next ∷ logs) after =
-      (then : H) × gives host log (Some f) then × HasGiven (Some next) then frames logs after
-  HasGiven log host _ _ after = ⊥
+  abbrev pub HostHasGiven : Option (Log V) → H → List (Frame V) → List (Log V) → H → Type 0
+  HostHasGiven log host [] [] after = after ≡ host
+  HostHasGiven log host (f ∷ frames) (next ∷ logs) after =
+      (then : H) × gives host log (Some f) then × HostHasGiven (Some next) then frames logs after
+  HostHasGiven log host _ _ after = ⊥
 
 module _ {S H V : Type 0} (values : Values V) (meaning : S → Meaning V)
     (gives : H → Option (Log V) → Option (Frame V) → H → Type 0) where
@@ -29,7 +29,7 @@ module _ {S H V : Type 0} (values : Values V) (meaning : S → Meaning V)
     pub frames : List (Frame V)
     pub logs : List (Log V)
     pub few : length frames ≤ most
-    pub given : HasGiven gives None old frames logs now
+    pub given : HostHasGiven gives None old frames logs now
     -- the logs that the host was told are those of one thread, turn by turn
     pub ran : (s : State values) → EngineStands meaning e s
         → HasRunFrames meaning frames s [] logs f
@@ -47,7 +47,7 @@ module _ {S H V : Type 0} (values : Values V) (meaning : S → Meaning V)
         ⊎ ((length ran.frames < most) × gives now (last_log None ran.logs) None new)
 
   -- It ran frames until the host gave one with a post to a type that the world hasn't got.
-  pub record HasMetMisfit (most : ℕ) (old : H) (e : EngineOf S V) (new : H)
+  pub record StoppedAtUnknownType (most : ℕ) (old : H) (e : EngineOf S V) (new : H)
       (f : EngineOf S V) : Type 0 where
     pub now : H
     pub ran : HasRunFor most old e now f

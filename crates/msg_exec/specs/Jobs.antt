@@ -47,7 +47,7 @@ module _ {S V : Type 0} {values : Values V} (meaning : S → Meaning V) where
   pub record IsAfterJob (after : AfterJob values) (guarded : GuardedSystem S V) (taken : Parts V)
       (came : Outcome V) : Type 0 where
     pub job : job_state meaning guarded ≡ after.job
-    pub written : PartsStand taken after.state
+    pub written : PartsStand taken after.world
     pub outcome : came ≡ outcome_of after.replies
 
 module _ {S V : Type 0} (values : Values V) (meaning : S → Meaning V) where

@@ -56,7 +56,12 @@ fn run_over_workers<
         context.now.workers batch.now) }
 {
     let jobs = lend_out_all(context.alloc, lender, batch, spares)?;
-    let results = run_side_by_side(context, &lender.world, jobs, spares.habits.habit())?;
+    let results = run_side_by_side(
+        context,
+        &lender.world,
+        jobs,
+        spares.statistics.current_place(),
+    )?;
     for result in results {
         let done = result?;
         turns.push(lender.take_back(done, spares))?;
@@ -105,7 +110,7 @@ fn run_batch<R: Threads + Sync, V: Value + Send + Sync, S: SystemOf<Value = V> +
         context.now.workers batch.now) }
 {
     let workers = context.workers.number();
-    if spares.habits.goes_over_workers(workers, batch.len()) {
+    if spares.statistics.goes_over_workers(workers, batch.len()) {
         run_over_workers(context, lender, batch, spares, turns)
     } else {
         run_turns(context.alloc, lender, batch, context.gate, spares, turns)
@@ -140,7 +145,7 @@ pub(crate) fn run_batches<
         (concat (map (λ batch. batch.items) batches.now))) }
 {
     let mut turns = spares.turns(context.alloc, lender.accesses.len())?;
-    spares.habits.begin_frame();
+    spares.statistics.begin_frame();
     for batch in batches {
         let first = turns.len();
         run_batch(context, lender, batch, spares, &mut turns)?;

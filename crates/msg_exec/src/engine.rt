@@ -5,7 +5,7 @@ use crate::lender::Lender;
 use crate::replay::{accepts_next, replay_one};
 use crate::side_by_side::RunContext;
 use crate::spares::Spares;
-use crate::{BuildRefusal, Frame, Gate, Log, Place, RunFault, Workers};
+use crate::{BuildRefusal, Frame, Gate, Host, Log, LoopFault, NoGate, Place, RunFault, Workers};
 use msg_order::Rule;
 use msg_system::{System, SystemOf};
 use msg_world::{MAX_SYSTEMS, Value, World};
@@ -277,6 +277,7 @@ impl<V: Value + Send + Sync, S: SystemOf<Value = V> + Send> EngineOf<S, V> {
     ghost use Rattle.std.specs.Prelude.{◌≡◌, ◌<◌, ◌++◌, ◌∷◌, [], ◌-◌, ◌^◌, ◌+◌, ◌↔◌, ℕ, All, drop, min, IfOk, OnOk, Err, ◌≤◌, IfErr, IfSome, IsNone, IsTrue, List, None, Some, length, map};
     ghost use Rattle.msg_world.specs.declared.run_fault.RunFault.TheVariants.{BadOrder, NoMemory, Spoiled};
     ghost use Rattle.msg_exec.specs.{Building.EachIs, Building.MayBeAdded, Building.RefusesFor, Cores.frame_count, Engines.HasReplayed, Engines.HasRunFrame, Engines.HasRunFrames, Engines.HasRunSince, Engines.HasRunSome, Engines.IsEngine, Engines.IsSpoiled, Engines.PostsFit, Engines.EngineStands, Engines.frame_number, Engines.world_of};
+    ghost use Rattle.msg_exec.specs.Hosts.{HasMetRefusal, HasRunLoop, HasRunShort, StoppedAtUnknownType};
     ghost use Rattle.msg_workers.specs.Prelude.{EachPassedGate};
     ghost use Rattle.msg_frames.specs.Prelude.{IsCompleteRun, IsLawfulFor, IsSoundState, State, first_state, turn_order_in};
     ghost use Rattle.msg_frames.specs.{declared.frame.Frame.Frame as FrameView, declared.log.Log.Log as LogView};
@@ -402,6 +403,59 @@ impl<V: Value + Send + Sync, S: SystemOf<Value = V> + Send> EngineOf<S, V> {
             let Ok(()) = out.push(log) else {
                 unreachable!()
             };
+        }
+        Ok(())
+    }
+
+    /// Runs the frames that a host gives, each by the log of the one before, until it gives none or
+    /// `most` were run. Whatever the workers: the logs that the host is told are those of one
+    /// thread.
+    ///
+    /// # Errors
+    ///
+    /// `Run`, as for `run_frame`. `Misfit` if a post of the frame is to a type that the world
+    /// hasn't got, and `Host` if the host had no memory: then the frames before that one were run,
+    /// and the engine can go on.
+    pub fn run_loop<R: Threads + Sync, H: Host<Value = V>>(
+        &mut self,
+        rt: &R,
+        host: &mut H,
+        most: u64,
+        workers: Workers,
+    ) -> Result<(), LoopFault>
+        requires engine { IsEngine V.values S.meaning self.old }
+        ensures ran { OnOk result
+            (HasRunLoop V.values S.meaning H.gives most host.old self.old host.new self.new) }
+        ensures misfit { result ≡ Err LoopFault.Misfit
+            → StoppedAtUnknownType V.values S.meaning H.gives most
+            host.old self.old host.new self.new }
+        ensures alive { OnOk result (¬ IsSpoiled self.new) }
+        ensures goes_on { (result ≡ Err LoopFault.Misfit) → ¬ IsSpoiled self.new }
+        ensures no_memory_for_host { (result ≡ Err LoopFault.Host) → ¬ IsSpoiled self.new }
+        ensures host { result ≡ Err LoopFault.Host
+            → HasMetRefusal V.values S.meaning H.gives H.refuses most
+            host.old self.old host.new self.new }
+        ensures spoiled { (result ≡ Err (LoopFault.Run RunFault.Spoiled)) ↔ IsSpoiled self.old }
+        ensures unchanged { result ≡ Err (LoopFault.Run RunFault.Spoiled) → self.new ≡ self.old }
+        ensures host_unasked { result ≡ Err (LoopFault.Run RunFault.Spoiled) → host.new ≡ host.old }
+        ensures no_memory { result ≡ Err (LoopFault.Run RunFault.NoMemory)
+            → HasRunShort V.values S.meaning H.gives most host.old self.old host.new self.new }
+        ensures no_bad_order { ¬ (result ≡ Err (LoopFault.Run RunFault.BadOrder)) }
+        ensures engine { IsEngine V.values S.meaning self.new }
+    {
+        if self.world().is_none() {
+            return Err(LoopFault::Run(RunFault::Spoiled));
+        }
+        let mut last = None;
+        for _ in 0..most {
+            let Some(frame) = host.next(self.alloc, last.as_ref())? else {
+                return Ok(());
+            };
+            if !self.fits(&frame) {
+                return Err(LoopFault::Misfit);
+            }
+            self.keep(last.take());
+            last = Some(self.run_frame(rt, &frame, workers, &NoGate)?);
         }
         Ok(())
     }

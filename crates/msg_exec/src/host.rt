@@ -1,13 +1,6 @@
-// Frames in a loop, each by the log of the one before it.
-ghost use Rattle.std.specs.Prelude.{◌≡◌, ◌↔◌, Err, OnOk};
-ghost use Rattle.msg_exec.specs.Engines.{IsEngine, IsSpoiled};
-ghost use Rattle.msg_exec.specs.Hosts.{HasMetMisfit, HasMetRefusal, HasRunLoop, HasRunShort};
-
-use crate::{EngineOf, Frame, Log, LoopFault, NoGate, NoMemory, RunFault, Workers};
-use msg_system::SystemOf;
+use crate::{Frame, Log, NoMemory};
 use msg_world::Value;
 use std::alloc::Global;
-use std::thread::Threads;
 
 /// Gives an engine its frames one by one: what a game does round its systems.
 ///
@@ -53,58 +46,4 @@ pub trait Host {
             Self.gives self.old (option_copied last.entry) frame self.new) }
         ensures refuses { OnErr result
             (Self.refuses self.old (option_copied last.entry) self.new) };
-}
-
-impl<V: Value + Send + Sync, S: SystemOf<Value = V> + Send> EngineOf<S, V> {
-    /// Runs the frames that a host gives, each by the log of the one before, until it gives none or
-    /// `most` were run. Whatever the workers: the logs that the host is told are those of one
-    /// thread.
-    ///
-    /// # Errors
-    ///
-    /// `Run`, as for `run_frame`. `Misfit` if a post of the frame is to a type that the world
-    /// hasn't got, and `Host` if the host had no memory: then the frames before that one were run,
-    /// and the engine can go on.
-    pub fn run_loop<R: Threads + Sync, H: Host<Value = V>>(
-        &mut self,
-        rt: &R,
-        host: &mut H,
-        most: u64,
-        workers: Workers,
-    ) -> Result<(), LoopFault>
-        requires engine { IsEngine V.values S.meaning self.old }
-        ensures ran { OnOk result
-            (HasRunLoop V.values S.meaning H.gives most host.old self.old host.new self.new) }
-        ensures misfit { result ≡ Err LoopFault.Misfit
-            → HasMetMisfit V.values S.meaning H.gives most host.old self.old host.new self.new }
-        ensures alive { OnOk result (¬ IsSpoiled self.new) }
-        ensures goes_on { (result ≡ Err LoopFault.Misfit) → ¬ IsSpoiled self.new }
-        ensures no_memory_for_host { (result ≡ Err LoopFault.Host) → ¬ IsSpoiled self.new }
-        ensures host { result ≡ Err LoopFault.Host
-            → HasMetRefusal V.values S.meaning H.gives H.refuses most
-            host.old self.old host.new self.new }
-        ensures spoiled { (result ≡ Err (LoopFault.Run RunFault.Spoiled)) ↔ IsSpoiled self.old }
-        ensures unchanged { result ≡ Err (LoopFault.Run RunFault.Spoiled) → self.new ≡ self.old }
-        ensures host_unasked { result ≡ Err (LoopFault.Run RunFault.Spoiled) → host.new ≡ host.old }
-        ensures no_memory { result ≡ Err (LoopFault.Run RunFault.NoMemory)
-            → HasRunShort V.values S.meaning H.gives most host.old self.old host.new self.new }
-        ensures no_bad_order { ¬ (result ≡ Err (LoopFault.Run RunFault.BadOrder)) }
-        ensures engine { IsEngine V.values S.meaning self.new }
-    {
-        if self.world().is_none() {
-            return Err(LoopFault::Run(RunFault::Spoiled));
-        }
-        let mut last = None;
-        for _ in 0..most {
-            let Some(frame) = host.next(self.alloc, last.as_ref())? else {
-                return Ok(());
-            };
-            if !self.fits(&frame) {
-                return Err(LoopFault::Misfit);
-            }
-            self.keep(last.take());
-            last = Some(self.run_frame(rt, &frame, workers, &NoGate)?);
-        }
-        Ok(())
-    }
 }

@@ -8,7 +8,7 @@ use crate::job::{Job, outcome_if, take_turn};
 use crate::{Gate, NoMemory, Runs, Workers};
 use msg_board::Work;
 use msg_system::SystemOf;
-use msg_workers::{Habit, run_jobs};
+use msg_workers::{PlaceStatistics, run_jobs};
 use msg_world::{MAX_SYSTEMS, Taken, Value, World};
 use std::alloc::Global;
 use std::marker::PhantomData;
@@ -102,7 +102,7 @@ pub(crate) fn run_side_by_side<
     context: &RunContext<R, G>,
     world: &World<V>,
     jobs: Vec<Job<S, V>>,
-    habit: &mut Habit,
+    statistics: &mut PlaceStatistics,
 ) -> Result<Vec<Result<Job<S, V>, NoMemory>>, NoMemory>
     requires few { length jobs.items ≤ MAX_SYSTEMS }
     requires may { EachMay (MayRun S.meaning world.now) jobs.items }
@@ -120,6 +120,6 @@ pub(crate) fn run_side_by_side<
         context.gate,
         context.workers,
         jobs,
-        habit,
+        statistics,
     )
 }

@@ -5,7 +5,7 @@ use crate::job::JobContents;
 use crate::size::work_estimate;
 use crate::{Log, NoMemory, Outcome, Turn};
 use msg_system::Reply;
-use msg_workers::Habits;
+use msg_workers::FrameStatistics;
 use msg_world::{Access, MAX_SYSTEMS, Taken, Value, World};
 use std::alloc::Global;
 use std::marker::Model;
@@ -22,7 +22,7 @@ pub(crate) struct Spares<V = i64> {
     turns: Vec<Turn<V>>,
     replies: Vec<Vec<Reply<V>>>,
     contents: Vec<Box<JobContents<V>>>,
-    pub(crate) habits: Habits,
+    pub(crate) statistics: FrameStatistics,
 }
 
 impl<V> Model for Spares<V> {
@@ -52,7 +52,7 @@ impl<V: Value> Spares<V> {
             turns: Vec::new(alloc),
             replies: Vec::new(alloc),
             contents: Vec::new(alloc),
-            habits: Habits::new(),
+            statistics: FrameStatistics::new(),
         }
     }
 
@@ -95,13 +95,13 @@ impl<V: Value> Spares<V> {
         Ok(Box::new(alloc, contents)?)
     }
 
-    /// The batch has run whose turns begin with `first`: its habit learns of it, and the batch in the
-    /// next place is next.
+    /// The batch has run whose turns begin with `first`: the statistics learn of it, and the batch
+    /// in the next place is next.
     pub(crate) fn end_batch(&mut self, turns: &[Turn<V>], first: usize) {
-        if self.habits.asks_size() {
-            self.habits.learn(work_estimate(turns, first));
+        if self.statistics.asks_size() {
+            self.statistics.learn(work_estimate(turns, first));
         }
-        self.habits.next_place();
+        self.statistics.next_place();
     }
 
     /// Keeps what went with a system, if there is room for it.

@@ -24,7 +24,7 @@ module _ {V : Type 0} {values : Values V} (foot : JobFootprint values) (accesses
       ≡ home accesses start i s
   turn_is_home s i lt h =
       let f = turn_footprint foot (start.members i) in
-      let same = same_world (turn_of s i).state (merge (access_of accesses i) (turn_of start i).state s.world) (λ p.
+      let same = same_world (turn_of s i).world (merge (access_of accesses i) (turn_of start i).world s.world) (λ p.
       let own = f.alike (needs_any (member_needs (start.members i))) s.world start.world (λ q u. u) h.world p in
       grind (arith, cases_Bool, content_merged, (are.of_needs i lt).writes p, f.kept s.world p, own, h.member)) in
       grind (arith, given_same s i h, same)

@@ -23,8 +23,8 @@ module _ {V : Type 0} {values : Values V} (t : ℕ) (m : Meaning V) (w : WorldSt
 
   answered : (n : ℕ) → AnsweredAs (after_at_most n (next_op m) m.writer m.places w)
   answered = by_ops AnsweredAs m w (refl, refl) (λ op far is so.
-      let here : AfterOp values = after_op op m.writer far.places far.state in
-      let done : Step values = record { op = op; places = far.places; world = far.state; reply = here.reply } in
+      let here : AfterOp values = after_op op m.writer far.places far.world in
+      let done : Step values = record { op = op; places = far.places; world = far.world; reply = here.reply } in
       let more = flat_map-append (λ (x : Step values). entry_for t x.op x.reply) far.steps (done ∷ []) in
       let one = append-nil (entry_for t op here.reply) in
       grind (arith, append-nil, entries-append, length-append, more, one, ops_answered-snoc))

@@ -50,7 +50,7 @@ module _ {V : Type 0} {values : Values V} (R : History (Record V) → History (R
   one_changes w u h r t = grind (arith, eqb_tells, kept.same (w.histories t))
 
   pub op_changes : (op : Op V) (writer : ℕ) (places : ℕ → ℕ) (w : WorldState values)
-      → InEach R w (after_op op writer places w).state
+      → InEach R w (after_op op writer places w).world
   op_changes (Write t v) writer places w = one_changes w t _ (kept.written _ (by writer v ∷ []))
   op_changes (Batch t vs) writer places w = one_changes w t _ (kept.written _ (map (by writer) vs))
   op_changes (Forward t u) writer places w =
@@ -58,11 +58,11 @@ module _ {V : Type 0} {values : Values V} (R : History (Record V) → History (R
   op_changes (Drain t) writer places w = one_changes w t _ (kept.drained (w.histories t))
   op_changes op writer places w = λ t. kept.same _
 
-  pub job_changes : (j : Job V) (w : WorldState values) → InEach R w (after_job j w).state
+  pub job_changes : (j : Job V) (w : WorldState values) → InEach R w (after_job j w).world
   unfolding turn
   job_changes j w t =
-      let ops = by_ops (λ (far : AfterProgram values). R (w.histories t) (far.state.histories t)) j.system w (kept.same _)
-      (λ op far is so. kept.further _ _ _ so (op_changes op j.system.writer far.places far.state t)) MAX_OPS in
+      let ops = by_ops (λ (far : AfterProgram values). R (w.histories t) (far.world.histories t)) j.system w (kept.same _)
+      (λ op far is so. kept.further _ _ _ so (op_changes op j.system.writer far.places far.world t)) MAX_OPS in
       grind (arith, cases_Bool, kept.same (w.histories t), ops)
 
   pub turns_change : (order : List ℕ) (s : State values) → InEach R s.world (after_turns_of order s).state.world

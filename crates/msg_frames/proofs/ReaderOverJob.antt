@@ -89,15 +89,15 @@ module _ {V : Type 0} {values : Values V} where
   -- the moments of the next op
   abbrev pub next_moments : ℕ → Op V → ℕ → AfterProgram values → List (Moment V)
   next_moments t op writer far =
-      map (λ e. record { history = far.state.histories t; place = far.places t; entry = e })
-      (entry_for t op (after_op op writer far.places far.state).reply)
+      map (λ e. record { history = far.world.histories t; place = far.places t; entry = e })
+      (entry_for t op (after_op op writer far.places far.world).reply)
 
   -- one op more
   more_are : (t : ℕ) (op : Op V) (writer : ℕ) (far : AfterProgram values)
       → moments_of t (one_more (Some op) writer far).steps ≡ moments_of t far.steps ++ next_moments t op writer far
   more_are t op writer far =
-      let here : AfterOp values = after_op op writer far.places far.state in
-      let done : Step values = record { op = op; places = far.places; world = far.state; reply = here.reply } in
+      let here : AfterOp values = after_op op writer far.places far.world in
+      let done : Step values = record { op = op; places = far.places; world = far.world; reply = here.reply } in
       flat_map-append (moments_at t) far.steps (done ∷ [])
       ∙ ap (λ (ms : List (Moment V)). moments_of t far.steps ++ ms) (append-nil (moments_at t done))
 
@@ -122,39 +122,39 @@ module _ {V : Type 0} {values : Values V} where
 
     pub next_passes : (op : Op V) (writer : ℕ) (far : AfterProgram values) →
         let more = one_more (Some op) writer far in
-        GoesPast t far.places far.state (next_moments t op writer far) more.places more.state
-    next_passes (Read u limit) writer far = of_read u far.state far.state far.places limit (stays _)
+        GoesPast t far.places far.world (next_moments t op writer far) more.places more.world
+    next_passes (Read u limit) writer far = of_read u far.world far.world far.places limit (stays _)
     next_passes (Clear u) writer far = λ sound within.
-        let h : History (Record V) = far.state.histories t in
+        let h : History (Record V) = far.world.histories t in
         let law = clears_fit h (far.places t) sound in
         let entry : ReadEntry V = record { stretch = pass_over h (far.places t); given = None } in
-        of_type u far.state _ far.places _ _ within (stays _ sound) (λ e. rw (e, ← law.1 within)
+        of_type u far.world _ far.places _ _ within (stays _ sound) (λ e. rw (e, ← law.1 within)
         (passes_one (far.places t) h entry _ law.0 (omega (arith, law.1 within)) tt (stays _ sound)))
     next_passes (Forward u v) writer far =
-        of_read u far.state (after_op (Forward u v) writer far.places far.state).state far.places None
-        (op_changes Grows grown (Forward u v) writer far.places far.state t)
-    next_passes (Sum u r) writer far = of_read u far.state far.state far.places None (stays _)
+        of_read u far.world (after_op (Forward u v) writer far.places far.world).world far.places None
+        (op_changes Grows grown (Forward u v) writer far.places far.world t)
+    next_passes (Sum u r) writer far = of_read u far.world far.world far.places None (stays _)
     next_passes op writer far = λ sound within.
-        let goes = op_changes Grows grown op writer far.places far.state t sound in
-        grind (arith, cases_Bool, passes_nothing (far.places t) (far.state.histories t) _ within goes)
+        let goes = op_changes Grows grown op writer far.places far.world t sound in
+        grind (arith, cases_Bool, passes_nothing (far.places t) (far.world.histories t) _ within goes)
 
     pub first_passes : (n : ℕ) (m : Meaning V) (w : WorldState values) →
         let far = after_at_most n (next_op m) m.writer m.places w in
-        GoesPast t m.places w (moments_of t far.steps) far.places far.state
+        GoesPast t m.places w (moments_of t far.steps) far.places far.world
     first_passes n m w sound within =
         let so_far = λ (far : AfterProgram values).
-        Passes (m.places t) (w.histories t) (moments_of t far.steps) (far.places t) (far.state.histories t) in
+        Passes (m.places t) (w.histories t) (moments_of t far.steps) (far.places t) (far.world.histories t) in
         by_ops so_far m w (passes_nothing _ _ _ within (stays _ sound)) (λ op far is so. rw (more_are t op m.writer far)
         (passes_further _ _ _ _ _ _ _ _ so (next_passes op m.writer far so.goes_on.sound so.within))) n
 
     turn_passes : (m : Meaning V) (w : WorldState values)
-        → GoesPast t m.places w (moments_of t (turn m w).steps) (turn m w).places (turn m w).state
+        → GoesPast t m.places w (moments_of t (turn m w).steps) (turn m w).places (turn m w).world
     unfolding turn
     turn_passes m w = first_passes MAX_OPS m w
 
     pub job_passes : (j : Job V) (w : WorldState values) →
         let after = after_job j w in
-        GoesPast t j.system.places w (moments_of t after.steps) after.job.system.places after.state
+        GoesPast t j.system.places w (moments_of t after.steps) after.job.system.places after.world
     job_passes j w sound within =
         let none = passes_nothing _ _ _ within (stays _ sound) in
         grind (arith, cases_Bool, none, turn_passes j.system w sound within)

@@ -38,7 +38,7 @@ module _ {V : Type 0} {values : Values V} where
       ∙ job_logged t j w
 
   pub turn_footprint : JobFootprint values → (m : Member V)
-      → HasFootprint (member_needs m) (λ (e : AfterJob values). e.state) (given_by_turn m) (after_job m.job)
+      → HasFootprint (member_needs m) (λ (e : AfterJob values). e.world) (given_by_turn m) (after_job m.job)
   turn_footprint foot m = record {
     kept = (foot m.job).kept;
     same = λ parts v w within agree.
@@ -55,12 +55,12 @@ module _ {V : Type 0} {values : Values V} where
 
   -- two turns, neither of which writes what the other needs
   worlds_commute : JobFootprint values → (m n : Member V) (w : WorldState values) → Apart (member_needs m) (member_needs n)
-      → (after_job n.job (after_job m.job w).state).state ≡ (after_job m.job (after_job n.job w).state).state
+      → (after_job n.job (after_job m.job w).world).world ≡ (after_job m.job (after_job n.job w).world).world
   worlds_commute foot m n w free =
       let f = turn_footprint foot m in
       let g = turn_footprint foot n in
-      let v : WorldState values = (after_job m.job w).state in
-      let u : WorldState values = (after_job n.job w).state in
+      let v : WorldState values = (after_job m.job w).world in
+      let u : WorldState values = (after_job n.job w).world in
       same_world _ _ (λ p.
       let by_f = f.alike (needs_any (member_needs m)) u w (λ q used. used) (λ q used. g.kept w q (free.right q used)) p in
       let by_g = g.alike (needs_any (member_needs n)) v w (λ q used. used) (λ q used. f.kept w q (free.left q used)) p in
@@ -73,7 +73,7 @@ module _ {V : Type 0} {values : Values V} where
       ≡ given_by_turn (s.members j) (turn_of s j)
   turn_after foot s i j ne free =
       rw (ne_eqb j i ne)
-      ((turn_footprint foot (s.members j)).same (needs_any (member_needs (s.members j))) (turn_of s i).state s.world
+      ((turn_footprint foot (s.members j)).same (needs_any (member_needs (s.members j))) (turn_of s i).world s.world
       (λ p u. u) (λ p u. (turn_footprint foot (s.members i)).kept s.world p (free.left p u)))
 
   turns_swap : JobFootprint values → (s : State values) (i j : ℕ) → i ≢ j

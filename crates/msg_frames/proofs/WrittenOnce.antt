@@ -45,7 +45,7 @@ module _ {V : Type 0} {values : Values V} (t : ℕ) where
   -- the op adds what it is told that it wrote
   op_writes : (op : Op V) (i : ℕ) (places : ℕ → ℕ) (w : WorldState values) →
       let after = after_op op i places w in
-      all_written (after.state.histories t) ≡ all_written (w.histories t) ++ wrote t i op after.reply
+      all_written (after.world.histories t) ≡ all_written (w.histories t) ++ wrote t i op after.reply
   op_writes (Write u v) i places w =
       grind (arith, append-nil, cases_Bool, eqb_tells, wrote_more (w.histories u) (by i v ∷ []))
   op_writes (Batch u vs) i places w =
@@ -60,17 +60,17 @@ module _ {V : Type 0} {values : Values V} (t : ℕ) where
   no_steps w = record { grew = sym (append-nil (all_written (w.histories t))) }
 
   job_writes : (i : ℕ) (j : Job V) (w : WorldState values) → j.system.writer ≡ i
-      → IsWrittenOnce t w (by_system i (after_job j w).steps) (after_job j w).state
+      → IsWrittenOnce t w (by_system i (after_job j w).steps) (after_job j w).world
   unfolding turn
   job_writes i j w is =
       let m = j.system in
-      let ops = by_ops (λ (far : AfterProgram values). IsWrittenOnce t w (by_system m.writer far.steps) far.state) m w (no_steps w)
+      let ops = by_ops (λ (far : AfterProgram values). IsWrittenOnce t w (by_system m.writer far.steps) far.world) m w (no_steps w)
       (λ op far next so.
-      let here : AfterOp values = after_op op m.writer far.places far.state in
-      let done : Step values = record { op = op; places = far.places; world = far.state; reply = here.reply } in
+      let here : AfterOp values = after_op op m.writer far.places far.world in
+      let done : Step values = record { op = op; places = far.places; world = far.world; reply = here.reply } in
       rw (map-append {B = ℕ × Step values} (λ (x : Step values). (m.writer, x)) far.steps (done ∷ []))
-      (written_further t w (by_system m.writer far.steps) far.state (by_system m.writer (done ∷ [])) here.state so
-      (record { grew = rw (append-nil (wrote t m.writer op here.reply)) (op_writes op m.writer far.places far.state) }))) MAX_OPS in
+      (written_further t w (by_system m.writer far.steps) far.world (by_system m.writer (done ∷ [])) here.world so
+      (record { grew = rw (append-nil (wrote t m.writer op here.reply)) (op_writes op m.writer far.places far.world) }))) MAX_OPS in
       grind (arith, cases_Bool, is, no_steps w, ops)
 
   pub turns_write : (is : List ℕ) (s : State values) → ((i : ℕ) → Contains is i → (s.members i).job.system.writer ≡ i)

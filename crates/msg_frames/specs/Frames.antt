@@ -120,7 +120,7 @@ module _ {V : Type 0} {values : Values V} where
   abbrev pub after_turn_of : ℕ → State values → State values
   after_turn_of i s = record s {
     members = λ k. if k == i then member_after (turn_of s i) (s.members i) else s.members k;
-    world = (turn_of s i).state;
+    world = (turn_of s i).world;
   }
 
   -- what the log says of it

@@ -60,7 +60,7 @@ module _ {V : Type 0} {values : Values V} where
   abbrev pub home : List Access → State values → ℕ → State values → State values
   home accesses start i s = record s {
     members = with_member s.members i (member_after (turn_of start i) (start.members i));
-    world = merge (access_of accesses i) (turn_of start i).state s.world;
+    world = merge (access_of accesses i) (turn_of start i).world s.world;
   }
 
   -- the state s with each of these as its turn on the state `start` left it, and what that wrote

@@ -1,6 +1,6 @@
 -- What replies tell of a reader: the system's rule says which op each of them answers.
 use Rattle.std.specs.Prelude.{List, [], ℕ, ◌++◌, ◌∷◌}
-use Rattle.msg_system.specs.{Prelude.Needs, Prelude.Rule, Prelude.next_done, Prelude.ops_answered, declared.op.Op.Op, declared.reply.Reply.Reply}
+use Rattle.msg_system.specs.{Prelude.Needs, Prelude.OpRule, Prelude.next_done, Prelude.ops_answered, declared.op.Op.Op, declared.reply.Reply.Reply}
 use Rattle.msg_frames.specs.Entries.{ReadEntry, entry_for}
 
 module _ {V : Type 0} where
@@ -10,11 +10,11 @@ module _ {V : Type 0} where
   entries_for t _ _ = []
 
   -- the ops that were done of a system's next turn, if these are the replies
-  abbrev pub ops_by : Needs → Rule V → List (Reply V) → List (Op V)
+  abbrev pub ops_by : Needs → OpRule V → List (Reply V) → List (Op V)
   ops_by n rule replies = ops_answered (next_done n (rule [])) replies
 
   -- The entries for a type of a system whose turns, one after the other, have these replies.
-  abbrev pub entries_of_turns : ℕ → Needs → Rule V → List (List (Reply V)) → List (ReadEntry V)
+  abbrev pub entries_of_turns : ℕ → Needs → OpRule V → List (List (Reply V)) → List (ReadEntry V)
   entries_of_turns t n rule [] = []
   entries_of_turns t n rule (replies ∷ turns) = entries_for t (ops_by n rule replies) replies
       ++ entries_of_turns t n (λ later now. rule (replies ∷ later) now) turns

@@ -191,7 +191,7 @@ all_are_done : {V : Type 0} {values : Values V} (ops : List (Op V)) (w : ℕ) (p
     → All (λ reply. is_cut reply ≡ false) (after_program ops w ps s).replies
 all_are_done [] w ps s i d lt = grind (arith, lt)
 all_are_done (op ∷ ops) w ps s zero d lt = op_is_done op w ps s
-all_are_done (op ∷ ops) w ps s (suc i) d lt = all_are_done ops w _ (after_op op w ps s).state i d (omega (arith, lt))
+all_are_done (op ∷ ops) w ps s (suc i) d lt = all_are_done ops w _ (after_op op w ps s).world i d (omega (arith, lt))
 
 -- ---- a function
 

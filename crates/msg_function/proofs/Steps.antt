@@ -42,7 +42,7 @@ module _ {V : Type 0} {values : Values V} where
   abbrev pub joined : AfterProgram values → AfterProgram values → AfterProgram values
   joined first rest = record {
     places = rest.places;
-    state = rest.state;
+    world = rest.world;
     replies = first.replies ++ rest.replies;
     steps = first.steps ++ rest.steps;
   }
@@ -50,25 +50,25 @@ module _ {V : Type 0} {values : Values V} where
   pub after_program-append : (xs ys : List (Op V)) (w : ℕ) (ps : ℕ → ℕ) (s : WorldState values)
       → after_program (xs ++ ys) w ps s
       ≡ joined (after_program xs w ps s)
-      (after_program ys w (after_program xs w ps s).places (after_program xs w ps s).state)
+      (after_program ys w (after_program xs w ps s).places (after_program xs w ps s).world)
   after_program-append [] ys w ps s = refl
   after_program-append (x ∷ xs) ys w ps s =
       let here : AfterOp values = after_op x w ps s in
       let done : Step values = record { op = x; places = ps; world = s; reply = here.reply } in
       ap (λ (e : AfterProgram values). record {
         places = e.places;
-        state = e.state;
+        world = e.world;
         replies = here.reply ∷ e.replies;
         steps = done ∷ e.steps;
       })
-      (after_program-append xs ys w here.places here.state)
+      (after_program-append xs ys w here.places here.world)
 
   ran_then' : (xs ys : List (Op V)) (w : ℕ) (ps qs rs : ℕ → ℕ) (l m n : Lent V) (a b c : List (Reply V))
       → ProgramRan values xs w ps qs l m a b → ProgramRan values ys w qs rs m n b c
       → ProgramRan values (xs ++ ys) w ps rs l n a c
   ran_then' xs ys w ps qs rs l m n a b c first second s stands =
       let far = first s stands in
-      let end = second (after_program xs w ps s).state far.stands in
+      let end = second (after_program xs w ps s).world far.stands in
       rw after_program-append (grind (arith, append_assoc, far, end))
 
 replies_then : {V : Type 0} (a b c : List (Reply V)) (i j : ℕ) → HasReplies a b i → HasReplies b c j → HasReplies a c (i + j)

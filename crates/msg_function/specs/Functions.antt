@@ -10,7 +10,7 @@ use Rattle.msg_system.specs.declared.reply.Reply.TheVariants as reply
 use Rattle.msg_system.specs.declared.op.Op.{Op}
 use Rattle.msg_system.specs.declared.op.Op.TheVariants as op
 use Rattle.msg_system.specs.declared.start.Start.{Start}
-use Rattle.msg_system.specs.Prelude.{Meaning, Needs, Rule, after_program, after_turn, brought, is_cut, is_resource, turn}
+use Rattle.msg_system.specs.Prelude.{Meaning, Needs, OpRule, after_program, after_turn, brought, is_cut, is_resource, turn}
 use Rattle.msg_function.specs.declared.inbox.Inbox.{Inbox}
 use Rattle.msg_function.specs.declared.outbox.Outbox.{Outbox}
 use Rattle.msg_function.specs.declared.port.Port.{Port}
@@ -140,7 +140,7 @@ module _ {V M : Type 0} (answers : FunctionOf V M) (reads writes : List Port) wh
   memory_after memory turns = fold (λ m replies. (made_of m replies).0) memory turns
 
   -- its rule: op k of the turn after k replies
-  abbrev pub function_rule : M → Rule V
+  abbrev pub function_rule : M → OpRule V
   function_rule memory turns replies =
       slice_get (turn_ops (memory_after memory turns) replies) (length replies)
 

@@ -3,7 +3,7 @@ use Rattle.std.proofs.Common.{◌≡◌, ℕ, ◌-◌, ◌≤◌, List, [], ◌�
 use Rattle.std.proofs.lemmas.List.{length-map, take_all, Folds.list_all-map}
 use Rattle.std.specs.declared.alloc.Global.{Global}
 use Rattle.serde_json.specs.{Data.Data, View.view, View.items_of, View.members_view, declared.value.Value.Value}
-use Rattle.msg_json.specs.Prelude.{Reading, Reads, inside, keys_of, list_of, values_from, ◌>>=◌}
+use Rattle.msg_json.specs.Prelude.{Reading, Reads, at_step, keys_of, list_of, values_from, ◌>>=◌}
 use Rattle.msg_json.specs.declared.location.PathStep.{PathStep}
 
 -- ---- lists in serde_json's form, and in ours
@@ -48,7 +48,7 @@ behind_more xs x (Err e) = refl
 
 -- what may want memory, within an element
 pub Reads_inside : {A : Type 0} (step : PathStep) (reading answer : Reading A) → Reads reading answer
-    → Reads (inside step reading) (inside step answer)
+    → Reads (at_step step reading) (at_step step answer)
 Reads_inside step reading (Ok a) h = rw h refl
 Reads_inside step reading (Err e) (inl h) = inl h
 Reads_inside step reading (Err e) (inr h) = inr (rw h refl)

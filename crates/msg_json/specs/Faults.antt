@@ -118,37 +118,37 @@ after (step.Part n) l = record l { part = Some n }
 after (step.Value n) l = record l { value = Some n }
 
 -- what was read where a step leads: its fault lies there
-abbrev pub inside : {A : Type 0} → PathStep → Reading A → Reading A
-inside s (Ok a) = Ok a
-inside s (Err e) = Err (record e { location = after s e.location })
+abbrev pub at_step : {A : Type 0} → PathStep → Reading A → Reading A
+at_step s (Ok a) = Ok a
+at_step s (Err e) = Err (record e { location = after s e.location })
 
 -- what was read in the section of this key
 abbrev pub in_section : {A : Type 0} → Key → Reading A → Reading A
-in_section k = inside (step.Section k)
+in_section k = at_step (step.Section k)
 
 -- what was read as this element of a section
 abbrev pub in_element : {A : Type 0} → ℕ → Reading A → Reading A
-in_element n = inside (step.Element n)
+in_element n = at_step (step.Element n)
 
 -- what was read at this key of an element
 abbrev pub in_key : {A : Type 0} → Key → Reading A → Reading A
-in_key k = inside (step.Key k)
+in_key k = at_step (step.Key k)
 
 -- what was read as this item of a list there
 abbrev pub in_item : {A : Type 0} → ℕ → Reading A → Reading A
-in_item n = inside (step.Item n)
+in_item n = at_step (step.Item n)
 
 -- what was read inside so many `not`s
 abbrev pub in_nots : {A : Type 0} → ℕ → Reading A → Reading A
-in_nots n = inside (step.Nots n)
+in_nots n = at_step (step.Nots n)
 
 -- what was read as this part of a list that has a head, or of a pair
 abbrev pub in_part : {A : Type 0} → ℕ → Reading A → Reading A
-in_part n = inside (step.Part n)
+in_part n = at_step (step.Part n)
 
 -- what was read as this value of a batch
 abbrev pub in_value : {A : Type 0} → ℕ → Reading A → Reading A
-in_value n = inside (step.Value n)
+in_value n = at_step (step.Value n)
 
 -- the answer of what may want memory: it is what is read, unless memory was refused
 abbrev pub Reads : {A : Type 0} → Reading A → Reading A → Type 0

@@ -44,8 +44,8 @@ impl<T: Drop> From<AllocFailed<T>> for Fault {
 }
 
 /// What was read at this step within what is read: a fault of it lies there.
-pub fn inside<T>(step: PathStep, read: Result<T, Fault>) -> Result<T, Fault>
-    ensures inside { result ≡ Spec.inside step read }
+pub fn at_step<T>(step: PathStep, read: Result<T, Fault>) -> Result<T, Fault>
+    ensures at_step { result ≡ Spec.at_step step read }
 {
     match read {
         Ok(read) => Ok(read),

@@ -4,7 +4,7 @@ ghost use Rattle.std.specs.List.{list_all};
 ghost use Rattle.serde_json.specs.View.{view, number_view};
 ghost use Rattle.msg_json.specs.{Faults.Reads, Json.is_number, Seen.items_seen, Seen.number_seen, Values.batch_of, Values.below, Values.limit_of, Values.natural, Values.number_of, Values.numbers_of, Values.value_of, Values.values_from, Values.values_of, Values.whole};
 
-use crate::fault::{Fault, inside};
+use crate::fault::{Fault, at_step};
 use crate::limits::{MAX_LIMIT, MAX_VALUES};
 use crate::location::PathStep;
 use crate::reason::Reason;
@@ -101,7 +101,7 @@ pub fn batch_values(alloc: Global, items: &[Value]) -> Result<Items<i64>, Fault>
     }
     let mut values = Vec::new(alloc);
     for item in items {
-        values.push(inside(PathStep::Value(values.len()), value(item))?)?;
+        values.push(at_step(PathStep::Value(values.len()), value(item))?)?;
     }
     Ok(Items::from_vec(values))
 }

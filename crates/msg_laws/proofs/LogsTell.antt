@@ -3,17 +3,17 @@ use Rattle.msg_frames.proofs.{EntriesOfSteps.job_logged, ReaderOverJob.entries_a
 use Rattle.msg_frames.specs.{Frames.turn_order, declared.frame.Frame.Frame}
 use Rattle.msg_frames.specs.Prelude.{Moment, State, after_turn_of, after_turns_of, answers_in, before_turns, entries_of_turns, frame, logged_turn, moments, replies_of, run}
 use Rattle.msg_laws.specs.Prelude.{LogsTellEntries}
-use Rattle.msg_system.specs.{Prelude.Needs, Prelude.Rule, Prelude.after_job, declared.reply.Reply.Reply}
+use Rattle.msg_system.specs.{Prelude.Needs, Prelude.OpRule, Prelude.after_job, declared.reply.Reply.Reply}
 use Rattle.msg_world.specs.Prelude.{Values}
 use Rattle.std.proofs.Common.{List, [], append_assoc, arith, cond, map, refl, ℕ, ◌++◌, ◌==◌, ◌∷◌, ◌≡◌}
 use Rattle.std.proofs.lemmas.{Bool.cases_Bool, Bool.Decides.eqb_tells, List.map-append}
 
 module _ {V : Type 0} where
   -- a rule, after turns that were answered so
-  abbrev pub after_told : List (List (Reply V)) → Rule V → Rule V
+  abbrev pub after_told : List (List (Reply V)) → OpRule V → OpRule V
   after_told turns rule = λ later now. rule (turns ++ later) now
 
-  pub entries_of_turns-append : (t : ℕ) (n : Needs) (rule : Rule V) (xs ys : List (List (Reply V)))
+  pub entries_of_turns-append : (t : ℕ) (n : Needs) (rule : OpRule V) (xs ys : List (List (Reply V)))
       → entries_of_turns t n rule (xs ++ ys) ≡ entries_of_turns t n rule xs ++ entries_of_turns t n (after_told xs rule) ys
   entries_of_turns-append t n rule [] ys = refl
   entries_of_turns-append t n rule (x ∷ xs) ys =

@@ -58,7 +58,7 @@ module _ {V : Type 0} {values : Values V} where
       → IsWithoutObserver (after_turn_of i s) t
   observer_turn i s t is w =
       let kept = (job_footprint (s.members i).job).kept s.world in
-      let idle = same_world (turn_of s i).state s.world (λ p. kept p (rw is (w.quiet p))) in
+      let idle = same_world (turn_of s i).world s.world (λ p. kept p (rw is (w.quiet p))) in
       still s t _ t w (one_turn_keeps i s) (turns_keep_systems [] t)
       (λ k lt. rw (ne_eqb k i (omega (arith, is, lt))) (w.others k lt)) (w.world ∙ sym idle) w.frames
 
@@ -71,7 +71,7 @@ module _ {V : Type 0} {values : Values V} where
               | inl h ↦ rw (h, same, w.others i lt) refl
               | inr h ↦ rw h (w.others k below)
             ])
-            (ap (λ (e : AfterJob values). e.state) same) w.frames,
+            (ap (λ (e : AfterJob values). e.world) same) w.frames,
         rw same refl,
       )
 

@@ -20,8 +20,8 @@ module _ {V : Type 0} {values : Values V} (t : ℕ) where
 
   -- so it does by one op more, or it did before
   more_takes : (o : Option (Op V)) (m : Meaning V) (far : AfterProgram values) (c : ℕ) → next_op m far.replies ≡ o
-      → IsSound (far.state.histories t)
-      → far.places t ≤ count (far.state.histories t) → c ≤ count (far.state.histories t)
+      → IsSound (far.world.histories t)
+      → far.places t ≤ count (far.world.histories t) → c ≤ count (far.world.histories t)
       → (IsTrue (list_any (reads_all t) (ops_answered (next_op m) far.replies)) → c ≤ far.places t)
       → IsTrue (list_any (reads_all t) (ops_answered (next_op m) (one_more o m.writer far).replies))
       → c ≤ (one_more o m.writer far).places t

@@ -35,7 +35,7 @@ module _ {V : Type 0} {values : Values V} where
   first_answered : (i n : ℕ) (m : Meaning V) (w : WorldState values)
       → Answers i (after_at_most n (next_op m) m.writer m.places w)
   first_answered i n m w = by_ops (Answers i) m w (refl, refl) (λ op far is so.
-      (grind (arith, map-append, so.0), rw (filter-append, so.1, op_is_done op m.writer far.places far.state) refl)) n
+      (grind (arith, map-append, so.0), rw (filter-append, so.1, op_is_done op m.writer far.places far.world) refl)) n
 
   job_answered : (i : ℕ) (j : Job V) (w : WorldState values) → map answer_to (by_system i (after_job j w).steps)
       ≡ told_in (record { system = i; outcome = outcome_of (after_job j w).replies })

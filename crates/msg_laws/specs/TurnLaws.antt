@@ -23,8 +23,8 @@ DrainsTakeAll {V} values = (t writer : ℕ) (places : ℕ → ℕ) (w : WorldSta
     → let h : History (Record V) = w.histories t in
     let done : AfterOp values = after_op (Drain t) writer places w in
     (done.reply ≡ Drained (oldest h) (map message_of (present h)))
-    × (present (done.state.histories t) ≡ [])
-    × ((place : ℕ) → unread (done.state.histories t) place ≡ [])
+    × (present (done.world.histories t) ≡ [])
+    × ((place : ℕ) → unread (done.world.histories t) place ≡ [])
 
 -- The same systems have the same accesses, and as many frames on the same have joined.
 abbrev pub SameSystemsHaveSameAccesses : {V : Type 0} → Values V → Type 0

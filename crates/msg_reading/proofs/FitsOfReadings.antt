@@ -2,7 +2,7 @@
 use Rattle.std.proofs.Common.{◌≡◌, ℕ, suc, ◌+◌, ◌≤◌, List, [], ◌∷◌, length, refl, ap, arith, Bool, true, false, All, Ok, Err, IfOk, nat_le, zero-add, if◌then◌else◌}
 use Rattle.std.proofs.lemmas.{Bool.leb-true, List.Elements.All-cons, List.Elements.All-nil, Result.IfOk-at_ok, Result.IfOk-weaker}
 use Rattle.serde_json.specs.Data.{Data}
-use Rattle.msg_json.specs.Prelude.{Reading, elements, inside, is_list, list_up_to, wanted, ◌>>=◌}
+use Rattle.msg_json.specs.Prelude.{Reading, at_step, elements, is_list, list_up_to, wanted, ◌>>=◌}
 use Rattle.msg_json.specs.declared.location.PathStep.{PathStep}
 use Rattle.msg_json.specs.declared.reason.Reason.{Reason}
 use Rattle.msg_reading.specs.Prelude.{Declared, each_from, each_of}
@@ -15,7 +15,7 @@ in_then P (Err e) g h = tt
 
 -- it holds of what the second gives for what the first gave, read at a place
 pub of_part : {X A : Type 0} (Q : X → Type 0) (P : A → Type 0) (step : PathStep) (r : Reading X) (g : X → Reading A)
-    → IfOk r Q → ((x : X) → Q x → IfOk (g x) P) → IfOk (inside step r >>= g) P
+    → IfOk r Q → ((x : X) → Q x → IfOk (g x) P) → IfOk (at_step step r >>= g) P
 of_part Q P step (Ok x) g of h = h x of
 of_part Q P step (Err e) g of h = tt
 

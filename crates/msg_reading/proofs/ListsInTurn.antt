@@ -2,7 +2,7 @@
 use Rattle.std.proofs.Common.{◌≡◌, ℕ, ◌+◌, List, [], ◌∷◌, ◌++◌, drop, map, refl, sym, ap, ◌∙◌, Ok, Err, inl, inr}
 use Rattle.std.proofs.lemmas.List.{append_assoc}
 use Rattle.serde_json.specs.{Data.Data, View.view, declared.value.Value.Value}
-use Rattle.msg_json.specs.Prelude.{Reading, inside, ◌>>=◌}
+use Rattle.msg_json.specs.Prelude.{Reading, at_step, ◌>>=◌}
 use Rattle.msg_json.specs.declared.fault.Fault.{Fault}
 use Rattle.msg_json.specs.declared.location.PathStep.{PathStep}
 use Rattle.msg_reading.specs.Prelude.{Declared, each_from}
@@ -38,8 +38,8 @@ module _ {A : Type 0} (f : Declared → ℕ → Data → Reading (A × Declared)
     element_more x later h = record { so_far = left.so_far ∙ rw (is, h) (behind_more read x _) }
 
 -- what may want memory, at a place within the file
-pub ReadsWith_inside : {A : Type 0} (step : PathStep) (reading : Reading (A × Declared)) (names : Declared)
-    (answer : Reading A) → ReadsWith reading names answer → ReadsWith (inside step reading) names (inside step answer)
-ReadsWith_inside step reading names (Ok a) h = rw h refl
-ReadsWith_inside step reading names (Err e) (inl h) = inl h
-ReadsWith_inside step reading names (Err e) (inr h) = inr (rw h refl)
+pub ReadsWith_at_step : {A : Type 0} (step : PathStep) (reading : Reading (A × Declared)) (names : Declared)
+    (answer : Reading A) → ReadsWith reading names answer → ReadsWith (at_step step reading) names (at_step step answer)
+ReadsWith_at_step step reading names (Ok a) h = rw h refl
+ReadsWith_at_step step reading names (Err e) (inl h) = inl h
+ReadsWith_at_step step reading names (Err e) (inr h) = inr (rw h refl)

@@ -10,7 +10,7 @@ ghost use Rattle.msg_serve.specs.inner.Answering.{request_seen};
 
 use crate::limits::MAX_POSTS;
 use msg_frames::{Frame, Items};
-use msg_json::fault::inside;
+use msg_json::fault::at_step;
 use msg_json::json::{list, text};
 use msg_json::numbers::{number, whole_number};
 use msg_json::{Fault, PathStep, Reason};
@@ -77,7 +77,7 @@ fn read_posts(
 {
     let mut posts = Vec::new(alloc);
     for n in 0..items.len() {
-        let post = inside(PathStep::Item(n), read_post(scenario, &items[n]))?;
+        let post = at_step(PathStep::Item(n), read_post(scenario, &items[n]))?;
         posts.push(post)?;
     }
     Ok(Items::from_vec(posts))
@@ -88,10 +88,10 @@ fn read_post(scenario: &Scenario, post: &Value) -> Result<(TypeNo, i64), Fault>
     ensures post { result ≡ post_of (names_of scenario.now) (view post.now) }
 {
     let (name, value) = pair(post)?;
-    let name = inside(PathStep::Part(0), text(name))?;
-    let value = inside(PathStep::Part(1), number(value))?;
-    let of_type = inside(PathStep::Part(0), type_named(scenario, name))?;
-    Ok((of_type, inside(PathStep::Part(1), whole_number(value))?))
+    let name = at_step(PathStep::Part(0), text(name))?;
+    let value = at_step(PathStep::Part(1), number(value))?;
+    let of_type = at_step(PathStep::Part(0), type_named(scenario, name))?;
+    Ok((of_type, at_step(PathStep::Part(1), whole_number(value))?))
 }
 
 /// The number of the type of a name.

@@ -11,7 +11,7 @@ use Rattle.msg_system.proofs.{Runs.same_part_refl, Turns.IsKept, Turns.kept, Tur
 -- ---- what is kept
 
 op_kept : {V : Type 0} {values : Values V} (op : Op V) (w : ℕ) (ps : ℕ → ℕ) (s : WorldState values) (p : Part) → (op_needs op).writes p ≡ false
-    → content p (after_op op w ps s).state ≡ content p s
+    → content p (after_op op w ps s).world ≡ content p s
 op_kept op w ps s (OfType t) h = grind arith
 op_kept op w ps s (OfResource r) h = grind arith
 op_kept op w ps s Registry h = grind arith
@@ -29,7 +29,7 @@ module _ {V : Type 0} {values : Values V} (m : Part → Bool) (s t : WorldState 
         × IfSome (op_parts op).written (λ p. content p s ≡ content p t)
     agrees = (part_agrees (op_parts op).read (λ p. or_left _ _), part_agrees (op_parts op).written (λ p. or_right _ _))
 
-    op_alike : Agree m (after_op op w ps s).state (after_op op w ps t).state
+    op_alike : Agree m (after_op op w ps s).world (after_op op w ps t).world
     op_alike (OfType u) h = grind (arith, agrees, agree (OfType u) h)
     op_alike (OfResource r) h = grind (arith, agrees, agree (OfResource r) h)
     op_alike Registry h = grind (arith, agree Registry h)
@@ -51,29 +51,29 @@ module _ {V : Type 0} (values : Values V) (n : Needs) (next : List (Reply V) →
   after k s = after_at_most k next w ps s
 
   more_kept : (o : Option (Op V)) (far : AfterProgram values) (p : Part) → ((op : Op V) → o ≡ Some op → IsKept n op)
-      → n.writes p ≡ false → content p (one_more o w far).state ≡ content p far.state
+      → n.writes p ≡ false → content p (one_more o w far).world ≡ content p far.world
   more_kept None far p kept h = refl
   more_kept (Some op) far p kept h =
-      op_kept op w far.places far.state p (grind (arith, kept op refl, cases_Bool, false≢true))
+      op_kept op w far.places far.world p (grind (arith, kept op refl, cases_Bool, false≢true))
 
   more_alike : (among : Part → Bool) → IsWithin n among → (o : Option (Op V)) (a b : AfterProgram values) → ((op : Op V) → o ≡ Some op → IsKept n op)
-      → given_by_program a ≡ given_by_program b → Agree among a.state b.state
-      → (given_by_program (one_more o w a) ≡ given_by_program (one_more o w b)) × Agree among (one_more o w a).state (one_more o w b).state
+      → given_by_program a ≡ given_by_program b → Agree among a.world b.world
+      → (given_by_program (one_more o w a) ≡ given_by_program (one_more o w b)) × Agree among (one_more o w a).world (one_more o w b).world
   more_alike among within None a b kept same agree = (same, agree)
   more_alike among within (Some op) a b kept same agree =
       let foot = op_footprint op w a.places in
       let in_m : IsWithin (op_needs op) among = λ p h. within p (grind (arith, kept op refl)) in (
-        grind (arith, same, foot.same among a.state b.state in_m agree),
-        λ p h. grind (arith, same, foot.alike among a.state b.state in_m agree p h),
+        grind (arith, same, foot.same among a.world b.world in_m agree),
+        λ p h. grind (arith, same, foot.alike among a.world b.world in_m agree p h),
       )
 
-  first_ops : (k : ℕ) → HasFootprint n (λ (e : AfterProgram values). e.state) given_by_program (after k)
+  first_ops : (k : ℕ) → HasFootprint n (λ (e : AfterProgram values). e.world) given_by_program (after k)
   first_ops zero = record { kept = λ s p h. refl; same = λ m s t within agree. refl; alike = λ m s t within agree. agree }
   first_ops (suc k) =
       let far = first_ops k in
       let from = λ (g : (ℕ → ℕ) × List (Reply V)). next g.1 in
       let more : (m : Part → Bool) (s t : WorldState values) → IsWithin n m → Agree m s t
-      → (given_by_program (after (suc k) s) ≡ given_by_program (after (suc k) t)) × Agree m (after (suc k) s).state (after (suc k) t).state =
+      → (given_by_program (after (suc k) s) ≡ given_by_program (after (suc k) t)) × Agree m (after (suc k) s).world (after (suc k) t).world =
       λ m s t within agree.
       let same = far.same m s t within agree in
       rw (← ap from same)

@@ -46,13 +46,13 @@ after_program-snoc {V} {values} (x ∷ ops) op w ps s =
     let done : Step values = record { op = x; places = ps; world = s; reply = here.reply } in
     ap (λ (e : AfterProgram values). record {
       places = e.places;
-      state = e.state;
+      world = e.world;
       replies = here.reply ∷ e.replies;
       steps = done ∷ e.steps;
     })
-    (after_program-snoc ops op w here.places here.state)
+    (after_program-snoc ops op w here.places here.world)
 
 pub op_more : {V : Type 0} {values : Values V} (op : Op V) (w : ℕ) (qs rs : ℕ → ℕ) (l m : Lent V) (e : AfterProgram values) (before after : List (Reply V)) (r : Reply V)
     → IsAfterProgram e qs l before after → OpRan values op w qs rs l m r
     → IsAfterProgram (one_more (Some op) w e) rs m before (after ++ r ∷ [])
-op_more op w qs rs l m e before after r far ran = grind (arith, append_assoc, far, ran e.state far.stands)
+op_more op w qs rs l m e before after r far ran = grind (arith, append_assoc, far, ran e.world far.stands)

@@ -58,7 +58,7 @@ program_over program w ps rs all = rw (slice_get_past program.ops (length rs) (o
 pub one_reply_each : {V : Type 0} {values : Values V} (ops : List (Op V)) (w : ℕ) (ps : ℕ → ℕ) (s : WorldState values) → length (after_program ops w ps s).replies
     ≡ length ops
 one_reply_each [] w ps s = refl
-one_reply_each (op ∷ ops) w ps s = ap suc (one_reply_each ops w _ (after_op op w ps s).state)
+one_reply_each (op ∷ ops) w ps s = ap suc (one_reply_each ops w _ (after_op op w ps s).world)
 
 -- as far as so many ops
 pub so_far : {V : Type 0} {values : Values V} (ops : List (Op V)) (n w : ℕ) (ps : ℕ → ℕ) (s : WorldState values)

@@ -102,7 +102,7 @@ op_is_done op w ps s = grind (arith, cases_Bool)
 same_ops : {V : Type 0} {values : Values V} (ops : List (Op V)) (w : ℕ) (ps : ℕ → ℕ) (s : WorldState values)
     → map (λ (step : Step values). step.op) (after_program ops w ps s).steps ≡ ops
 same_ops [] w ps s = refl
-same_ops (op ∷ ops) w ps s = ap (λ xs. op ∷ xs) (same_ops ops w _ (after_op op w ps s).state)
+same_ops (op ∷ ops) w ps s = ap (λ xs. op ∷ xs) (same_ops ops w _ (after_op op w ps s).world)
 
 pub program_is_whole : {V : Type 0} {values : Values V} (program : Program V) (w : ℕ) (ps : ℕ → ℕ) (s : WorldState values)
     → length program.ops ≤ MAX_OPS → IsWholeTurn (of_program program w ps) s

@@ -70,7 +70,7 @@ module _ {V : Type 0} where
 -- What a job leaves, what its program answered (None if the job was skipped), and its steps.
 pub record AfterJob {V : Type 0} (values : Values V) : Type 0 where
   pub job : Job V
-  pub state : WorldState values
+  pub world : WorldState values
   pub replies : Option (List (Reply V))
   pub steps : List (Step values)
 
@@ -82,13 +82,13 @@ module _ {V : Type 0} {values : Values V} where
       if all_hold j.conditions s then
       record {
         job = record { system = after_turn j.system s; conditions = asked };
-        state = (turn j.system s).state;
+        world = (turn j.system s).world;
         replies = Some (turn j.system s).replies;
         steps = (turn j.system s).steps;
       }
       else record {
         job = record { system = j.system; conditions = asked };
-        state = s;
+        world = s;
         replies = None;
         steps = [];
       }

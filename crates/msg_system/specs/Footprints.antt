@@ -45,20 +45,20 @@ module _ {V : Type 0} {values : Values V} where
 -- An op depends on no part but those that it needs, and changes no part but those that it writes.
 abbrev pub OpFootprint : {V : Type 0} → Values V → Type 0
 OpFootprint {V} values = (op : Op V) (w : ℕ) (places : ℕ → ℕ)
-    → HasFootprint (op_needs op) (λ (e : AfterOp values). e.state) given_by_op
+    → HasFootprint (op_needs op) (λ (e : AfterOp values). e.world) given_by_op
     (after_op op w places)
 
 -- The same holds of a program.
 abbrev pub ProgramFootprint : {V : Type 0} → Values V → Type 0
 ProgramFootprint {V} values = (ops : List (Op V)) (w : ℕ) (places : ℕ → ℕ)
-    → HasFootprint (program_needs ops) (λ (e : AfterProgram values). e.state) given_by_program
+    → HasFootprint (program_needs ops) (λ (e : AfterProgram values). e.world) given_by_program
     (after_program ops w places)
 
 -- The same holds of a system's turn.
 abbrev pub TurnFootprint : {V : Type 0} → Values V → Type 0
 TurnFootprint {V} values =
     (m : Meaning V)
-    → HasFootprint m.needs (λ (e : AfterProgram values). e.state) given_by_program (turn m)
+    → HasFootprint m.needs (λ (e : AfterProgram values). e.world) given_by_program (turn m)
 
 -- What a condition answers, and its place afterwards, depend on no part but those that it needs.
 abbrev pub ConditionFootprint : {V : Type 0} → Values V → Type 0
@@ -70,4 +70,4 @@ ConditionFootprint {V} values = (a : Asked V) (m : Part → Bool) (s t : WorldSt
 abbrev pub JobFootprint : {V : Type 0} → Values V → Type 0
 JobFootprint {V} values = (j : Job V)
     → HasFootprint (with_conditions j.system.needs (conditions_of j))
-    (λ (e : AfterJob values). e.state) given_by_job (after_job j)
+    (λ (e : AfterJob values). e.world) given_by_job (after_job j)

@@ -12,7 +12,7 @@ pub record IsAfterOp {V : Type 0} {values : Values V} (after : AfterOp values) (
     (lent : Lent V)
     (answer : Reply V) : Type 0 where
   pub same_places : places ≡ after.places
-  pub stands : LoanStands lent after.state
+  pub stands : LoanStands lent after.world
   pub same_reply : answer ≡ after.reply
 
 -- For each state that the loan stood for, the new places, loan and reply are those after the op.

@@ -6,7 +6,7 @@ pub use Rattle.msg_system.specs.Needs.{FitsWorld, HasClash, IsAccessOf, Needs, c
 pub use Rattle.msg_system.specs.OpRuns.{IsAfterOp, MayBeRefused, OpRan, cursor_places}
 pub use Rattle.msg_system.specs.Programs.{AfterOp, AfterProgram, Step, after_op, after_program, again_by, numbers_for, op_parts, place_after_read, reply_took, sets_to, sum_onto, took, with_place, write_reply, writes_all, wrote}
 pub use Rattle.msg_system.specs.Promises.{CompleteCovers, Covers, JobsCover, OneOpIsATurn, OneOpIsCovered, Ran, WrittenIsAll, WrittenStand}
-pub use Rattle.msg_system.specs.Systems.{IsInOrder, IsUncut, IsWholeTurn, KeepsWithinBounds, Meaning, Rule, TurnsAreWhole, TurnsWithinBounds, after_at_most, after_turn, is_cut, cut_after, new_system, next_done, next_op, of_program, one_more, only, ops_answered, refusal, start_place, after_start, started_places, after_replies}
+pub use Rattle.msg_system.specs.Systems.{IsInOrder, IsUncut, IsWholeTurn, KeepsWithinBounds, Meaning, OpRule, TurnsAreWhole, TurnsWithinBounds, after_at_most, after_turn, is_cut, cut_after, new_system, next_done, next_op, of_program, one_more, only, ops_answered, refusal, start_place, after_start, started_places, after_replies}
 unfoldable pub use Rattle.msg_system.specs.Systems.{turn}
 pub use Rattle.msg_system.specs.declared.condition.Condition.{Condition}
 pub use Rattle.msg_system.specs.declared.condition.Probe.{Probe}

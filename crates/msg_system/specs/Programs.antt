@@ -33,7 +33,7 @@ module _ {V : Type 0} where
 -- What an op leaves, and what it answers. A system has a place in each type, by the type's number.
 pub record AfterOp {V : Type 0} (values : Values V) : Type 0 where
   pub places : ℕ → ℕ
-  pub state : WorldState values
+  pub world : WorldState values
   pub reply : Reply V
 
 -- the places, with another one in this type
@@ -74,20 +74,20 @@ sum_onto values z ms = fold (λ x m. values.plus x m.value) z ms
 module _ {V : Type 0} {values : Values V} where
   -- an op that gives this answer, moves to these places, and leaves the world as it is
   abbrev pub answers : Reply V → (ℕ → ℕ) → WorldState values → AfterOp values
-  answers r places s = record { places = places; state = s; reply = r }
+  answers r places s = record { places = places; world = s; reply = r }
 
   -- an op that writes these messages
   abbrev pub writes_all : ℕ → List (Record V) → (ℕ → ℕ) → WorldState values → AfterOp values
   writes_all t ms places s = record {
     places = places;
-    state = with_history s t (write ms (s.histories t));
+    world = with_history s t (write ms (s.histories t));
     reply = write_reply (numbers_for (s.histories t) (length ms));
   }
 
   -- an op that gives a resource this value
   abbrev pub sets_to : ℕ → V → (ℕ → ℕ) → WorldState values → AfterOp values
   sets_to r z places s =
-      record { places = places; state = with_value_of s r z; reply = reply.Value z }
+      record { places = places; world = with_value_of s r z; reply = reply.Value z }
 
   -- One op of the system that writes as `w`.
   abbrev pub after_op : Op V → ℕ → (ℕ → ℕ) → WorldState values → AfterOp values
@@ -107,7 +107,7 @@ module _ {V : Type 0} {values : Values V} where
       let ms : List (Record V) = again_by w taken.items in
       record {
         places = with_place ps t (place_after_read (s.histories t) (ps t) None);
-        state = with_history s u (write ms (s.histories u));
+        world = with_history s u (write ms (s.histories u));
         reply = reply.Forwarded taken (numbers_for (s.histories u) (length ms));
       }
   after_op (op.Sum t r) w ps s =
@@ -115,7 +115,7 @@ module _ {V : Type 0} {values : Values V} where
       let z : V = sum_onto values (s.resources r) taken.items in
       record {
         places = with_place ps t (place_after_read (s.histories t) (ps t) None);
-        state = with_value_of s r z;
+        world = with_value_of s r z;
         reply = reply.Summed taken z;
       }
   after_op (op.Get r) w ps s = answers (reply.Value (s.resources r)) ps s
@@ -123,10 +123,10 @@ module _ {V : Type 0} {values : Values V} where
   after_op (op.Add r v) w ps s = sets_to r (values.plus (s.resources r) v) ps s
   after_op (op.Drain t) w ps s = record {
     places = ps;
-    state = with_history s t (clear (s.histories t));
+    world = with_history s t (clear (s.histories t));
     reply = reply.Drained (oldest (s.histories t)) (map message_of (present (s.histories t)));
   }
-  after_op op.Signal w p s = record { places = p; state = after_signal s; reply = reply.Signalled }
+  after_op op.Signal w p s = record { places = p; world = after_signal s; reply = reply.Signalled }
 
 -- ---- what a reply tells
 
@@ -173,20 +173,20 @@ pub record Step {V : Type 0} (values : Values V) : Type 0 where
 -- What a program leaves, what its ops answer, one reply each, and its steps.
 pub record AfterProgram {V : Type 0} (values : Values V) : Type 0 where
   pub places : ℕ → ℕ
-  pub state : WorldState values
+  pub world : WorldState values
   pub replies : List (Reply V)
   pub steps : List (Step values)
 
 module _ {V : Type 0} {values : Values V} where
   -- the ops one after the other
   abbrev pub after_program : List (Op V) → ℕ → (ℕ → ℕ) → WorldState values → AfterProgram values
-  after_program [] w ps s = record { places = ps; state = s; replies = []; steps = [] }
+  after_program [] w ps s = record { places = ps; world = s; replies = []; steps = [] }
   after_program (this ∷ ops) w ps s =
       let here : AfterOp values = after_op this w ps s in
-      let rest : AfterProgram values = after_program ops w here.places here.state in
+      let rest : AfterProgram values = after_program ops w here.places here.world in
       record {
         places = rest.places;
-        state = rest.state;
+        world = rest.world;
         replies = here.reply ∷ rest.replies;
         steps = record { op = this; places = ps; world = s; reply = here.reply } ∷ rest.steps;
       }

@@ -30,7 +30,7 @@ pub record Ran {V : Type 0} (values : Values V) (old new : Meaning V) (lent : Le
   -- what the system means changes by these replies and its places alone
   pub means : new ≡ record (after_replies replies old) { places = new.places }
   pub state : (s : WorldState values) → LoanStands lent s
-      → WrittenStand lent taken (turn old s).state
+      → WrittenStand lent taken (turn old s).world
   pub answers : (s : WorldState values) → LoanStands lent s → replies ≡ (turn old s).replies
   pub places : (s : WorldState values) → LoanStands lent s → new.places ≡ (turn old s).places
 

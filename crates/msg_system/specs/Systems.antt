@@ -9,8 +9,8 @@ use Rattle.msg_system.specs.Programs.{AfterOp, AfterProgram, Step, after_op, aft
 
 -- `rule turns now` is what a system does next: after whole turns from now on that were answered by
 -- `turns`, the oldest first, and by `now` so far in this one. None ends the turn.
-abbrev pub Rule : Type 0 → Type 0
-Rule V = List (List (Reply V)) → List (Reply V) → Option (Op V)
+abbrev pub OpRule : Type 0 → Type 0
+OpRule V = List (List (Reply V)) → List (Reply V) → Option (Op V)
 
 -- A system is what it needs, where its cursors start, the number that it writes as, its place in
 -- each type, and its rule.
@@ -19,7 +19,7 @@ pub record Meaning (V : Type 0) : Type 0 where
   pub start : Start
   pub writer : ℕ
   pub places : ℕ → ℕ
-  pub rule : Rule V
+  pub rule : OpRule V
   -- the ops of its last turn; of a program, always its ops
   pub last : List (Op V)
 
@@ -57,20 +57,20 @@ module _ {V : Type 0} {values : Values V} where
   abbrev pub one_more : Option (Op V) → ℕ → AfterProgram values → AfterProgram values
   one_more None w far = far
   one_more (Some op) w far =
-      let here : AfterOp values = after_op op w far.places far.state in
+      let here : AfterOp values = after_op op w far.places far.world in
       record {
         places = here.places;
-        state = here.state;
+        world = here.world;
         replies = far.replies ++ here.reply ∷ [];
         steps = far.steps
-            ++ record { op = op; places = far.places; world = far.state; reply = here.reply } ∷ [];
+            ++ record { op = op; places = far.places; world = far.world; reply = here.reply } ∷ [];
       }
 
   -- After at most so many ops: what comes next is asked by the replies so far, and that op is done.
   -- A rule that has ended is asked the same again, and ends again.
   abbrev pub after_at_most : ℕ → (List (Reply V) → Option (Op V))
       → ℕ → (ℕ → ℕ) → WorldState values → AfterProgram values
-  after_at_most zero next w ps s = record { places = ps; state = s; replies = []; steps = [] }
+  after_at_most zero next w ps s = record { places = ps; world = s; replies = []; steps = [] }
   after_at_most (suc n) next w ps s =
       let far : AfterProgram values = after_at_most n next w ps s in
       one_more (next far.replies) w far
@@ -122,7 +122,7 @@ module _ {V : Type 0} where
 
 module _ {V : Type 0} where
   -- op k after k replies, whatever they were
-  abbrev pub program_rule : List (Op V) → Rule V
+  abbrev pub program_rule : List (Op V) → OpRule V
   program_rule ops turns replies = slice_get ops (length replies)
 
   -- a system whose rule is this program

@@ -6,19 +6,19 @@
 //! is run.
 #![tactic(auto)]
 
+mod frame_statistics;
 mod gate;
-mod habit;
-mod habits;
 mod limits;
+mod place_statistics;
 mod run_workers;
 mod runs;
 mod workers;
 
+pub use frame_statistics::FrameStatistics;
 pub use gate::{Gate, NoGate};
-pub use habit::Habit;
-pub use habits::Habits;
 pub use limits::MAX_WORKERS;
 pub use msg_board::NoMemory;
+pub use place_statistics::PlaceStatistics;
 pub use run_workers::run_jobs;
 pub use runs::{Runs, work};
 pub use workers::Workers;

@@ -7,7 +7,7 @@ ghost use Rattle.msg_workers.specs.inner.Workers.{HasWorked, HaveWorked, IsFirst
 
 use crate::limits::MAX_WORKERS;
 use crate::runs::{Runs, work_on};
-use crate::{Gate, Habit, NoMemory, Workers};
+use crate::{Gate, NoMemory, PlaceStatistics, Workers};
 use msg_board::{Board, MAX_JOBS, Pass, Work};
 use std::alloc::Global;
 use std::sync::atomic::{AtomicBool, AtomicU32, Ordering};
@@ -168,11 +168,12 @@ fn work_beside<R: Threads + Sync, W: Runs + Send, G: Gate>(
 
 /// Runs the jobs, by at most so many workers and at most one for each job, and gives their results
 /// in the order of the jobs. The first worker starts as many others before it runs a job as the
-/// habit says, but at least one and no more than there are, and the last of these starts the next
-/// if it gets a job. If no thread can be made, a worker draws in the thread that was to start it,
-/// after the jobs of that one. Then the habit learns how many jobs the first worker ran, and how
-/// many others got one: as many begin at once in the next such batch if they ran at least half of
-/// the jobs, and else one; and if they ran few, the next batches run in place.
+/// statistics of the batch's place say, but at least one and no more than there are, and the last
+/// of these starts the next if it gets a job. If no thread can be made, a worker draws in the
+/// thread that was to start it, after the jobs of that one. Then the statistics learn how many jobs
+/// the first worker ran, and how many others got one: as many begin at once in the next such batch
+/// if they ran at least half of the jobs, and else one; and if they ran few, the next batches run
+/// in place.
 ///
 /// # Errors
 ///
@@ -183,15 +184,15 @@ pub fn run_jobs<R: Threads + Sync, W: Runs + Send, G: Gate>(
     gate: &G,
     workers: Workers,
     jobs: Vec<W::Job>,
-    habit: &mut Habit,
+    statistics: &mut PlaceStatistics,
 ) -> Result<Vec<W::Done>, NoMemory>
     requires few { length jobs.items ≤ MAX_JOBS }
     requires may { EachMay W.may jobs.items }
     ensures lawful { IfOk result (λ results. IsLawfulOutcome W.lawful jobs.items results.items) }
     ensures gate_passed { OnOk result ((k : ℕ) (job : W.Job) → slice_get jobs.items k ≡ Some job
         → PassedGate (G.passed gate.now) (min workers (length jobs.items)) (W.system_of job)) }
-    ensures at_once { OnOk result ((0 < habit.new.at_once)
-        × (habit.new.at_once ≤ max 1 (min workers (length jobs.items)))) }
+    ensures at_once { OnOk result ((0 < statistics.new.at_once)
+        × (statistics.new.at_once ≤ max 1 (min workers (length jobs.items)))) }
 {
     let number = jobs.len() as u32;
     let most = workers.number().min(number).max(1);
@@ -206,8 +207,8 @@ pub fn run_jobs<R: Threads + Sync, W: Runs + Send, G: Gate>(
         run_out: &run_out,
         others_with_jobs: &others_with_jobs,
     };
-    let own = work_from(&shared, 0, habit.at_once, passes.as_mut_slice());
-    habit.learn(
+    let own = work_from(&shared, 0, statistics.at_once, passes.as_mut_slice());
+    statistics.learn(
         most,
         number,
         own,

@@ -8,14 +8,14 @@ use msg_world::{NoMemory, ResNo, TypeNo};
 
 pub(super) fn add_parts(text: &mut String, planned: &Planned) -> Result<(), NoMemory> {
     let types = types_of(*text.allocator(), planned.scenario())?;
-    add_half(text, planned, &types, Use::Read)?;
-    add_half(text, planned, &types, Use::Write)?;
+    add_one_sided(text, planned, &types, Use::Read)?;
+    add_one_sided(text, planned, &types, Use::Write)?;
     add_crowded(text, planned.scenario(), &types)?;
     add_unused(text, planned)
 }
 
 /// Remarks on types that are used so, and never in the other way.
-fn add_half(
+fn add_one_sided(
     text: &mut String,
     planned: &Planned,
     types: &[TypeNo],

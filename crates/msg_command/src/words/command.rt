@@ -108,7 +108,7 @@ fn serve_command<'a>(alloc: Global) -> Result<Command<'a>, AllocError>
         alloc,
         "serve",
         "The scenario file",
-        "Runs the scenario file FILE, and then a frame for each line of standard input",
+        "Runs the scenario file FILE, and then answers each line of standard input",
         help::SERVE,
         help::SERVE,
     )?;

@@ -4,7 +4,7 @@ ghost use Rattle.msg_reading.specs.Prelude.{IsLowestClashing, NoneClash, unfit};
 ghost use Rattle.msg_json.specs.declared.reason.Reason.TheVariants.{Clash};
 
 use crate::{Fault, SystemSpec};
-use msg_json::fault::inside;
+use msg_json::fault::at_step;
 use msg_json::{Key, PathStep, Reason};
 use msg_world::MAX_SYSTEMS;
 
@@ -31,8 +31,8 @@ fn clash_of(s: u32) -> Result<(), Fault>
     ensures clash { result ≡ Err (unfit (Clash s)) }
 {
     let clash = Err(Fault::here(Reason::Clash(s)));
-    inside(
+    at_step(
         PathStep::Section(Key::Systems),
-        inside(PathStep::Element(s as usize), clash),
+        at_step(PathStep::Element(s as usize), clash),
     )
 }

@@ -7,7 +7,7 @@ use crate::Fault;
 use crate::limits::{MAX_NOTS, MOST_NESTED};
 use crate::read::list::Element;
 use crate::read::names::Declarations;
-use msg_json::fault::inside;
+use msg_json::fault::at_step;
 use msg_json::json::{head_and_parts, text};
 use msg_json::numbers::{number, whole_number};
 use msg_json::{PathStep, Reason};
@@ -25,7 +25,7 @@ impl Element for Condition {
         value: &Value,
     ) -> Result<Condition, Fault> {
         let (nots, innermost) = inside_nots(value);
-        let probe = inside(PathStep::Item(n), probe_in(names, nots, innermost))?;
+        let probe = at_step(PathStep::Item(n), probe_in(names, nots, innermost))?;
         Ok(Condition { nots, probe })
     }
 }
@@ -34,7 +34,7 @@ impl Element for Condition {
 fn probe_in(names: &Declarations, nots: u8, innermost: &Value) -> Result<Probe, Fault>
     ensures reads { result ≡ Spec.probe_in names.now nots (view innermost.now) }
 {
-    let (head, parts) = inside(PathStep::Nots(nots), head_and_parts(innermost))?;
+    let (head, parts) = at_step(PathStep::Nots(nots), head_and_parts(innermost))?;
     read_probe(names, nots, head, parts)
 }
 
@@ -70,7 +70,7 @@ fn read_probe(names: &Declarations, nots: u8, head: &str, parts: &[Value]) -> Re
     match (head, parts) {
         ("on_message", [part]) => read_on_message(names, nots, part),
         ("resource_equals", [part, other]) => read_resource_equals(names, nots, part, other),
-        _ => inside(PathStep::Nots(nots), Err(Fault::here(Reason::Parts))),
+        _ => at_step(PathStep::Nots(nots), Err(Fault::here(Reason::Parts))),
     }
 }
 
@@ -87,11 +87,11 @@ fn few_nots(nots: u8) -> Result<(), Fault>
 fn read_on_message(names: &Declarations, nots: u8, part: &Value) -> Result<Probe, Fault>
     ensures reads { result ≡ Spec.on_message names.now nots (view part.now) }
 {
-    let name = inside(PathStep::Nots(nots), inside(PathStep::Part(1), text(part)))?;
+    let name = at_step(PathStep::Nots(nots), at_step(PathStep::Part(1), text(part)))?;
     few_nots(nots)?;
-    let of_type = inside(
+    let of_type = at_step(
         PathStep::Nots(nots),
-        inside(PathStep::Part(1), names.type_no(name)),
+        at_step(PathStep::Part(1), names.type_no(name)),
     )?;
     Ok(Probe::OnMessage(of_type))
 }
@@ -105,18 +105,18 @@ fn read_resource_equals(
     ensures reads { result
         ≡ Spec.resource_equals names.now nots (view part.now) (view other.now) }
 {
-    let name = inside(PathStep::Part(1), text(part));
-    let name = inside(PathStep::Nots(nots), name)?;
-    let value = inside(PathStep::Part(2), number(other));
-    let value = inside(PathStep::Nots(nots), value)?;
+    let name = at_step(PathStep::Part(1), text(part));
+    let name = at_step(PathStep::Nots(nots), name)?;
+    let value = at_step(PathStep::Part(2), number(other));
+    let value = at_step(PathStep::Nots(nots), value)?;
     few_nots(nots)?;
-    let resource = inside(
+    let resource = at_step(
         PathStep::Nots(nots),
-        inside(PathStep::Part(1), names.res_no(name)),
+        at_step(PathStep::Part(1), names.res_no(name)),
     )?;
-    let value = inside(
+    let value = at_step(
         PathStep::Nots(nots),
-        inside(PathStep::Part(2), whole_number(value)),
+        at_step(PathStep::Part(2), whole_number(value)),
     )?;
     Ok(Probe::ResourceEquals(resource, value))
 }

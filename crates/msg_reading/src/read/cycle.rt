@@ -5,7 +5,7 @@ ghost use Rattle.msg_json.specs.declared.reason.Reason.TheVariants.{Cycle};
 ghost use Rattle.msg_reading.specs.Prelude.{unfit};
 
 use crate::Fault;
-use msg_json::fault::inside;
+use msg_json::fault::at_step;
 use msg_json::{Key, PathStep, Reason};
 use msg_order::{Rule, lowest_on_cycle};
 use msg_world::MAX_SYSTEMS;
@@ -21,7 +21,7 @@ pub fn check_cycles(systems: usize, rules: &[Rule]) -> Result<(), Fault>
 {
     match lowest_on_cycle(systems, rules) {
         None => Ok(()),
-        Some(s) => inside(
+        Some(s) => at_step(
             PathStep::Section(Key::Rules),
             Err(Fault::here(Reason::Cycle(s))),
         ),

@@ -7,7 +7,7 @@ use crate::read::list::Element;
 use crate::read::names::Declarations;
 use crate::read::part::pair;
 use crate::{Fault, Name};
-use msg_json::fault::inside;
+use msg_json::fault::at_step;
 use msg_json::json::text;
 use msg_json::numbers::{number, small_number, whole_number};
 use msg_json::{MAX_LIMIT, PathStep};
@@ -23,7 +23,7 @@ impl Element for (Name, u64) {
         n: usize,
         value: &Value,
     ) -> Result<(Name, u64), Fault> {
-        inside(PathStep::Element(n), read_type(alloc, names, value))
+        at_step(PathStep::Element(n), read_type(alloc, names, value))
     }
 }
 
@@ -31,10 +31,10 @@ fn read_type(alloc: Global, names: &mut Declarations, value: &Value) -> Result<(
     ensures reads { ReadsWith (type_of names.old (view value.now)) names.new result }
 {
     let (name, limit) = pair(value)?;
-    let name = inside(PathStep::Part(0), text(name))?;
-    let limit = inside(PathStep::Part(1), number(limit))?;
-    let name = inside(PathStep::Part(0), names.declare_type(alloc, name))?;
-    let limit = inside(PathStep::Part(1), small_number(limit, MAX_LIMIT + 1))?;
+    let name = at_step(PathStep::Part(0), text(name))?;
+    let limit = at_step(PathStep::Part(1), number(limit))?;
+    let name = at_step(PathStep::Part(0), names.declare_type(alloc, name))?;
+    let limit = at_step(PathStep::Part(1), small_number(limit, MAX_LIMIT + 1))?;
     Ok((name, u64::from(limit)))
 }
 
@@ -47,7 +47,7 @@ impl Element for (Name, i64) {
         n: usize,
         value: &Value,
     ) -> Result<(Name, i64), Fault> {
-        inside(PathStep::Element(n), read_resource(alloc, names, value))
+        at_step(PathStep::Element(n), read_resource(alloc, names, value))
     }
 }
 
@@ -59,9 +59,9 @@ fn read_resource(
     ensures reads { ReadsWith (resource_of names.old (view value.now)) names.new result }
 {
     let (name, value) = pair(value)?;
-    let name = inside(PathStep::Part(0), text(name))?;
-    let value = inside(PathStep::Part(1), number(value))?;
-    let name = inside(PathStep::Part(0), names.declare_resource(alloc, name))?;
-    let value = inside(PathStep::Part(1), whole_number(value))?;
+    let name = at_step(PathStep::Part(0), text(name))?;
+    let value = at_step(PathStep::Part(1), number(value))?;
+    let name = at_step(PathStep::Part(0), names.declare_resource(alloc, name))?;
+    let value = at_step(PathStep::Part(1), whole_number(value))?;
     Ok((name, value))
 }

@@ -10,7 +10,7 @@ use crate::read::list::{read_list, read_list_if_there};
 use crate::read::names::Declarations;
 use crate::{Fault, Name, Scenario, SystemSpec};
 use msg_frames::{Frame, Items};
-use msg_json::fault::inside;
+use msg_json::fault::at_step;
 use msg_json::json::{check_keys, needed};
 use msg_json::{Key, PathStep, Reason, SCENARIO_KEYS};
 use msg_order::Rule;
@@ -73,7 +73,7 @@ fn read_in_turn(
     })
 }
 
-#[tactic(auto, using(crate::proofs::ListsInTurn::ReadsWith_inside), unfolding(crate::specs::ScenarioFormat::types_of))]
+#[tactic(auto, using(crate::proofs::ListsInTurn::ReadsWith_at_step), unfolding(crate::specs::ScenarioFormat::types_of))]
 fn read_types(
     alloc: Global,
     names: &mut Declarations,
@@ -81,7 +81,7 @@ fn read_types(
 ) -> Result<Items<(Name, u64)>, Fault>
     ensures reads { ReadsWith (Spec.types_of names.old (view types.now)) names.new result }
 {
-    inside(
+    at_step(
         PathStep::Section(Key::Types),
         read_list(alloc, names, types, MAX_TYPES),
     )
@@ -97,7 +97,7 @@ fn read_resources(
 {
     let list = file.get(Key::Resources.text());
     let resources = read_list_if_there(alloc, names, list, MAX_RESOURCES);
-    inside(PathStep::Section(Key::Resources), resources)
+    at_step(PathStep::Section(Key::Resources), resources)
 }
 
 #[tactic(auto, unfolding(crate::specs::ScenarioFormat::held_of))]
@@ -107,13 +107,13 @@ fn read_held(file: &Value) -> Result<bool, Fault>
     match file.get(Key::Held.text()) {
         Some(held) => {
             let held = held.as_bool().ok_or(Fault::here(Reason::Truth));
-            inside(PathStep::Section(Key::Held), held)
+            at_step(PathStep::Section(Key::Held), held)
         }
         None => Ok(false),
     }
 }
 
-#[tactic(auto, using(crate::proofs::ListsInTurn::ReadsWith_inside), unfolding(crate::specs::ScenarioFormat::systems_of))]
+#[tactic(auto, using(crate::proofs::ListsInTurn::ReadsWith_at_step), unfolding(crate::specs::ScenarioFormat::systems_of))]
 fn read_systems(
     alloc: Global,
     names: &mut Declarations,
@@ -121,7 +121,7 @@ fn read_systems(
 ) -> Result<Items<SystemSpec>, Fault>
     ensures reads { ReadsWith (Spec.systems_of names.old (view systems.now)) names.new result }
 {
-    inside(
+    at_step(
         PathStep::Section(Key::Systems),
         read_list(alloc, names, systems, MAX_SYSTEMS),
     )
@@ -133,10 +133,10 @@ fn read_rules(alloc: Global, names: &mut Declarations, file: &Value) -> Result<I
 {
     let list = file.get(Key::Rules.text());
     let rules = read_list_if_there(alloc, names, list, MAX_RULES);
-    inside(PathStep::Section(Key::Rules), rules)
+    at_step(PathStep::Section(Key::Rules), rules)
 }
 
-#[tactic(auto, using(crate::proofs::ListsInTurn::ReadsWith_inside), unfolding(crate::specs::ScenarioFormat::frames_of))]
+#[tactic(auto, using(crate::proofs::ListsInTurn::ReadsWith_at_step), unfolding(crate::specs::ScenarioFormat::frames_of))]
 fn read_frames(
     alloc: Global,
     names: &mut Declarations,
@@ -144,7 +144,7 @@ fn read_frames(
 ) -> Result<Items<Frame>, Fault>
     ensures reads { ReadsWith (Spec.frames_of names.old (view frames.now)) names.new result }
 {
-    inside(
+    at_step(
         PathStep::Section(Key::Frames),
         read_list(alloc, names, frames, MAX_FRAMES),
     )

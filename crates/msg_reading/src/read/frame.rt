@@ -10,7 +10,7 @@ use crate::read::names::Declarations;
 use crate::read::part::{pair, type_and_value};
 use msg_frames::Frame;
 use msg_json::PathStep;
-use msg_json::fault::inside;
+use msg_json::fault::at_step;
 use msg_world::TypeNo;
 use serde_json::Value;
 use std::alloc::Global;
@@ -24,7 +24,7 @@ impl Element for Frame {
         n: usize,
         value: &Value,
     ) -> Result<Frame, Fault> {
-        inside(PathStep::Element(n), read_frame(alloc, names, value))
+        at_step(PathStep::Element(n), read_frame(alloc, names, value))
     }
 }
 
@@ -44,7 +44,7 @@ impl Element for (TypeNo, i64) {
         n: usize,
         value: &Value,
     ) -> Result<(TypeNo, i64), Fault> {
-        inside(PathStep::Item(n), read_post(names, value))
+        at_step(PathStep::Item(n), read_post(names, value))
     }
 }
 

@@ -11,7 +11,7 @@ use crate::read::part::{
     one_resource, one_type, resource_and_value, two_types, type_and_limit, type_and_resource,
     type_and_value, type_and_values,
 };
-use msg_json::fault::inside;
+use msg_json::fault::at_step;
 use msg_json::json::head_and_parts;
 use msg_json::{PathStep, Reason};
 use msg_system::Op;
@@ -22,7 +22,7 @@ impl Element for Op {
     ghost reads = { Spec.op_at };
 
     fn read(alloc: Global, names: &mut Declarations, n: usize, value: &Value) -> Result<Op, Fault> {
-        inside(PathStep::Item(n), read_op(alloc, names, value))
+        at_step(PathStep::Item(n), read_op(alloc, names, value))
     }
 }
 

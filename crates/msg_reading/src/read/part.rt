@@ -7,7 +7,7 @@ ghost use Rattle.msg_reading.specs.PartsSeen.{pair_seen};
 
 use crate::Fault;
 use crate::read::names::Declarations;
-use msg_json::fault::inside;
+use msg_json::fault::at_step;
 use msg_json::json::text;
 use msg_json::numbers::{batch_values, list_of_numbers, number, small_number, whole_number};
 use msg_json::{MAX_LIMIT, PathStep, Reason};
@@ -41,10 +41,13 @@ pub fn type_and_value(
     ensures are { result
         ≡ Spec.type_and_value names.now m (view of_type.now) (view value.now) }
 {
-    let name = inside(PathStep::Part(m), text(of_type))?;
-    let value = inside(PathStep::Part(m + 1), number(value))?;
-    let of_type = inside(PathStep::Part(m), names.type_no(name))?;
-    Ok((of_type, inside(PathStep::Part(m + 1), whole_number(value))?))
+    let name = at_step(PathStep::Part(m), text(of_type))?;
+    let value = at_step(PathStep::Part(m + 1), number(value))?;
+    let of_type = at_step(PathStep::Part(m), names.type_no(name))?;
+    Ok((
+        of_type,
+        at_step(PathStep::Part(m + 1), whole_number(value))?,
+    ))
 }
 
 /// A resource and a value.
@@ -56,17 +59,17 @@ pub fn resource_and_value(
     ensures are { result
         ≡ Spec.resource_and_value names.now (view resource.now) (view value.now) }
 {
-    let name = inside(PathStep::Part(1), text(resource))?;
-    let value = inside(PathStep::Part(2), number(value))?;
-    let resource = inside(PathStep::Part(1), names.res_no(name))?;
-    Ok((resource, inside(PathStep::Part(2), whole_number(value))?))
+    let name = at_step(PathStep::Part(1), text(resource))?;
+    let value = at_step(PathStep::Part(2), number(value))?;
+    let resource = at_step(PathStep::Part(1), names.res_no(name))?;
+    Ok((resource, at_step(PathStep::Part(2), whole_number(value))?))
 }
 
 /// A part that is a type.
 pub fn one_type(names: &Declarations, part: &Value) -> Result<TypeNo, Fault>
     ensures is { result ≡ Spec.type_part names.now (view part.now) }
 {
-    inside(PathStep::Part(1), type_in(names, part))
+    at_step(PathStep::Part(1), type_in(names, part))
 }
 
 fn type_in(names: &Declarations, value: &Value) -> Result<TypeNo, Fault>
@@ -79,7 +82,7 @@ fn type_in(names: &Declarations, value: &Value) -> Result<TypeNo, Fault>
 pub fn one_resource(names: &Declarations, part: &Value) -> Result<ResNo, Fault>
     ensures is { result ≡ Spec.resource_part names.now (view part.now) }
 {
-    inside(PathStep::Part(1), resource_in(names, part))
+    at_step(PathStep::Part(1), resource_in(names, part))
 }
 
 fn resource_in(names: &Declarations, value: &Value) -> Result<ResNo, Fault>
@@ -96,12 +99,12 @@ pub fn type_and_limit(
 ) -> Result<(TypeNo, u32), Fault>
     ensures are { result ≡ Spec.type_and_limit names.now (view of_type.now) (view limit.now) }
 {
-    let name = inside(PathStep::Part(1), text(of_type))?;
-    let limit = inside(PathStep::Part(2), number(limit))?;
-    let of_type = inside(PathStep::Part(1), names.type_no(name))?;
+    let name = at_step(PathStep::Part(1), text(of_type))?;
+    let limit = at_step(PathStep::Part(2), number(limit))?;
+    let of_type = at_step(PathStep::Part(1), names.type_no(name))?;
     Ok((
         of_type,
-        inside(PathStep::Part(2), small_number(limit, MAX_LIMIT + 1))?,
+        at_step(PathStep::Part(2), small_number(limit, MAX_LIMIT + 1))?,
     ))
 }
 
@@ -115,12 +118,12 @@ pub fn type_and_values(
     ensures are { Reads (Spec.type_and_values names.now (view of_type.now) (view values.now))
         result }
 {
-    let name = inside(PathStep::Part(1), text(of_type))?;
-    let values = inside(PathStep::Part(2), list_of_numbers(values))?;
-    let of_type = inside(PathStep::Part(1), names.type_no(name))?;
+    let name = at_step(PathStep::Part(1), text(of_type))?;
+    let values = at_step(PathStep::Part(2), list_of_numbers(values))?;
+    let of_type = at_step(PathStep::Part(1), names.type_no(name))?;
     Ok((
         of_type,
-        inside(PathStep::Part(2), batch_values(alloc, values))?,
+        at_step(PathStep::Part(2), batch_values(alloc, values))?,
     ))
 }
 
@@ -128,10 +131,10 @@ pub fn type_and_values(
 pub fn two_types(names: &Declarations, from: &Value, to: &Value) -> Result<(TypeNo, TypeNo), Fault>
     ensures are { result ≡ Spec.two_types names.now (view from.now) (view to.now) }
 {
-    let from = inside(PathStep::Part(1), text(from))?;
-    let to = inside(PathStep::Part(2), text(to))?;
-    let from = inside(PathStep::Part(1), names.type_no(from))?;
-    Ok((from, inside(PathStep::Part(2), names.type_no(to))?))
+    let from = at_step(PathStep::Part(1), text(from))?;
+    let to = at_step(PathStep::Part(2), text(to))?;
+    let from = at_step(PathStep::Part(1), names.type_no(from))?;
+    Ok((from, at_step(PathStep::Part(2), names.type_no(to))?))
 }
 
 /// A type and a resource.
@@ -143,8 +146,8 @@ pub fn type_and_resource(
     ensures are { result
         ≡ Spec.type_and_resource names.now (view of_type.now) (view resource.now) }
 {
-    let of_type = inside(PathStep::Part(1), text(of_type))?;
-    let resource = inside(PathStep::Part(2), text(resource))?;
-    let of_type = inside(PathStep::Part(1), names.type_no(of_type))?;
-    Ok((of_type, inside(PathStep::Part(2), names.res_no(resource))?))
+    let of_type = at_step(PathStep::Part(1), text(of_type))?;
+    let resource = at_step(PathStep::Part(2), text(resource))?;
+    let of_type = at_step(PathStep::Part(1), names.type_no(of_type))?;
+    Ok((of_type, at_step(PathStep::Part(2), names.res_no(resource))?))
 }

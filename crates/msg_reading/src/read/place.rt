@@ -9,7 +9,7 @@ use crate::limits::MAX_CONDITIONS;
 use crate::read::list::read_list_if_there;
 use crate::read::names::Declarations;
 use msg_frames::{Items, LAST_JOIN};
-use msg_json::fault::inside;
+use msg_json::fault::at_step;
 use msg_json::numbers::number;
 use msg_json::{Key, PathStep, Reason};
 use msg_system::{Condition, Start};
@@ -17,7 +17,7 @@ use serde_json::{Number, Value};
 use std::alloc::Global;
 
 /// The conditions of a system.
-#[tactic(auto, using(crate::proofs::ListsInTurn::ReadsWith_inside))]
+#[tactic(auto, using(crate::proofs::ListsInTurn::ReadsWith_at_step))]
 pub fn read_conditions(
     alloc: Global,
     names: &mut Declarations,
@@ -26,7 +26,7 @@ pub fn read_conditions(
     ensures reads { ReadsWith (in_key Key.If (conditions_of names.old (view system.now)))
         names.new result }
 {
-    inside(PathStep::Key(Key::If), conditions_in(alloc, names, system))
+    at_step(PathStep::Key(Key::If), conditions_in(alloc, names, system))
 }
 
 fn conditions_in(

@@ -8,7 +8,7 @@ use crate::read::list::Element;
 use crate::read::names::Declarations;
 use crate::read::part::pair;
 use msg_json::PathStep;
-use msg_json::fault::inside;
+use msg_json::fault::at_step;
 use msg_json::json::text;
 use msg_order::Rule;
 use serde_json::Value;
@@ -23,7 +23,7 @@ impl Element for Rule {
         n: usize,
         value: &Value,
     ) -> Result<Rule, Fault> {
-        inside(PathStep::Element(n), read_rule(names, value))
+        at_step(PathStep::Element(n), read_rule(names, value))
     }
 }
 
@@ -31,9 +31,9 @@ fn read_rule(names: &Declarations, value: &Value) -> Result<Rule, Fault>
     ensures reads { result ≡ rule_of names.now (view value.now) }
 {
     let (earlier, later) = pair(value)?;
-    let earlier = inside(PathStep::Part(0), text(earlier))?;
-    let later = inside(PathStep::Part(1), text(later))?;
-    let earlier = inside(PathStep::Part(0), names.system_no(earlier))?;
-    let later = inside(PathStep::Part(1), names.system_no(later))?;
+    let earlier = at_step(PathStep::Part(0), text(earlier))?;
+    let later = at_step(PathStep::Part(1), text(later))?;
+    let earlier = at_step(PathStep::Part(0), names.system_no(earlier))?;
+    let later = at_step(PathStep::Part(1), names.system_no(later))?;
     Ok(Rule { earlier, later })
 }

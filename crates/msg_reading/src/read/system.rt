@@ -10,7 +10,7 @@ use crate::read::names::Declarations;
 use crate::read::place::{read_conditions, read_join, read_start};
 use crate::{Fault, Kind, Name, SystemSpec};
 use msg_frames::Place;
-use msg_json::fault::inside;
+use msg_json::fault::at_step;
 use msg_json::json::{check_keys, needed, text};
 use msg_json::{Key, PathStep, Reason, SYSTEM_KEYS};
 use msg_system::{Items, MAX_OPS, Op, Program};
@@ -26,7 +26,7 @@ impl Element for SystemSpec {
         n: usize,
         value: &Value,
     ) -> Result<SystemSpec, Fault> {
-        inside(PathStep::Element(n), read_system(alloc, names, value))
+        at_step(PathStep::Element(n), read_system(alloc, names, value))
     }
 }
 
@@ -45,7 +45,7 @@ fn read_name(alloc: Global, names: &mut Declarations, name: &Value) -> Result<Na
     ensures reads { Reads (in_key Key.Name (Spec.system_name names.old (view name.now))) result }
     ensures declares { IfOk result (λ text. names.new ≡ Spec.with_system names.old text) }
 {
-    inside(PathStep::Key(Key::Name), name_in(alloc, names, name))
+    at_step(PathStep::Key(Key::Name), name_in(alloc, names, name))
 }
 
 fn name_in(alloc: Global, names: &mut Declarations, name: &Value) -> Result<Name, Fault>
@@ -67,11 +67,11 @@ fn read_program(
     ensures reads { ReadsWith (Spec.program_of names.old name (view ops.now) (view system.now))
         names.new result }
 {
-    let kind = inside(PathStep::Key(Key::Kind), read_kind(system))?;
+    let kind = at_step(PathStep::Key(Key::Kind), read_kind(system))?;
     let ops = read_ops(alloc, names, kind, ops)?;
     let conditions = read_conditions(alloc, names, system)?;
-    let join = inside(PathStep::Key(Key::Join), read_join(system))?;
-    let start = inside(PathStep::Key(Key::Start), read_start(system))?;
+    let join = at_step(PathStep::Key(Key::Join), read_join(system))?;
+    let start = at_step(PathStep::Key(Key::Start), read_start(system))?;
     Ok(SystemSpec {
         name,
         kind,
@@ -95,7 +95,7 @@ fn read_kind(system: &Value) -> Result<Kind, Fault>
 }
 
 /// The ops of a system of this kind.
-#[tactic(auto, using(crate::proofs::ListsInTurn::ReadsWith_inside))]
+#[tactic(auto, using(crate::proofs::ListsInTurn::ReadsWith_at_step))]
 fn read_ops(
     alloc: Global,
     names: &mut Declarations,
@@ -105,7 +105,7 @@ fn read_ops(
     ensures reads { ReadsWith (in_key Key.Ops (Spec.ops_of names.old kind (view ops.now)))
         names.new result }
 {
-    inside(PathStep::Key(Key::Ops), ops_in(alloc, names, kind, ops))
+    at_step(PathStep::Key(Key::Ops), ops_in(alloc, names, kind, ops))
 }
 
 fn ops_in(

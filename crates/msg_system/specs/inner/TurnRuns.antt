@@ -14,7 +14,7 @@ pub record IsAfterProgram {V : Type 0} {values : Values V} (after : AfterProgram
     (places : ℕ → ℕ) (lent : Lent V)
     (before answers : List (Reply V)) : Type 0 where
   pub same_places : places ≡ after.places
-  pub stands : LoanStands lent after.state
+  pub stands : LoanStands lent after.world
   pub same_replies : answers ≡ before ++ after.replies
 
 -- an op ran, and its reply was appended

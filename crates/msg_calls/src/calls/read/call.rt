@@ -8,7 +8,7 @@ ghost use Rattle.msg_calls.specs.inner.Cursors.{FitsCursors};
 use crate::call::Call;
 use crate::calls::read::part;
 use crate::limits::MAX_CURSORS;
-use msg_json::fault::inside;
+use msg_json::fault::at_step;
 use msg_json::json::head_and_parts;
 use msg_json::{Fault, PathStep, Reason, numbers};
 use serde_json::Value;
@@ -19,7 +19,7 @@ pub fn read_call(alloc: Global, made: u32, number: usize, value: &Value) -> Resu
     ensures call { Reads (in_element number (Spec.call_of made (view value.now))) result }
     ensures fits { IfOk result (FitsCursors made) }
 {
-    inside(PathStep::Element(number), read_headed(alloc, made, value))
+    at_step(PathStep::Element(number), read_headed(alloc, made, value))
 }
 
 fn read_headed(alloc: Global, made: u32, value: &Value) -> Result<Call, Fault>
@@ -70,8 +70,8 @@ fn read_with_one(alloc: Global, made: u32, head: &str, part: &Value) -> Result<C
     ensures fits { IfOk result (FitsCursors made) }
 {
     match head {
-        "write" => Ok(Call::Write(inside(PathStep::Part(1), numbers::value(part))?)),
-        "batch" => Ok(Call::Batch(inside(PathStep::Part(1), numbers::values(alloc, part))?)),
+        "write" => Ok(Call::Write(at_step(PathStep::Part(1), numbers::value(part))?)),
+        "batch" => Ok(Call::Batch(at_step(PathStep::Part(1), numbers::values(alloc, part))?)),
         "read" => Ok(Call::Read(part::cursor(made, part)?, None)),
         "missed" => Ok(Call::Missed(part::cursor(made, part)?)),
         "len" => Ok(Call::Len(part::cursor(made, part)?)),

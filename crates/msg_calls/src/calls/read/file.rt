@@ -8,7 +8,7 @@ use crate::call::Call;
 use crate::calls::Calls;
 use crate::calls::read::call::read_call;
 use crate::limits::MAX_CALLS;
-use msg_json::fault::inside;
+use msg_json::fault::at_step;
 use msg_json::json::{check_keys, list, needed};
 use msg_json::{CALLS_KEYS, Fault, Key, PathStep, numbers};
 use msg_world::Items;
@@ -22,8 +22,8 @@ pub fn read_file(alloc: Global, value: &Value) -> Result<Calls, Fault>
     check_keys(value, CALLS_KEYS)?;
     let limit = needed(value, Key::Limit)?;
     let list = needed(value, Key::Calls)?;
-    let limit = inside(PathStep::Section(Key::Limit), numbers::limit(limit))?;
-    let calls = inside(PathStep::Section(Key::Calls), read_list(alloc, list))?;
+    let limit = at_step(PathStep::Section(Key::Limit), numbers::limit(limit))?;
+    let calls = at_step(PathStep::Section(Key::Calls), read_list(alloc, list))?;
     Ok(Calls::new(limit, calls.into_vec()))
 }
 

@@ -2,7 +2,7 @@ use Rattle.std.proofs.Common.{◌≡◌, ◌⊎◌, ℕ, ◌<◌, ◌-◌, List,
 use Rattle.std.proofs.lemmas.Option.{none-some, same_Some}
 use Rattle.msg_frames.specs.{declared.frame.Frame.Frame, declared.log.Log.Log}
 use Rattle.msg_frames.specs.Prelude.{State, frame, run}
-use Rattle.msg_exec.specs.Hosts.{HasGiven, IsSettled, last_log}
+use Rattle.msg_exec.specs.Hosts.{HostHasGiven, IsSettled, last_log}
 use Rattle.msg_world.specs.Prelude.{Values}
 use Rattle.msg_exec.proofs.engine_laws.loops_agree.Goals as goal
 
@@ -33,7 +33,7 @@ module _ {V H : Type 0} (gives : H → Option (Log V) → Option (Frame V) → H
 module _ {V H : Type 0} {values : Values V} (gives : H → Option (Log V) → Option (Frame V) → H → Type 0)
     (settled : IsSettled gives) where
   alike : (most : ℕ) (log : Option (Log V)) (host : H) (s : State values) (fs gs : List (Frame V)) (now end new then : H)
-      → HasGiven gives log host fs (run fs s).logs now → HasGiven gives log host gs (run gs s).logs end
+      → HostHasGiven gives log host fs (run fs s).logs now → HostHasGiven gives log host gs (run gs s).logs end
       → Ends gives most log fs (run fs s).logs now new → Ends gives most log gs (run gs s).logs end then
       → (fs ≡ gs) × (new ≡ then)
   alike most log host s [] [] now end new then a b x y =

@@ -53,7 +53,7 @@ returns g c =
             (sym c.if-not-check_all.false ∙ c.check_all.ensures.answer w stands ∙ ap (λ gs. all_hold gs w) there)
             (asked_guards old.guards w there c.check_all.ensures.same (c.check_all.ensures.moved w stands))
             ran stands
-            (written_is_all l taken (turn (g.S.SystemOf.meaning old.system) w).state
+            (written_is_all l taken (turn (g.S.SystemOf.meaning old.system) w).world
             (λ p isnt. none_there (slot p taken) (shape.there p ∙ c.requires.loan.written p
             ∙ ap (λ (a : Access). writes a p) (sym c.open-lent.ensures.access) ∙ isnt))
             (ran.state w stands));

@@ -11,7 +11,7 @@ returns-in_err-post c =
     let item = c.index-items-n in
     let is = rw (← item.is) at (drop_more c.args.items.now _ item.result c.loop-n-test.true) in
     let names = names_of c.args.scenario.now in
-    let read = sym (rw c.read_post.ensures.post at c.inside.ensures.inside) ∙ c.in_err-post.was in
+    let read = sym (rw c.read_post.ensures.post at c.at_step.ensures.at_step) ∙ c.in_err-post.was in
     let refused = element_refused _ _ _ _ _ _ c.loop-n.invariant _ is names _ (inr (ap (keeping names) read)) in
     record { reads = rw (passed.1, passed.2) refused }
 
@@ -20,6 +20,6 @@ loop-n-preserved c =
     let item = c.index-items-n in
     let is = rw (← item.is) at (drop_more c.args.items.now _ item.result c.loop-n-test.true) in
     let names = names_of c.args.scenario.now in
-    let read = sym (rw c.read_post.ensures.post at c.inside.ensures.inside) ∙ c.in_ok-post.was in
+    let read = sym (rw c.read_post.ensures.post at c.at_step.ensures.at_step) ∙ c.in_ok-post.was in
     rw c.in_ok-push.ensures.items
     (element_more _ _ _ _ _ _ c.loop-n.invariant _ is _ _ (ap (keeping names) read))

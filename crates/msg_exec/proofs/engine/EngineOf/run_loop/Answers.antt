@@ -3,7 +3,7 @@ use Rattle.std.proofs.lemmas.List.{length_push}
 use Rattle.msg_frames.specs.{declared.frame.Frame.Frame, declared.log.Log.Log}
 use Rattle.msg_world.specs.declared.run_fault.RunFault.TheVariants.{NoMemory}
 use Rattle.msg_exec.specs.Prelude.{PostsFit}
-use Rattle.msg_exec.specs.Hosts.{HasGiven, last_log}
+use Rattle.msg_exec.specs.Hosts.{HostHasGiven, last_log}
 use Rattle.msg_exec.proofs.{EngineRunsFrames.is_sound, SinceThen.frames_and_one, SinceThen.frames_none}
 use Rattle.msg_exec.proofs.engine.EngineOf.run_loop.Goals as goal
 
@@ -15,8 +15,8 @@ module _ {V : Type 0} where
 -- a host gives one frame more
 module _ {V H : Type 0} (gives : H → Option (Log V) → Option (Frame V) → H → Type 0) where
   given_more : (log : Option (Log V)) (host : H) (frames : List (Frame V)) (logs : List (Log V)) (now : H) (f : Frame V)
-      (next : Log V) (then : H) → HasGiven gives log host frames logs now → gives now (last_log log logs) (Some f) then
-      → HasGiven gives log host (frames ++ f ∷ []) (logs ++ next ∷ []) then
+      (next : Log V) (then : H) → HostHasGiven gives log host frames logs now → gives now (last_log log logs) (Some f) then
+      → HostHasGiven gives log host (frames ++ f ∷ []) (logs ++ next ∷ []) then
   given_more log host [] [] now f next then given gave = (then, rw given at gave, refl)
   given_more log host [] (l ∷ logs) now f next then given gave = absurd given
   given_more log host (x ∷ frames) [] now f next then given gave = absurd given

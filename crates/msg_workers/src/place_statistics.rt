@@ -13,7 +13,7 @@ pub(crate) const LOOKED_AT: u32 = 8;
 
 /// How a batch runs.
 #[derive(Clone, Copy, Debug)]
-pub(crate) enum Way {
+pub(crate) enum BatchMode {
     InPlace,
     /// In place, and it is told how much it did.
     LookedAt,
@@ -31,7 +31,7 @@ pub(crate) enum Way {
 /// that doesn't: it may have paid by chance. A batch in place that is looked at and did more than
 /// twice as much as the one of the last try is followed by a try. No result depends on it.
 #[derive(Clone, Copy, Debug)]
-pub struct Habit {
+pub struct PlaceStatistics {
     /// How many others the first worker starts before it runs a job.
     pub at_once: u32,
     /// How many jobs the last batch over workers had, and how many of them others than the first
@@ -50,10 +50,10 @@ pub struct Habit {
     tried: u64,
 }
 
-impl Habit {
+impl PlaceStatistics {
     /// Nothing was tried yet: the next batch is tried over workers, which start one another.
-    pub fn new() -> Habit {
-        Habit {
+    pub fn new() -> PlaceStatistics {
+        PlaceStatistics {
             at_once: 1,
             jobs: 0,
             others: 0,
@@ -72,8 +72,8 @@ impl Habit {
 
     /// How the next batch runs: over workers if enough ran in place, and workers paid or there is
     /// the price of a try. If there isn't, some more run in place.
-    pub(crate) fn next_way(&mut self, has_price: bool) -> Way
-        ensures over { result ≡ Way.OverWorkers
+    pub(crate) fn next_mode(&mut self, has_price: bool) -> BatchMode
+        ensures over { result ≡ BatchMode.OverWorkers
             ↔ ((self.old.in_place ≡ 0) × IsTrue (self.old.pays || has_price)) }
         ensures one_less { 0 < self.old.in_place
             → self.new ≡ record self.old { in_place = self.old.in_place - 1 } }
@@ -82,15 +82,15 @@ impl Habit {
     {
         if self.in_place == 0 {
             if self.pays || has_price {
-                return Way::OverWorkers;
+                return BatchMode::OverWorkers;
             }
             self.in_place = LOOKED_AT;
         }
         self.in_place -= 1;
         if self.in_place % LOOKED_AT == 0 {
-            Way::LookedAt
+            BatchMode::LookedAt
         } else {
-            Way::InPlace
+            BatchMode::InPlace
         }
     }
 

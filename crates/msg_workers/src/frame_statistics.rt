@@ -1,6 +1,6 @@
-// The habits of all places of a frame, and what pays for their tries.
-use crate::Habit;
-use crate::habit::{LOOKED_AT, Way};
+// What batches have shown in all places of a frame, and what pays for their tries.
+use crate::PlaceStatistics;
+use crate::place_statistics::{BatchMode, LOOKED_AT};
 use msg_board::MAX_JOBS;
 use std::marker::Model;
 
@@ -14,31 +14,31 @@ const PRICE: i64 = 4_194_304;
 /// What it costs beside for each job, which goes to a board and comes back.
 const PRICE_OF_JOB: i64 = PRICE / 64;
 
-/// As much is there at first. It suffices for one try of any number of jobs: if that costs more, the
-/// rest is owed.
+/// As much is there at first. It suffices for one try of any number of jobs: if that costs more,
+/// the rest is owed.
 const FIRST: i64 = 2 * PRICE;
 
 /// There is never more than this, and no try costs more.
 const MOST: i64 = 6 * FIRST;
 
-/// For each place of a batch in a frame its habit, and one account for all that pays for tries.
+/// What batches have shown in each place of a frame, and one account for all that pays for tries.
 ///
 /// Batches earn as much as they did, those in place as told by the ones that are looked at; but a
-/// batch over workers that didn't pay takes its price. A batch goes over workers if the habit of its
-/// place says so, and the price is there or workers paid there. So all tries together take a small
+/// batch over workers that didn't pay takes its price. A batch goes over workers if enough ran in
+/// place there, and the price is there or workers paid there. So all tries together take a small
 /// part of the time, however many places there are. Contracts see nothing of it.
 #[derive(Drop)]
-pub struct Habits {
-    habits: [Habit; PLACES],
+pub struct FrameStatistics {
+    places: [PlaceStatistics; PLACES],
     /// The place of the batch that runs.
     place: usize,
-    way: Way,
+    mode: BatchMode,
     /// What the batch that runs costs over workers, if it doesn't pay.
     price: i64,
     account: i64,
 }
 
-impl Model for Habits {
+impl Model for FrameStatistics {
     ghost use Rattle.std.specs.Prelude.{⊤};
 
     ghost Value = { ⊤ };
@@ -46,12 +46,12 @@ impl Model for Habits {
     ghost view = { λ _. tt };
 }
 
-impl Habits {
-    pub fn new() -> Habits {
-        Habits {
-            habits: [Habit::new(); PLACES],
+impl FrameStatistics {
+    pub fn new() -> FrameStatistics {
+        FrameStatistics {
+            places: [PlaceStatistics::new(); PLACES],
             place: 0,
-            way: Way::InPlace,
+            mode: BatchMode::InPlace,
             price: PRICE,
             account: FIRST,
         }
@@ -67,36 +67,36 @@ impl Habits {
         let of_jobs = PRICE_OF_JOB.saturating_mul(jobs.min(PLACES) as i64);
         self.price = PRICE.saturating_add(of_jobs).min(MOST);
         let has_price = self.account >= self.price.min(FIRST);
-        self.way = if workers > 1 && jobs > 1 {
-            self.habit().next_way(has_price)
+        self.mode = if workers > 1 && jobs > 1 {
+            self.current_place().next_mode(has_price)
         } else {
-            Way::InPlace
+            BatchMode::InPlace
         };
-        matches!(self.way, Way::OverWorkers)
+        matches!(self.mode, BatchMode::OverWorkers)
     }
 
     /// What the batches in this place have shown.
-    pub fn habit(&mut self) -> &mut Habit {
+    pub fn current_place(&mut self) -> &mut PlaceStatistics {
         let place = self.place.min(PLACES - 1);
-        &mut self.habits[place]
+        &mut self.places[place]
     }
 
     /// Whether it matters how much the batch in this place did.
     pub fn asks_size(&self) -> bool {
-        !matches!(self.way, Way::InPlace)
+        !matches!(self.mode, BatchMode::InPlace)
     }
 
     /// Learns how much the batch in this place did.
     pub fn learn(&mut self, size: u64) {
-        match self.way {
-            Way::InPlace => {}
-            Way::LookedAt => {
-                self.habit().did_in_place(size);
+        match self.mode {
+            BatchMode::InPlace => {}
+            BatchMode::LookedAt => {
+                self.current_place().did_in_place(size);
                 self.earn(size.saturating_mul(u64::from(LOOKED_AT)));
             }
-            Way::OverWorkers => {
-                self.habit().did_over_workers(size);
-                if self.habit().pays() {
+            BatchMode::OverWorkers => {
+                self.current_place().did_over_workers(size);
+                if self.current_place().pays() {
                     self.earn(size);
                 } else {
                     self.account = self.account.saturating_sub(self.price);
