@@ -1,5 +1,6 @@
 pub mod Text
 pub mod Sinks
+pub mod Sources
 pub mod Json
 pub mod Keys
 pub mod Faults

@@ -6,6 +6,7 @@ pub use Rattle.msg_json.specs.Values.{at_key, batch_of, below, headed, known_key
 pub use Rattle.msg_json.specs.Keys.{is_calls_file}
 pub use Rattle.msg_json.specs.Text.{Text}
 pub use Rattle.msg_json.specs.Sinks.{AppendsAtLeast, AppendsPrefix, IsPut, TakesUnlessFailed, failures_after, one_failure_more}
+pub use Rattle.msg_json.specs.Sources.{failures_after_read}
 pub use Rattle.msg_json.specs.declared.refusal.Refusal.{Refusal}
 pub use Rattle.msg_json.specs.declared.refusal.Refusal.TheVariants.{NoMemory, NotJson, Shape, TooMany, UnknownKey}
 pub use Rattle.msg_json.specs.declared.sink.PutFault.{PutFault}

@@ -1,6 +1,6 @@
 //! What files are read with: the parts of JSON values, the first fault of a value with its place,
-//! and the refusals of files. And what texts are printed with: numbers in decimal at the end of a
-//! text, and the sinks that texts are put into.
+//! and the refusals of files; and the sources that lines are read from. And what texts are printed
+//! with: numbers in decimal at the end of a text, and the sinks that texts are put into.
 #![tactic(auto)]
 
 pub mod fault;
@@ -15,7 +15,9 @@ mod reason;
 mod refusal;
 mod report_fault;
 mod sink;
+mod source;
 mod std_sink;
+mod std_source;
 
 pub use fault::Fault;
 pub use file_fault::FileFault;
@@ -30,4 +32,6 @@ pub use reason::Reason;
 pub use refusal::Refusal;
 pub use report_fault::ReportFault;
 pub use sink::{PutFault, Sink, put_all, put_text};
+pub use source::{ReadFault, Source};
 pub use std_sink::StdSink;
+pub use std_source::StdSource;
