@@ -2,3 +2,5 @@
 pub mod Lists
 -- what is told of a world by what is kept of it
 pub mod Kept
+-- each line of JSON is one line
+pub mod OneLine

@@ -1,5 +1,5 @@
 -- The line of a refusal: which, where in the line that is refused, and why.
-use Rattle.std.specs.Prelude.{ℕ, [], ◌++◌, Option, Some, None, codes, decimal}
+use Rattle.std.specs.Prelude.{◌≢◌, ℕ, ◌<◌, All, [], ◌++◌, Option, Some, None, codes, decimal}
 use Rattle.msg_json.specs.Faults.{reason_refusal}
 use Rattle.msg_json.specs.{declared.fault.Fault.Fault, declared.location.Location.Location, declared.refusal.Refusal.Refusal}
 use Rattle.msg_json.specs.declared.refusal.Refusal.TheVariants as refusal
@@ -27,6 +27,11 @@ number_step (Some n) = codes "[" ++ decimal n ++ codes "]"
 -- the place in a line: a post, and a part of it
 abbrev pub place_json : Location → Text
 place_json l = number_step l.item ++ number_step l.part
+
+-- each byte stands between the quotes of a JSON text as it is: it is no quote, which is byte 34, no
+-- backslash, which is byte 92, and no control character
+abbrev pub IsPlain : Text → Type 0
+IsPlain text = All (λ byte. (31 < byte) × (byte ≢ 34) × (byte ≢ 92)) text
 
 -- the line of a fault of a line's value; why it is refused is told to a person
 abbrev pub refused_line : Fault → Text → Text

@@ -1,5 +1,5 @@
 // The line of a refusal.
-ghost use Rattle.std.specs.Prelude.{◌≡◌, ◌++◌, OnOk};
+ghost use Rattle.std.specs.Prelude.{◌≡◌, ◌≢◌, ◌<◌, ◌++◌, OnOk};
 ghost use Rattle.msg_log_json.specs.Prelude as Spec;
 ghost use Rattle.msg_log_json.specs.RefusedJson.{number_step};
 ghost use Rattle.msg_json.specs.Prelude.{Text};
@@ -12,14 +12,15 @@ use msg_reading::Scenario;
 use serde_json::Value;
 use std::alloc::Global;
 
-/// The line of a fault of a line's value: its refusal, where in the line it lies, and why.
+/// The line of a fault of a line's value: its refusal, where in the line it lies, and why. The
+/// sentence has no byte that JSON writes in another way.
 pub fn add_refused_line(
     text: &mut Vec<u8>,
     scenario: &Scenario,
     fault: &Fault,
     line: &Value,
 ) -> Result<(), NoMemory>
-    ensures appends { OnOk result ((why : Text)
+    ensures appends { OnOk result ((why : Text) × Spec.IsPlain why
         × (text.new.items ≡ text.old.items ++ Spec.refused_line fault.now why)) }
 {
     let why = why_refused(*text.allocator(), scenario, fault, line)?;
@@ -28,14 +29,35 @@ pub fn add_refused_line(
 
 /// The same, with this sentence.
 fn add_because(text: &mut Vec<u8>, fault: &Fault, why: &str) -> Result<(), NoMemory>
-    ensures appends { OnOk result
-        (text.new.items ≡ text.old.items ++ Spec.refused_line fault.now why.now) }
+    ensures appends { OnOk result ((plain : Text) × Spec.IsPlain plain
+        × (text.new.items ≡ text.old.items ++ Spec.refused_line fault.now plain)) }
 {
     text.extend_from_slice(head_of(fault.reason.refusal()))?;
     add_place(text, fault.location)?;
     text.extend_from_slice(b"\",\"why\":\"")?;
-    text.extend_from_slice(why.as_bytes())?;
+    add_plain(text, why.as_bytes())?;
     text.extend_from_slice(b"\"}\n")
+}
+
+/// Adds a sentence, with an apostrophe for each byte that JSON writes in another way.
+fn add_plain(text: &mut Vec<u8>, sentence: &[u8]) -> Result<(), NoMemory>
+    ensures appends { OnOk result ((plain : Text) × Spec.IsPlain plain
+        × (text.new.items ≡ text.old.items ++ plain)) }
+{
+    for byte in sentence {
+        text.push(plain_byte(*byte))?;
+    }
+    Ok(())
+}
+
+/// The byte, or an apostrophe in its place.
+fn plain_byte(byte: u8) -> u8
+    ensures plain { (31 < result) × (result ≢ 34) × (result ≢ 92) }
+{
+    match byte {
+        0..=31 | b'"' | b'\\' => b'\'',
+        _ => byte,
+    }
 }
 
 /// Why a line is refused: in it, names are those of the scenario.
