@@ -21,8 +21,8 @@ use Rattle.msg_frames.specs.declared.frame.Frame.{Frame}
 use Rattle.msg_frames.proofs.Functions.{run_keeps}
 use Rattle.msg_log_json.specs.Prelude.{not_json_line}
 use Rattle.msg_reading.specs.declared.scenario.Scenario.{Scenario}
-use Rattle.msg_serve.specs.Prelude.{AsksFor, AsksNext, EndsServing, EndsTrace, IsServed, IsTraced, Request, StopsAfter, lines_of, after_own, after_request, after_requests, answer_of, answers_of, frames_among, own_requests}
-use Rattle.msg_serve.specs.Requests.{frame_in, is_for_readers, names_of, readers, refused, request_of, run}
+use Rattle.msg_serve.specs.Prelude.{AsksFor, AsksNext, EndsServing, EndsTrace, IsAnswered, IsTraced, Request, StopsAfter, TakesInLine, lines_of, after_own, after_request, after_requests, answer_of, texts_of, frames_among, own_requests, write_failed}
+use Rattle.msg_serve.specs.Requests.{frame_read, is_for_readers, names_of, readers, refused, request_of, run}
 use Rattle.msg_serve.specs.declared.server.Server.{Server}
 use Rattle.msg_serve.specs.inner.Answering.{AnsweredSoFar, Answers, AreAsked, IsWantOfMemory, Serves, ValueAsksFor}
 use Rattle.msg_serve.specs.inner.Input.{IsRead, first_line}
@@ -30,7 +30,7 @@ use Rattle.msg_serve.specs.declared.input.Line.{Line}
 use Rattle.msg_serve.specs.declared.input.Line.TheVariants as what
 use Rattle.msg_serve.specs.declared.serve_fault.ServeFault.{ServeFault}
 use Rattle.msg_serve.specs.declared.serve_fault.ServeFault.TheVariants as serve_fault
-use Rattle.msg_serve.proofs.{InputLines.lines_more, Requests.only_frames}
+use Rattle.msg_serve.proofs.{InputLines.lines_more, InputLines.takes_none, Requests.only_frames}
 use Rattle.msg_json.specs.declared.report_fault.ReportFault.{ReportFault}
 use Rattle.msg_json.specs.declared.report_fault.ReportFault.TheVariants as report_fault
 use Rattle.msg_world.specs.{Prelude.i64_values, declared.run_fault.RunFault.RunFault}
@@ -70,24 +70,20 @@ own_keep s requests =
 
 module _ (s : Scenario) where
   pub answers-append : (xs ys : List Request) (now : State i64_values)
-      → answers_of s (xs ++ ys) now ≡ answers_of s xs now ++ answers_of s ys (after_requests xs now)
+      → texts_of s (xs ++ ys) now ≡ texts_of s xs now ++ texts_of s ys (after_requests xs now)
   answers-append [] ys now = refl
   answers-append (x ∷ xs) ys now =
       ap (λ l. answer_of s x now ++ l) (answers-append xs ys (after_request x now))
-      ∙ sym (append_assoc (answer_of s x now) (answers_of s xs (after_request x now))
-      (answers_of s ys (after_requests xs (after_request x now))))
+      ∙ sym (append_assoc (answer_of s x now) (texts_of s xs (after_request x now))
+      (texts_of s ys (after_requests xs (after_request x now))))
 
   -- one more
   pub answers_more : (xs : List Request) (x : Request) (now : State i64_values)
-      → answers_of s (xs ++ x ∷ []) now ≡ answers_of s xs now ++ answer_of s x (after_requests xs now)
+      → texts_of s (xs ++ x ∷ []) now ≡ texts_of s xs now ++ answer_of s x (after_requests xs now)
   answers_more xs x now =
-      answers-append xs (x ∷ []) now ∙ ap (λ l. answers_of s xs now ++ l) (append-nil (answer_of s x (after_requests xs now)))
+      answers-append xs (x ∷ []) now ∙ ap (λ l. texts_of s xs now ++ l) (append-nil (answer_of s x (after_requests xs now)))
 
 -- ---- what the sink took
-
--- the fault of a put that failed
-abbrev write_failed : ServeFault
-write_failed = serve_fault.Report report_fault.Write
 
 module _ {S : Type 0} (contents : S → Option (List ℕ)) (failures : S → ℕ) {X : Type 0} (meaning : X → Meaning ℤ)
     (s : Scenario) (first : State i64_values) where
@@ -105,7 +101,7 @@ module _ {S : Type 0} (contents : S → Option (List ℕ)) (failures : S → ℕ
         → AnsweredSoFar contents failures meaning s first (requests ++ request ∷ []) old new f
     answered_more request new f puts quiet stands = record {
       took = rw (answers_more s requests request first) (Appends-trans (contents old) (contents now) (contents new)
-          (answers_of s requests first) (answer_of s request (after_requests requests first)) far.took puts);
+          (texts_of s requests first) (answer_of s request (after_requests requests first)) far.took puts);
       quiet = quiet ∙ far.quiet;
       stands = rw (after-append requests (request ∷ []) first) stands;
     }
@@ -114,32 +110,26 @@ module _ {S : Type 0} (contents : S → Option (List ℕ)) (failures : S → ℕ
       -- none was put after them
       pub stopped : (fault : ServeFault) → fault ≢ write_failed
           → StopsAfter contents failures s requests first IsNext fault old now
-      stopped fault other = record {
-        exact = λ _. far.took;
-        quiet = λ _. far.quiet;
-        part = λ is. absurd (other is);
-        failed = λ is. absurd (other is);
-      }
+      stopped fault other = inl (other, far.quiet, far.took)
 
       -- one was put in part
       pub stopped_within : (next : Request) → IsNext next → (new : S)
           → AppendsPrefix (contents now) (contents new) (answer_of s next (after_requests requests first))
           → failures new ≡ one_failure_more (failures now)
           → StopsAfter contents failures s requests first IsNext write_failed old new
-      stopped_within next is new puts failed = record {
-        exact = λ other. absurd (other refl);
-        quiet = λ other. absurd (other refl);
-        part = λ _. (
+      stopped_within next is new puts failed = inr (
+        refl,
+        rw (← far.quiet) failed,
+        (
           next,
           is,
           puts.0,
           puts.1,
           puts.2,
           Appends-trans (contents old) (contents now) (contents new)
-              (answers_of s requests first) puts.0 far.took puts.3,
-        );
-        failed = λ _. rw (← far.quiet) failed;
-      }
+              (texts_of s requests first) puts.0 far.took puts.3,
+        ),
+      )
 
       -- what came of the put of one
       pub stopped_put : (next : Request) → IsNext next → (fault : ReportFault) (new : S)
@@ -193,7 +183,7 @@ made : (r : Reading (Frame ℤ × Declared)) (f : Frame ℤ) (P : Frame ℤ → 
 made (Ok x) f P fits is = rw (← run_same x.0 f (Ok (run x.0)) refl is) fits
 made (Err e) f P fits is = absurd cc
 
-frame_fits : (s : Scenario) (d : Data) (f : Frame ℤ) → (frame_in s d >>= λ g. Ok (run g)) ≡ Ok (run f)
+frame_fits : (s : Scenario) (d : Data) (f : Frame ℤ) → (frame_read s d >>= λ g. Ok (run g)) ≡ Ok (run f)
     → All (λ p. p.0 < length s.types) f.posts
 frame_fits s d f is =
     let all = posts_fit (length s.types) 0 0 (names_of s) d (names_fit s) in
@@ -264,6 +254,14 @@ module _ (s : Scenario) where
         asked = all_zip_more (AsksFor s) far.lines requests line request far.asked next.1;
       }
 
+  -- at the end nothing is left
+  pub none_left : (known mid : Option (List ℕ)) (requests : List Request)
+      → IfSome known (λ bytes. AreAsked s bytes mid requests) → IfSome mid (λ bytes. bytes ≡ [])
+      → IfSome known (λ _. mid ≡ Some [])
+  none_left None mid requests far end = tt
+  none_left (Some bytes) None requests far end = absurd cc
+  none_left (Some bytes) (Some rest) requests far end = ap Some end
+
   -- all were
   pub asked_all : (known mid : Option (List ℕ)) (requests : List Request)
       → IfSome known (λ bytes. AreAsked s bytes mid requests) → IfSome mid (λ bytes. bytes ≡ [])
@@ -276,50 +274,53 @@ module _ (s : Scenario) where
 
   module _ {S : Type 0} (contents : S → Option (List ℕ)) (failures : S → ℕ) (old new : S) (fault : ServeFault) where
     -- a fault before the next line is answered
-    pub ends_before : (known mid : Option (List ℕ)) (requests : List Request)
-        → IfSome known (λ bytes. AreAsked s bytes mid requests)
+    pub ends_before : (known mid after : Option (List ℕ)) (requests : List Request)
+        → IfSome known (λ bytes. AreAsked s bytes mid requests) → IfSome mid (λ rest. TakesInLine rest after fault)
         → ((IsNext : Request → Type 0) → StopsAfter contents failures s requests (after_own s) IsNext fault old new)
-        → IfSome known (λ bytes. EndsServing contents failures s bytes fault old new)
-    ends_before None mid requests far stops = tt
-    ends_before (Some bytes) mid requests far stops = record {
+        → IfSome known (λ bytes. EndsServing contents failures s bytes after fault old new)
+    ends_before None mid after requests far took stops = tt
+    ends_before (Some bytes) mid after requests far took stops = record {
       lines = far.lines;
-      later = lines_of far.rest;
+      later = far.rest;
       are = far.are;
+      taken = rw far.left at took;
       requests = requests;
       asked = far.asked;
       stops = stops (AsksNext s (lines_of far.rest));
     }
 
     -- a fault while the answer of the next line is put
-    pub ends_within : (known mid : Option (List ℕ)) (requests : List Request) (request : Request)
+    pub ends_within : (known mid after : Option (List ℕ)) (requests : List Request) (request : Request)
         → IfSome known (λ bytes. AreAsked s bytes mid requests) → Next mid request
+        → IfSome mid (λ rest. TakesInLine rest after fault)
         → ((IsNext : Request → Type 0) → IsNext request
         → StopsAfter contents failures s requests (after_own s) IsNext fault old new)
-        → IfSome known (λ bytes. EndsServing contents failures s bytes fault old new)
-    ends_within None mid requests request far next stops = tt
-    ends_within (Some bytes) None requests request far next stops = absurd cc
-    ends_within (Some bytes) (Some rest) requests request far next stops =
-        let later = first_line rest ∷ lines_of (drop_through 10 rest) in
+        → IfSome known (λ bytes. EndsServing contents failures s bytes after fault old new)
+    ends_within None mid after requests request far next took stops = tt
+    ends_within (Some bytes) mid after requests request far next took stops =
+        let first = rw far.left at next in
         record {
           lines = far.lines;
-          later = later;
-          are = next_first bytes rest requests far next.0;
+          later = far.rest;
+          are = far.are;
+          taken = rw far.left at took;
           requests = requests;
           asked = far.asked;
-          stops = stops (AsksNext s later) next.1;
+          stops = stops (AsksNext s (lines_of far.rest)) (rw (lines_more far.rest first.0) first.1);
         }
 
     -- a fault after all lines
-    pub ends_after : (known : Option (List ℕ)) (requests : List Request)
-        → IfSome known (λ bytes. AllZip (AsksFor s) (lines_of bytes) requests)
+    pub ends_after : (known after : Option (List ℕ)) (requests : List Request)
+        → IfSome known (λ bytes. AllZip (AsksFor s) (lines_of bytes) requests) → IfSome known (λ _. after ≡ Some [])
         → ((IsNext : Request → Type 0) → IsNext readers
         → StopsAfter contents failures s requests (after_own s) IsNext fault old new)
-        → IfSome known (λ bytes. EndsServing contents failures s bytes fault old new)
-    ends_after None requests asked stops = tt
-    ends_after (Some bytes) requests asked stops = record {
+        → IfSome known (λ bytes. EndsServing contents failures s bytes after fault old new)
+    ends_after None after requests asked left stops = tt
+    ends_after (Some bytes) after requests asked left stops = record {
       lines = lines_of bytes;
       later = [];
       are = sym (append-nil (lines_of bytes));
+      taken = rw left (takes_none (Some []) fault);
       requests = requests;
       asked = asked;
       stops = stops (AsksNext s []) refl;
@@ -370,12 +371,7 @@ module _ {S : Type 0} (contents : S → Option (List ℕ)) (failures : S → ℕ
   -- nothing was answered
   pub unbegun : (first : State i64_values) (IsNext : Request → Type 0) (fault : ServeFault) (sink : S)
       → fault ≢ write_failed → StopsAfter contents failures s [] first IsNext fault sink sink
-  unbegun first IsNext fault sink other = record {
-    exact = λ _. Appends-nil (contents sink);
-    quiet = λ _. refl;
-    part = λ is. absurd (other is);
-    failed = λ is. absurd (other is);
-  }
+  unbegun first IsNext fault sink other = inl (other, refl, Appends-nil (contents sink))
 
   pub trace_unbegun : (fault : ReportFault) (sink : S) → serve_fault.Report fault ≢ write_failed
       → EndsTrace contents failures s fault sink sink
@@ -442,7 +438,7 @@ module _ {S : Type 0} (contents : S → Option (List ℕ)) (failures : S → ℕ
           complete = complete s.frames;
           answered = rw (all_told, answers_more s (map run (take k s.frames)) readers (state_of s))
               (Appends-trans (contents old) (contents now) (contents new)
-              (answers_of s (map run (take k s.frames)) (state_of s)) (answer_of s readers here) far.took put.ok);
+              (texts_of s (map run (take k s.frames)) (state_of s)) (answer_of s readers here) far.took put.ok);
         },
         λ fault is. absurd cc,
       )
@@ -457,12 +453,12 @@ module _ {S : Type 0} (contents : S → Option (List ℕ)) (failures : S → ℕ
     pub served : (known : Option (List ℕ)) (new : S) → ((frames : List (Frame ℤ)) → IsCompleteRun frames (state_of s))
         → IfSome known (λ bytes. AllZip (AsksFor s) (lines_of bytes) requests)
         → Appends (contents now) (contents new) (answer_of s readers (after_requests requests (after_own s)))
-        → IfSome known (λ bytes. IsServed s bytes (contents old) (contents new))
+        → IfSome known (λ bytes. IsAnswered s bytes (contents old) (contents new))
     served None new complete asked puts = tt
     served (Some bytes) new complete asked puts = record {
       requests = requests;
       asked = asked;
       complete = complete (s.frames ++ frames_among requests);
       answered = rw (answers_more s requests readers (after_own s)) (Appends-trans (contents old) (contents now) (contents new)
-          (answers_of s requests (after_own s)) (answer_of s readers (after_requests requests (after_own s))) far.took puts);
+          (texts_of s requests (after_own s)) (answer_of s readers (after_requests requests (after_own s))) far.took puts);
     }

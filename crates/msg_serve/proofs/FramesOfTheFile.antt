@@ -1,13 +1,13 @@
 -- Frames after those of the file: as lines, or in the file.
 use Rattle.std.proofs.Common.{◌≡◌, ℕ, ℤ, List, [], ◌∷◌, ◌++◌, map, refl, ap, ◌∙◌, append_assoc}
 use Rattle.std.proofs.lemmas.List.{map-append}
-use Rattle.msg_frames.specs.Prelude.{State, accounts_of, frame as frame_of}
+use Rattle.msg_frames.specs.Prelude.{State, accounts_of, frame}
 use Rattle.msg_frames.specs.{declared.account.Account.Account, declared.log.Log.Log}
 use Rattle.msg_frames.specs.declared.frame.Frame.{Frame}
 use Rattle.msg_log_json.specs.Prelude.{frame_line, happened_json, numbered, of_resource, of_type, reader_json, readers_line}
 use Rattle.msg_reading.specs.Prelude.{state_of}
 use Rattle.msg_reading.specs.declared.scenario.Scenario.{Scenario}
-use Rattle.msg_serve.specs.Prelude.{Request, ServesAsRunsTell, after_request, answer_of, answers_of, number_of, own_requests, with_frames}
+use Rattle.msg_serve.specs.Prelude.{Request, ServesAsRunsTell, after_request, answer_of, texts_of, number_of, own_requests, with_frames}
 use Rattle.msg_serve.specs.Requests.{readers, refused, run}
 use Rattle.msg_serve.proofs.AnswersInTurn.{after_frames, answers-append}
 use Rattle.msg_world.specs.Prelude.{WorldState, i64_values}
@@ -28,12 +28,12 @@ module _ (s : Scenario) (more : List (Frame ℤ)) where
   same_answer : (request : Request) (now : State i64_values)
       → answer_of (with_frames s more) request now ≡ answer_of s request now
   same_answer (run f) now =
-      let done = frame_of f now in same_frame_line (number_of done.state) f done.log done.state.world
+      let done = frame f now in same_frame_line (number_of done.state) f done.log done.state.world
   same_answer readers now = same_readers_line (accounts_of now) now
   same_answer (refused text) now = refl
 
   same_answers : (requests : List Request) (now : State i64_values)
-      → answers_of (with_frames s more) requests now ≡ answers_of s requests now
+      → texts_of (with_frames s more) requests now ≡ texts_of s requests now
   same_answers [] now = refl
   same_answers (request ∷ requests) now =
       rw (same_answer request now, same_answers requests (after_request request now)) refl

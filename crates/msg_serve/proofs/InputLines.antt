@@ -1,37 +1,37 @@
 -- The lines of an input, one after the other.
-use Rattle.std.proofs.Common.{◌≡◌, ◌≢◌, ℕ, ◌+◌, ◌-◌, ◌<◌, ◌≤◌, ◌==◌, All, List, [], ◌∷◌, ◌++◌, Option, Some, None, IfSome, length, take, drop, refl, sym, ap, ◌∙◌, arith, append_assoc, ne_eqb, eq-eqb, eqb-true, append-nil, length-take-le, Bool, true, false}
+use Rattle.std.proofs.Common.{◌≡◌, ◌≢◌, ℕ, ◌+◌, ◌-◌, ◌<◌, ◌≤◌, ◌==◌, ◌⊎◌, All, List, [], ◌∷◌, ◌++◌, Option, Some, None, IfSome, get_or, inl, inr, length, take, refl, subst, sym, ap, ◌∙◌, arith, append_assoc, ne_eqb, append-nil, Bool, true, false}
 use Rattle.std.proofs.lemmas.Grind.{common_steps}
-use Rattle.std.proofs.lemmas.List.Elements.{All-cons, All-head, All-nil, All-tail}
-use Rattle.std.specs.List.{position_or_len}
-use Rattle.std.proofs.lemmas.{List.take_more, List.Sums.passes_at_first, Bool.false≢true, List.Sums.prefix_len-le-length}
-use Rattle.std.specs.Io.{StartsWith}
-use Rattle.std.specs.Io.KnownBytes.{Consumes}
-use Rattle.std.specs.Io.BufRead.{drop_through}
+use Rattle.std.proofs.lemmas.List.Elements.{All-append, All-cons, All-head, All-nil, All-tail}
+use Rattle.std.proofs.lemmas.List.{take_more}
+use Rattle.std.proofs.Math.Seq.{take-length}
+use Rattle.std.specs.Io.KnownBytes.{Consumes, Keeps}
+use Rattle.std.specs.Io.BufRead.{DropsThrough, drop_through, take_through}
 use Rattle.std.proofs.BufReadLemmas.{drop_through-append}
-use Rattle.std.proofs.KnownBytes.{starts_with_rest}
-use Rattle.msg_serve.specs.Lines.{lines_of}
-use Rattle.msg_serve.specs.inner.Input.{IsBegun, IsPart, IsSeen, first_line}
-use Rattle.msg_serve.specs.declared.input.Part.{Part}
-use Rattle.msg_serve.specs.declared.input.Part.TheVariants as part
+use Rattle.std.proofs.KnownBytes.{Consumes-kept, Consumes-trans}
+use Rattle.msg_json.specs.Prelude.{Text}
+use Rattle.msg_json.specs.declared.report_fault.ReportFault.TheVariants as report_fault
+use Rattle.msg_serve.specs.Prelude.{TakesInLine, in_front, lines_of}
+use Rattle.msg_serve.specs.inner.Input.{IsRead, first_line}
+use Rattle.msg_serve.specs.declared.input.Line.TheVariants as line
 use Rattle.msg_serve.specs.declared.limits.TheConstants.{MAX_LINE}
+use Rattle.msg_serve.specs.declared.serve_fault.ServeFault.{ServeFault}
+use Rattle.msg_serve.specs.declared.serve_fault.ServeFault.TheVariants as serve_fault
 
 -- by whether it holds
 by_test : {G : Type 0} (b : Bool) → (b ≡ true → G) → (b ≡ false → G) → G
 by_test true holds fails = holds refl
 by_test false holds fails = fails refl
 
--- bytes without a line feed are a front of the line
-first_line-append : (xs ys : List ℕ) → All (λ x. x ≢ 10) xs → first_line (xs ++ ys) ≡ xs ++ first_line ys
+-- bytes without a line feed
+abbrev pub NoFeed : Text → Type 0
+NoFeed xs = All (λ byte. byte ≢ 10) xs
+
+-- they are a front of the line
+first_line-append : (xs ys : List ℕ) → NoFeed xs → first_line (xs ++ ys) ≡ xs ++ first_line ys
 first_line-append [] ys all = refl
 first_line-append (x ∷ xs) ys all =
     let other : (x == 10) ≡ false = ne_eqb x 10 (All-head (λ y. y ≢ 10) x xs all) in
     rw (other, first_line-append xs ys (All-tail (λ y. y ≢ 10) x xs all)) refl
-
--- a line isn't shorter if there is more
-first_line-front : (xs ys : List ℕ) → length (first_line xs) ≤ length (first_line (xs ++ ys))
-first_line-front [] ys = omega arith
-first_line-front (x ∷ xs) ys =
-    by_test (x == 10) (λ e. rw e (omega arith)) (λ e. rw e (omega (arith, first_line-front xs ys)))
 
 -- the lines are the first, and those of what lies past it
 pub lines_more : (xs : List ℕ) → xs ≢ [] → lines_of xs ≡ first_line xs ∷ lines_of (drop_through 10 xs)
@@ -41,79 +41,176 @@ lines_more (x ∷ y ∷ xs) some =
     let rest = lines_more (y ∷ xs) (λ e. cc) in
     by_test (x == 10) (λ e. rw e refl) (λ e. rw (e, rest) refl)
 
--- ---- parts
+-- ---- bytes of one line
 
-cons-take : (x : ℕ) (xs : List ℕ) (n : ℕ) → x ∷ take n xs ≡ take (1 + n) (x ∷ xs)
-cons-take x xs n = grind (arith, common_steps)
+-- a byte in front of one line at most makes one
+in_front_of_few : (x : ℕ) (l : List Text) → length l ≤ 1 → length (in_front x l) ≤ 1
+in_front_of_few x [] few = omega arith
+in_front_of_few x (line ∷ l) few = few
 
--- it is what stands before the first line feed
-is_before : (xs : List ℕ) → first_line xs ≡ take (position_or_len (λ byte. byte == 10) xs) xs
-is_before [] = refl
-is_before (x ∷ xs) =
-    by_test (x == 10) (λ e. rw e refl) (λ e. rw e (ap (λ l. x ∷ l) (is_before xs) ∙ cons-take x xs (position_or_len (λ byte. byte == 10) xs)))
+-- bytes without a line feed before bytes of one line at most are of one line
+few_lines : (xs ys : Text) → NoFeed xs → length (lines_of ys) ≤ 1 → length (lines_of (xs ++ ys)) ≤ 1
+few_lines [] ys all few = few
+few_lines (x ∷ xs) ys all few =
+    let other : (x == 10) ≡ false = ne_eqb x 10 (All-head (λ y. y ≢ 10) x xs all) in
+    rw other (in_front_of_few x (lines_of (xs ++ ys)) (few_lines xs ys (All-tail (λ y. y ≢ 10) x xs all) few))
 
--- and has no line feed
-no_feed : (xs : List ℕ) → All (λ byte. byte ≢ 10) (first_line xs)
-no_feed [] = All-nil (λ byte. byte ≢ 10)
-no_feed (x ∷ xs) =
-    let other : (x == 10) ≡ false → x ≢ 10 = λ e is. false≢true (sym e ∙ eq-eqb x 10 is) in
-    by_test (x == 10) (λ e. rw e (All-nil (λ byte. byte ≢ 10)))
-    (λ e. rw e (All-cons (λ byte. byte ≢ 10) x (first_line xs) (other e) (no_feed xs)))
+one_byte : (x : ℕ) → length (lines_of (x ∷ [])) ≤ 1
+one_byte x = by_test (x == 10) (λ e. rw e (omega arith)) (λ e. rw e (omega arith))
 
--- so many bytes belong to the line
-pub seen : (xs : List ℕ) (n : ℕ) → n ≡ position_or_len (λ byte. byte == 10) xs
-    → (first_line xs ≡ take n xs) × All (λ byte. byte ≢ 10) (take n xs)
-    × (n < length xs → take (n + 1) xs ≡ take n xs ++ 10 ∷ []) × (length (first_line xs) ≡ n)
-seen xs n is = (
-  rw is (is_before xs),
-  rw (is, ← is_before xs) (no_feed xs),
-  λ lt. take_more xs n 0 lt ∙ ap (λ x. take n xs ++ x ∷ [])
-      (rw (← is) at (eqb-true _ 10 (passes_at_first (λ byte. byte == 10) xs 0 (rw is at lt)))),
-  rw (is, is_before xs) (length-take-le (position_or_len (λ byte. byte == 10) xs) xs (prefix_len-le-length _ xs)),
+-- some bytes are those before the last, and the last
+last_apart : (xs : Text) → xs ≢ [] → xs ≡ take (length xs - 1) xs ++ get_or xs (length xs - 1) 0 ∷ []
+last_apart [] some = absurd (some refl)
+last_apart (x ∷ xs) some =
+    let n = length (x ∷ xs) - 1 in
+    let all : n + 1 ≡ length (x ∷ xs) = omega arith in
+    sym (take-length (x ∷ xs)) ∙ rw all at (take_more (x ∷ xs) n 0 (omega arith))
+
+-- without a line feed but at their end they are of one line
+one_line : (xs : Text) → NoFeed (take (length xs - 1) xs) → length (lines_of xs) ≤ 1
+one_line [] all = omega arith
+one_line (x ∷ xs) all =
+    let n = length (x ∷ xs) - 1 in
+    subst (λ l. length (lines_of l) ≤ 1) (sym (last_apart (x ∷ xs) (λ e. cc)))
+    (few_lines (take n (x ∷ xs)) (get_or (x ∷ xs) n 0 ∷ []) all (one_byte (get_or (x ∷ xs) n 0)))
+
+-- by their last byte they end with a line feed, or have none
+pub ends_with : (xs : Text) (x : ℕ) → NoFeed (take (length xs - 1) xs) → xs ≡ take (length xs - 1) xs ++ x ∷ [] → x ≢ 10 → NoFeed xs
+ends_with xs x all is other =
+    rw is (All-append (λ y. y ≢ 10) (take (length xs - 1) xs) (x ∷ []) all (All-cons (λ y. y ≢ 10) x [] other (All-nil (λ y. y ≢ 10))))
+
+-- ---- what an input loses
+
+-- nothing was taken of it
+pub takes_none : (known : Option (List ℕ)) (fault : ServeFault) → IfSome known (λ bytes. TakesInLine bytes known fault)
+takes_none None fault = tt
+takes_none (Some bytes) fault = ([], bytes, refl, refl, omega arith, λ _. All-nil (λ byte. byte ≢ 10))
+
+-- such bytes were
+takes : (known after : Option (List ℕ)) (taken : Text) (fault : ServeFault) → Consumes known after taken
+    → length (lines_of taken) ≤ 1 → (fault ≡ serve_fault.Input → NoFeed taken)
+    → IfSome known (λ bytes. TakesInLine bytes after fault)
+takes None after taken fault consumes few none = tt
+takes (Some bytes) None taken fault consumes few none = absurd consumes
+takes (Some bytes) (Some rest) taken fault consumes few none = (taken, rest, refl, consumes, few, none)
+
+-- bytes without a line feed were
+pub takes_front : (known after : Option (List ℕ)) (taken : Text) (fault : ServeFault) → Consumes known after taken → NoFeed taken
+    → IfSome known (λ bytes. TakesInLine bytes after fault)
+takes_front known after taken fault consumes all =
+    takes known after taken fault consumes (rw (append-nil taken) at (few_lines taken [] all (omega arith))) (λ _. all)
+
+-- a front of a line was, and then there was a fault in reading on
+pub takes_more : (known mid after : Option (List ℕ)) (front taken : Text) (fault : ServeFault)
+    → (fault ≡ serve_fault.Input) ⊎ (fault ≡ serve_fault.Report report_fault.NoMemory)
+    → Consumes known mid front → NoFeed front → Consumes mid after taken → NoFeed (take (length taken - 1) taken)
+    → (fault ≡ serve_fault.Input → Keeps mid after) → IfSome known (λ bytes. TakesInLine bytes after fault)
+takes_more known mid after front taken fault (inl failed) first all second stops kept =
+    takes_front known after front fault (Consumes-kept known mid after front first (kept failed)) all
+takes_more known mid after front taken fault (inr memory) first all second stops kept =
+    takes known after (front ++ taken) fault (Consumes-trans known mid after front taken first second)
+    (few_lines front taken all (one_line taken stops)) (λ is. absurd (grind (arith, is, memory)))
+
+through_whole : (xs : List ℕ) → xs ≡ take_through 10 xs ++ drop_through 10 xs
+through_whole [] = refl
+through_whole (x ∷ xs) =
+    by_test (x == 10) (λ e. rw e refl) (λ e. rw e (ap (λ l. x ∷ l) (through_whole xs)))
+
+through_one : (xs : List ℕ) → length (lines_of (take_through 10 xs)) ≤ 1
+through_one [] = omega arith
+through_one (x ∷ xs) =
+    by_test (x == 10) (λ e. rw (e, e) (omega arith)) (λ e. rw (e, e) (in_front_of_few x (lines_of (take_through 10 xs)) (through_one xs)))
+
+-- a line was
+pub takes_line : (known after : Option (List ℕ)) (fault : ServeFault) → DropsThrough known after 10 → fault ≢ serve_fault.Input
+    → IfSome known (λ bytes. TakesInLine bytes after fault)
+takes_line None after fault drops other = tt
+takes_line (Some bytes) after fault drops other =
+    (take_through 10 bytes, drop_through 10 bytes, drops, through_whole bytes, through_one bytes, λ is. absurd (other is))
+
+-- ---- a line that was read
+
+some_after : (xs ys : List ℕ) → xs ++ 10 ∷ ys ≢ []
+some_after [] ys none = cc
+some_after (x ∷ xs) ys none = cc
+
+-- past the line feed
+pub drops_feed : (known after : Option (List ℕ)) (text : Text) → NoFeed text → Consumes known after (text ++ 10 ∷ [])
+    → DropsThrough known after 10
+drops_feed None after text all consumes = tt
+drops_feed (Some bytes) None text all consumes = absurd consumes
+drops_feed (Some bytes) (Some rest) text all consumes =
+    let is = consumes ∙ append_assoc text (10 ∷ []) rest in
+    ap Some (sym (ap (drop_through 10) is ∙ drop_through-append 10 text (10 ∷ rest) all))
+
+-- or at the end
+pub drops_all : (known mid after : Option (List ℕ)) (text : Text) → NoFeed text → Consumes known mid text → Consumes mid after []
+    → IfSome mid (λ bytes. bytes ≡ []) → DropsThrough known after 10
+drops_all None mid after text all first none end = tt
+drops_all (Some bytes) None after text all first none end = absurd first
+drops_all (Some bytes) (Some rest) None text all first none end = absurd none
+drops_all (Some bytes) (Some rest) (Some last) text all first none end =
+    let is : bytes ≡ text ++ [] = rw end at first in
+    ap Some (sym none ∙ end ∙ sym (ap (drop_through 10) is ∙ drop_through-append 10 text [] all))
+
+-- what was read before the rest of a line
+pub drops_later : (known mid after : Option (List ℕ)) (text : Text) → NoFeed text → Consumes known mid text
+    → DropsThrough mid after 10 → DropsThrough known after 10
+drops_later None mid after text all first drops = tt
+drops_later (Some bytes) None after text all first drops = absurd first
+drops_later (Some bytes) (Some rest) after text all first drops =
+    drops ∙ ap Some (sym (ap (drop_through 10) first ∙ drop_through-append 10 text rest all))
+
+-- a line with its line feed
+pub is_whole : (known after : Option (List ℕ)) (text : Text) → NoFeed text → Consumes known after (text ++ 10 ∷ [])
+    → length text ≤ MAX_LINE → IfSome known (λ bytes. IsRead line.Whole bytes text)
+is_whole None after text all consumes short = tt
+is_whole (Some bytes) None text all consumes short = absurd consumes
+is_whole (Some bytes) (Some rest) text all consumes short =
+    let is = consumes ∙ append_assoc text (10 ∷ []) rest in (
+      λ none. some_after text rest (sym is ∙ none),
+      sym (ap first_line is ∙ first_line-append text (10 ∷ rest) all ∙ append-nil text),
+      short,
+    )
+
+-- the last one, without a line feed
+pub is_last : (known mid : Option (List ℕ)) (text : Text) → NoFeed text → Consumes known mid text
+    → IfSome mid (λ bytes. bytes ≡ []) → text ≢ [] → length text ≤ MAX_LINE
+    → IfSome known (λ bytes. IsRead line.Whole bytes text)
+is_last None mid text all first end some short = tt
+is_last (Some bytes) None text all first end some short = absurd first
+is_last (Some bytes) (Some rest) text all first end some short =
+    let is : bytes ≡ text ++ [] = rw end at first in (
+      λ none. some (sym (append-nil text) ∙ sym is ∙ none),
+      sym (ap first_line is ∙ first_line-append text [] all ∙ append-nil text),
+      short,
+    )
+
+-- one that is too long
+pub is_too_long : (known mid : Option (List ℕ)) (text : Text) → NoFeed text → Consumes known mid text → MAX_LINE < length text
+    → IfSome known (λ bytes. IsRead line.TooLong bytes [])
+is_too_long None mid text all first long = tt
+is_too_long (Some bytes) None text all first long = absurd first
+is_too_long (Some bytes) (Some rest) text all first long =
+    rw (first, first_line-append text rest all) (grind (arith, common_steps, long))
+
+-- bytes of a line, and more of them
+pub more : (known mid after : Option (List ℕ)) (front taken : Text) → Consumes known mid front → NoFeed front
+    → Consumes mid after taken → NoFeed taken → Consumes known after (front ++ taken) × NoFeed (front ++ taken)
+more known mid after front taken first all second rest =
+    (Consumes-trans known mid after front taken first second, All-append (λ byte. byte ≢ 10) front taken all rest)
+
+-- or the rest of it
+pub more_whole : (known mid after : Option (List ℕ)) (front taken added : Text) → Consumes known mid front → NoFeed front
+    → Consumes mid after taken → taken ≡ added ++ 10 ∷ [] → NoFeed added
+    → Consumes known after ((front ++ added) ++ 10 ∷ []) × NoFeed (front ++ added)
+more_whole known mid after front taken added first all second is rest = (
+  rw (append_assoc front added (10 ∷ [])) (Consumes-trans known mid after front (added ++ 10 ∷ []) first (rw is at second)),
+  All-append (λ byte. byte ≢ 10) front added all rest,
 )
 
--- what is shown is a front
-nothing_shown : (xs shown : List ℕ) → StartsWith xs shown → xs ≡ [] → shown ≡ []
-nothing_shown xs shown front none = grind (arith, common_steps, front, none)
-
--- what is shown of known bytes, and then the rest of them
-pub part_added : (known after : Option (List ℕ)) (shown old : List ℕ) (room n read : ℕ) (part : Part) → room ≡ MAX_LINE - length old → length old ≤ MAX_LINE
-    → IfSome known (λ xs. StartsWith xs shown) → IfSome known (λ xs. length shown ≡ 0 → xs ≡ [])
-    → Consumes known after (take read shown) → IsSeen part shown room n read
-    → IfSome known (λ xs. IsPart part xs after old (old ++ take n shown))
-part_added None after shown old room n read part is_room short front end consumes is_seen = tt
-part_added (Some xs) None shown old room n read part is_room short front end consumes is_seen = absurd consumes
-part_added (Some xs) (Some ys) shown old room n read part.More is_room short front end consumes is_seen =
-    let is : xs ≡ take n shown ++ ys = rw is_seen.1 at consumes in
-    let line : first_line xs ≡ take n shown ++ first_line ys =
-    rw is (first_line-append (take n shown) ys is_seen.2) in (
-      λ none. is_seen.0 (nothing_shown xs shown front none),
-      (
-        ys,
-        refl,
-        rw line (sym (append_assoc old (take n shown) (first_line ys))),
-        rw is (drop_through-append 10 (take n shown) ys is_seen.2),
-      ),
-    )
-part_added (Some xs) (Some ys) shown old room n read part.Last is_room short front end consumes is_seen =
-    let line = take n shown in
-    let is : xs ≡ line ++ 10 ∷ ys = rw is_seen.1 at consumes ∙ append_assoc line (10 ∷ []) ys in (
-      λ none. grind (arith, common_steps, is, none),
-      ap Some (sym (ap (drop_through 10) is ∙ drop_through-append 10 line (10 ∷ ys) is_seen.0)),
-      ap (λ l. old ++ l) (sym (ap first_line is ∙ first_line-append line (10 ∷ ys) is_seen.0 ∙ append-nil line)),
-    )
-part_added (Some xs) (Some ys) shown old room n read part.TooLong is_room short front end consumes is_seen =
-    let more = first_line-front shown (drop (length shown) xs) in (
-      ap Some (sym (rw is_seen.1 at consumes)),
-      omega (arith, is_seen.2, rw (← starts_with_rest xs shown front) at more),
-    )
-part_added (Some xs) (Some ys) shown old room n read part.End is_room short front end consumes is_seen =
-    let none : xs ≡ [] = end (ap length is_seen.0) in
-    (none, ap Some (sym (rw is_seen.2 at consumes) ∙ none), rw is_seen.1 (append-nil old))
-
--- ---- a line
-
--- nothing is read yet
-pub begun_none : (known : Option (List ℕ)) → IfSome known (λ xs. IsBegun true xs known [])
-begun_none None = tt
-begun_none (Some xs) = record { rest = xs; left = refl; begun = refl; past = refl; none = λ e. refl; some = λ e. cc }
+-- a read of no bytes where there is room shows the end
+pub at_end : (mid : Option (List ℕ)) (n room : ℕ) → IfSome mid (λ bytes. n ≡ 0 → 0 < room → bytes ≡ []) → n ≡ 0 → 0 < room
+    → IfSome mid (λ bytes. bytes ≡ [])
+at_end None n room end none some = tt
+at_end (Some bytes) n room end none some = end none some

@@ -6,3 +6,5 @@ mod InputLines
 pub mod AnswersInTurn
 -- frames after those of the file
 mod FramesOfTheFile
+-- what is answered line by line
+pub mod OneLineEach

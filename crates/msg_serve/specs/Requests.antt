@@ -5,7 +5,7 @@ use Rattle.serde_json.specs.{Data.Data, Find.as_str}
 use Rattle.msg_frames.specs.declared.frame.Frame.{Frame}
 use Rattle.msg_json.specs.Prelude.{IsJsonOf, IsNotJson, Reading, ◌>>=◌, Text}
 use Rattle.msg_json.specs.declared.fault.Fault.{Fault}
-use Rattle.msg_log_json.specs.Prelude.{not_json_line, refused_line, too_long_line}
+use Rattle.msg_log_json.specs.Prelude.{IsPlain, not_json_line, refused_line, too_long_line}
 use Rattle.msg_reading.specs.{Declarations.Declared, ScenarioFormat.frame_of}
 use Rattle.msg_reading.specs.declared.scenario.Scenario.{Scenario}
 use Rattle.msg_serve.specs.declared.limits.TheConstants.{MAX_LINE}
@@ -21,8 +21,8 @@ abbrev pub names_of : Scenario → Declared
 names_of s = record { types = map (λ named. named.0) s.types; resources = []; systems = [] }
 
 -- a frame as it stands in a scenario file
-abbrev pub frame_in : Scenario → Data → Reading (Frame ℤ)
-frame_in s d = frame_of (names_of s) d >>= λ x. Ok x.0
+abbrev pub frame_read : Scenario → Data → Reading (Frame ℤ)
+frame_read s d = frame_of (names_of s) d >>= λ x. Ok x.0
 
 -- the value is the text `readers`
 abbrev pub is_for_readers : Data → Bool
@@ -30,7 +30,7 @@ is_for_readers d = option_map_or (λ text. bytes_eq text (codes "readers")) (as_
 
 -- what the value of a line asks for
 abbrev pub request_of : Scenario → Data → Reading Request
-request_of s d = if is_for_readers d then Ok readers else frame_in s d >>= λ f. Ok (run f)
+request_of s d = if is_for_readers d then Ok readers else frame_read s d >>= λ f. Ok (run f)
 
 -- A line is refused by this text: it is too long, or no JSON text, or its value has a fault.
 abbrev pub IsRefusedBy : Scenario → Text → Text → Type 0
@@ -38,7 +38,7 @@ IsRefusedBy s line text =
     ((MAX_LINE < length line) × (text ≡ too_long_line MAX_LINE))
     ⊎ ((length line ≤ MAX_LINE) × IsNotJson line × ((column : ℕ) × (text ≡ not_json_line column)))
     ⊎ ((length line ≤ MAX_LINE) × ((d : Data) × (e : Fault) × IsJsonOf line d
-    × (request_of s d ≡ Err e) × ((why : Text) × (text ≡ refused_line e why))))
+    × (request_of s d ≡ Err e) × ((why : Text) × IsPlain why × (text ≡ refused_line e why))))
 
 -- a line asks for this
 abbrev pub AsksFor : Scenario → Text → Request → Type 0

@@ -1,13 +1,18 @@
 // The lines of an input.
-ghost use Rattle.std.specs.Prelude.{◌≡◌, ◌≢◌, ◌<◌, ◌≤◌, ◌==◌, ◌⊎◌, IfErr, IfOk, IfSome, OnOk, length, position};
-ghost use Rattle.std.specs.List.{position_or_len};
+ghost use Rattle.std.specs.Prelude.{◌≡◌, ◌≢◌, ◌+◌, ◌-◌, ◌<◌, ◌≤◌, ◌⊎◌, ◌∷◌, ◌++◌, All, Err, IfErr, IfOk, IfSome, Ok, OnErr, OnOk, [], false, length, take, true};
 ghost use Rattle.std.specs.Io.BufRead.{DropsThrough};
-ghost use Rattle.msg_serve.specs.inner.Input.{IsPart, IsRead, IsSeen};
+ghost use Rattle.std.specs.Io.KnownBytes.{Consumes, Keeps};
+ghost use Rattle.msg_json.specs.Prelude.{Text, one_failure_more};
+ghost use Rattle.msg_serve.specs.Served.{TakesInLine};
+ghost use Rattle.msg_serve.specs.declared.serve_fault.ServeFault.{ServeFault as FaultView};
+ghost use Rattle.msg_serve.specs.inner.Input.{IsPart, IsRead};
 
 use crate::ServeFault;
 use crate::limits::MAX_LINE;
-use msg_json::ReportFault;
-use std::io::BufRead;
+use msg_json::{ReadFault, ReportFault, Source};
+
+/// How many bytes are read at once, at most.
+const PIECE: usize = 4096;
 
 /// What the input has next.
 #[derive(Clone, Copy, Debug, PartialEq, Eq)]
@@ -21,26 +26,39 @@ pub enum Line {
 }
 
 /// Reads the next line into `line`, without its line feed. What the input has left is what lies
-/// past that.
-pub fn read_line<B: BufRead>(input: &mut B, line: &mut Vec<u8>) -> Result<Line, ServeFault>
+/// past that; after a fault it may be less, but no line past this one was begun.
+pub fn read_line<I: Source>(input: &mut I, line: &mut Vec<u8>) -> Result<Line, ServeFault>
     ensures short { length line.new.items ≤ MAX_LINE }
-    ensures line { IfOk result (λ read. IfSome (B.remaining input.old) (λ bytes.
+    ensures line { IfOk result (λ read. IfSome (I.remaining input.old) (λ bytes.
         IsRead read bytes line.new.items)) }
-    ensures rest { OnOk result (DropsThrough (B.remaining input.old) (B.remaining input.new) 10) }
+    ensures rest { OnOk result (DropsThrough (I.remaining input.old) (I.remaining input.new) 10) }
+    ensures begun { (fault : FaultView) → result ≡ Err fault
+        → IfSome (I.remaining input.old) (λ bytes.
+        TakesInLine bytes (I.remaining input.new) fault) }
+
+    // `Input` means that a read failed.
+    ensures failed { result ≡ Err ServeFault.Input
+        → I.failures input.new ≡ one_failure_more (I.failures input.old) }
+    ensures quiet { result ≢ Err ServeFault.Input
+        → I.failures input.new ≡ I.failures input.old }
+
+    ensures fewer { OnOk result (I.reads_left input.new < I.reads_left input.old) }
     ensures faults { IfErr result (λ fault. (fault ≡ ServeFault.Input)
         ⊎ (fault ≡ ServeFault.Report ReportFault.NoMemory)) }
 {
     line.clear();
-    let mut is_empty = true;
-    for _ in 0..MAX_LINE + 2 {
+    loop {
         match add_part(input, line)? {
-            Part::End if is_empty => return Ok(Line::End),
-            Part::End | Part::Last => return Ok(Line::Whole),
-            Part::TooLong => return skip_line(input),
-            Part::More => is_empty = false,
+            Part::More => {}
+            Part::Last => return Ok(Line::Whole),
+            Part::TooLong => {
+                skip_line(input)?;
+                return Ok(Line::TooLong);
+            }
+            Part::End if line.is_empty() => return Ok(Line::End),
+            Part::End => return Ok(Line::Whole),
         }
     }
-    Err(ServeFault::Input)
 }
 
 /// What a part of a line was.
@@ -48,7 +66,7 @@ pub fn read_line<B: BufRead>(input: &mut B, line: &mut Vec<u8>) -> Result<Line, 
 enum Part {
     /// More of the line follows, or the end of the input.
     More,
-    /// Its line feed came next.
+    /// Its line feed came too.
     Last,
     /// The line has more than `MAX_LINE` bytes.
     TooLong,
@@ -56,67 +74,82 @@ enum Part {
     End,
 }
 
-/// Adds what the input shows of the line.
-fn add_part<B: BufRead>(input: &mut B, line: &mut Vec<u8>) -> Result<Part, ServeFault>
+/// Reads on in the line, and adds what was read.
+fn add_part<I: Source>(input: &mut I, line: &mut Vec<u8>) -> Result<Part, ServeFault>
     requires short { length line.old.items ≤ MAX_LINE }
     ensures short { length line.new.items ≤ MAX_LINE }
+    ensures part { IfOk result (λ part. (taken : Text) × (added : Text)
+        × Consumes (I.remaining input.old) (I.remaining input.new) taken
+        × (line.new.items ≡ line.old.items ++ added)
+        × IsPart part taken (MAX_LINE - length line.old.items) added) }
+    ensures end { result ≡ Ok Part.End → IfSome (I.remaining input.old) (λ bytes. bytes ≡ []) }
+    ensures in_line { OnErr result ((taken : Text)
+        × Consumes (I.remaining input.old) (I.remaining input.new) taken
+        × All (λ byte. byte ≢ 10) (take (length taken - 1) taken)) }
+    ensures kept { result ≡ Err ServeFault.Input
+        → Keeps (I.remaining input.old) (I.remaining input.new) }
+    ensures failed { result ≡ Err ServeFault.Input
+        → I.failures input.new ≡ one_failure_more (I.failures input.old) }
+    ensures quiet { result ≢ Err ServeFault.Input
+        → I.failures input.new ≡ I.failures input.old }
+    ensures fewer { OnOk result (I.reads_left input.new < I.reads_left input.old) }
     ensures faults { IfErr result (λ fault. (fault ≡ ServeFault.Input)
         ⊎ (fault ≡ ServeFault.Report ReportFault.NoMemory)) }
-    ensures part { IfOk result (λ part. IfSome (B.remaining input.old) (λ bytes.
-        IsPart part bytes (B.remaining input.new) line.old.items line.new.items)) }
 {
-    let Ok(shown) = input.fill_buf() else {
-        return Err(ServeFault::Input);
-    };
-    let (part, length, read) = part_of(shown, MAX_LINE - line.len());
-    line.extend_from_slice(&shown[..length])?;
-    input.consume(read);
+    let mut piece = [0u8; PIECE];
+    let room = MAX_LINE - line.len();
+    let read = input.read_in_line(&mut piece[..PIECE.min(room + 1)])?;
+    let (part, length) = part_of(&piece[..read], room);
+    line.extend_from_slice(&piece[..length])?;
     Ok(part)
 }
 
-/// What the shown bytes are of a line that may have so many more; how many of them belong to it,
-/// and how many are read.
-fn part_of(shown: &[u8], room: usize) -> (Part, usize, usize)
+/// What the bytes that were read are of a line that may have so many more, and how many of them
+/// belong to it.
+fn part_of(read: &[u8], room: usize) -> (Part, usize)
+    requires one_line { All (λ byte. byte ≢ 10) (take (length read.now - 1) read.now) }
+    requires few { length read.now ≤ room + 1 }
     ensures fits { result.1 ≤ room }
-    ensures line { result.1 ≤ length shown.now }
-    ensures read { result.2 ≤ length shown.now }
-    ensures seen { IsSeen result.0 shown.now room result.1 result.2 }
+    ensures within { result.1 ≤ length read.now }
+    ensures part { IsPart result.0 read.now room (take result.1 read.now) }
 {
-    let length = length_of_line(shown);
-    if length > room {
-        (Part::TooLong, 0, 0)
-    } else if length < shown.len() {
-        (Part::Last, length, length + 1)
-    } else if length > 0 {
-        (Part::More, length, length)
+    if read.is_empty() {
+        (Part::End, 0)
+    } else if ends_line(read) {
+        (Part::Last, read.len() - 1)
+    } else if read.len() > room {
+        (Part::TooLong, 0)
     } else {
-        (Part::End, 0, 0)
+        (Part::More, read.len())
     }
-}
-
-/// How many bytes stand before the first line feed.
-fn length_of_line(shown: &[u8]) -> usize
-    ensures within { result ≤ length shown.now }
-    ensures length { result ≡ position_or_len (λ byte. byte == 10) shown.now }
-{
-    feed_in(shown).unwrap_or(shown.len())
-}
-
-/// Where the first line feed stands.
-fn feed_in(shown: &[u8]) -> Option<usize>
-    ensures feed { result ≡ position (λ byte. byte == 10) shown.now }
-{
-    shown.iter().position(|byte| *byte == b'\n')
 }
 
 /// Skips what is left of a line.
-fn skip_line<B: BufRead>(input: &mut B) -> Result<Line, ServeFault>
-    ensures too_long { IfOk result (λ read. read ≡ Line.TooLong) }
-    ensures input { IfErr result (λ fault. fault ≡ ServeFault.Input) }
-    ensures rest { OnOk result (DropsThrough (B.remaining input.old) (B.remaining input.new) 10) }
+fn skip_line<I: Source>(input: &mut I) -> Result<(), ReadFault>
+    ensures rest { OnOk result (DropsThrough (I.remaining input.old) (I.remaining input.new) 10) }
+    ensures in_line { OnErr result ((taken : Text)
+        × Consumes (I.remaining input.old) (I.remaining input.new) taken
+        × All (λ byte. byte ≢ 10) taken) }
+    ensures failed { OnErr result
+        (I.failures input.new ≡ one_failure_more (I.failures input.old)) }
+    ensures quiet { OnOk result (I.failures input.new ≡ I.failures input.old) }
+    ensures fewer { OnOk result (I.reads_left input.new < I.reads_left input.old) }
 {
-    match input.skip_until(b'\n') {
-        Ok(_) => Ok(Line::TooLong),
-        Err(_) => Err(ServeFault::Input),
+    let mut piece = [0u8; PIECE];
+    loop {
+        let read = input.read_in_line(&mut piece)?;
+        if read == 0 || ends_line(&piece[..read]) {
+            return Ok(());
+        }
     }
+}
+
+/// Whether these bytes of a line end with its line feed.
+fn ends_line(read: &[u8]) -> bool
+    requires one_line { All (λ byte. byte ≢ 10) (take (length read.now - 1) read.now) }
+    ensures feed { result ≡ true → (line : Text) × (read.now ≡ line ++ 10 ∷ [])
+        × All (λ byte. byte ≢ 10) line }
+    ensures none { result ≡ false → All (λ byte. byte ≢ 10) read.now }
+{
+    matches!(read.last(), Some(b'\n'))
 }

@@ -5,7 +5,7 @@ ghost use Rattle.serde_json.specs.View.{view};
 ghost use Rattle.msg_reading.specs.{ScenarioFormat.each_from, ScenarioFormat.post_at, ScenarioFormat.post_of, ScenarioFormat.type_named, inner.Elements.ReadsWith};
 ghost use Rattle.msg_json.specs.Prelude.{Reads};
 ghost use Rattle.msg_reading.specs.Declarations.{position_of};
-ghost use Rattle.msg_serve.specs.Requests.{frame_in, is_for_readers, names_of, request_of};
+ghost use Rattle.msg_serve.specs.Requests.{frame_read, is_for_readers, names_of, request_of};
 ghost use Rattle.msg_serve.specs.inner.Answering.{request_seen};
 
 use crate::limits::MAX_POSTS;
@@ -57,7 +57,7 @@ fn is_for_readers(line: &Value) -> bool
 
 /// The frame that a list of posts is.
 fn read_frame(alloc: Global, scenario: &Scenario, line: &Value) -> Result<Frame, Fault>
-    ensures reads { Reads (frame_in scenario.now (view line.now)) result }
+    ensures reads { Reads (frame_read scenario.now (view line.now)) result }
 {
     let items = list(line, MAX_POSTS)?;
     match read_posts(alloc, scenario, items) {

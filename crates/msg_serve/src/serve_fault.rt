@@ -1,6 +1,6 @@
 ghost use Rattle.std.specs.Prelude.{◌≡◌};
 
-use msg_json::ReportFault;
+use msg_json::{ReadFault, ReportFault};
 use msg_scenario::AnswerFault;
 use msg_world::NoMemory;
 use thiserror::Error;
@@ -23,6 +23,16 @@ impl From<ReportFault> for ServeFault {
 
     fn from(came: ReportFault) -> Self {
         ServeFault::Report(came)
+    }
+}
+
+impl From<ReadFault> for ServeFault {
+    ghost use Rattle.msg_serve.specs.declared.serve_fault.ServeFault.TheVariants.{Input as NotRead};
+
+    ghost from_gives = { λ _ fault. fault ≡ NotRead };
+
+    fn from(_error: ReadFault) -> Self {
+        ServeFault::Input
     }
 }
 

@@ -3,7 +3,7 @@ ghost use Rattle.std.specs.Prelude.{◌≡◌, ◌≢◌, IfErr, OnOk};
 ghost use Rattle.msg_world.specs.Prelude.{i64_values};
 ghost use Rattle.msg_exec.specs.Prelude.{EngineStands, PostsFit};
 ghost use Rattle.msg_frames.specs.Prelude.{State};
-ghost use Rattle.msg_log_json.specs.Prelude.{frame_line, not_json_line, refused_line, too_long_line};
+ghost use Rattle.msg_log_json.specs.Prelude.{IsPlain, frame_line, not_json_line, refused_line, too_long_line};
 ghost use Rattle.msg_json.specs.Prelude.{IsPut, Text};
 ghost use Rattle.msg_serve.specs.{Served.after_request, Served.number_of, Requests.readers, Requests.run, inner.Answering.Answers, inner.Answering.IsWantOfMemory, inner.Answering.Serves};
 
@@ -155,7 +155,7 @@ pub fn tell_refused<X>(
 ) -> Result<(), ReportFault>
     ensures same { server.new.scenario ≡ server.old.scenario }
     ensures engine { server.new.engine ≡ server.old.engine }
-    ensures line { OnOk result ((why : Text)
+    ensures line { OnOk result ((why : Text) × IsPlain why
         × (server.new.text.items ≡ refused_line fault.now why)) }
     ensures refused { OnOk result (fault.now.reason ≢ Reason.NoMemory) }
     ensures memory { IfErr result IsWantOfMemory }

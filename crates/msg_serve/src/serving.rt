@@ -1,15 +1,16 @@
 // Lines, each answered by a line.
-ghost use Rattle.std.specs.Prelude.{◌≡◌, ◌≢◌, ◌≤◌, [], ℕ, Err, IfErr, IfSome, List, Ok, OnOk, false, length, true};
+ghost use Rattle.std.specs.Prelude.{◌≡◌, ◌≢◌, ◌<◌, ◌≤◌, [], ℕ, Err, IfErr, IfSome, List, Ok, OnOk, Some, false, length, true};
 ghost use Rattle.std.specs.List.{AllZip};
 ghost use Rattle.std.specs.Io.BufRead.{DropsThrough};
 ghost use Rattle.serde_json.specs.View.{view};
 ghost use Rattle.msg_world.specs.declared.run_fault.RunFault.{RunFault as RunView};
+ghost use Rattle.msg_json.specs.Prelude.{one_failure_more};
 ghost use Rattle.msg_json.specs.declared.report_fault.ReportFault.{ReportFault as ReportView};
 ghost use Rattle.msg_exec.specs.Prelude.{EachIs, EngineStands};
 ghost use Rattle.msg_serve.specs.declared.serve_fault.ServeFault.{ServeFault as FaultView};
 ghost use Rattle.msg_scenario.specs.Prelude.{IsSystemAt};
 ghost use Rattle.msg_reading.specs.Prelude.{IsRunnable, state_of};
-ghost use Rattle.msg_serve.specs.{Lines.lines_of, Requests.AsksFor, Requests.Request as RequestView, Served.EndsServing, Served.IsServed, Served.after_own};
+ghost use Rattle.msg_serve.specs.{Lines.lines_of, Requests.AsksFor, Requests.Request as RequestView, Served.EndsServing, Served.IsAnswered, Served.TakesInLine, Served.after_own};
 ghost use Rattle.msg_serve.specs.{inner.Answering.AnsweredSoFar, inner.Answering.Answers, inner.Answering.IsWantOfMemory, inner.Answering.Serves, inner.Answering.ValueAsksFor, inner.Input.IsRead, inner.Input.first_line};
 
 use crate::ServeFault;
@@ -22,13 +23,12 @@ use crate::server::{
 };
 use msg_exec::Workers;
 use msg_json::json::parse;
-use msg_json::{FileFault, ReportFault, Sink};
+use msg_json::{FileFault, ReportFault, Sink, Source};
 use msg_reading::Scenario;
 use msg_scenario::engine_of;
 use msg_system::SystemOf;
 use msg_world::RunFault;
 use serde_json::Value;
-use std::io::BufRead;
 use std::thread::Threads;
 
 /// Makes the engine of a scenario of its systems, runs its frames, and then each line of the input
@@ -37,31 +37,43 @@ use std::thread::Threads;
 ///
 /// # Errors
 ///
-/// `Input` if the input failed, `Report` with the fault of the engine, of a frame or of an answer.
+/// `Input` if a read of the input failed, `Report` with the fault of the engine, of a frame or of
+/// an answer. Of the lines that were taken from the input then all but the last are answered; that
+/// one too if the input failed, unless it was in the midst of it.
 pub fn serve_scenario<
     R: Threads + Sync + AllocGlobal,
     X: SystemOf<Value = i64> + Send,
-    B: BufRead,
+    I: Source,
     S: Sink,
 >(
     rt: &R,
     scenario: &Scenario,
     systems: Vec<X>,
     workers: Workers,
-    input: &mut B,
+    input: &mut I,
     sink: &mut S,
 ) -> Result<(), ServeFault>
     requires runnable { IsRunnable scenario.now }
     requires as_many { length systems.items ≡ length scenario.now.systems }
     requires each { EachIs (IsSystemAt X.meaning scenario.now.systems) systems.items }
 
-    // Whatever the workers: the answers are those of one thread.
-    ensures ok { OnOk result (IfSome (B.remaining input.old) (λ bytes.
-        IsServed scenario.now bytes (S.contents sink.old) (S.contents sink.new))) }
+    // Whatever the workers: the answers are those of one thread, but for the sentence and the column
+    // of a refusal.
+    ensures ok { OnOk result (IfSome (I.remaining input.old) (λ bytes.
+        IsAnswered scenario.now bytes (S.contents sink.old) (S.contents sink.new))) }
+    ensures all_read { OnOk result (IfSome (I.remaining input.old)
+        (λ _. I.remaining input.new ≡ Some [])) }
     ensures quiet { OnOk result (S.failures sink.new ≡ S.failures sink.old) }
     ensures ends { (fault : FaultView) → result ≡ Err fault
-        → IfSome (B.remaining input.old) (λ bytes.
-        EndsServing S.contents S.failures scenario.now bytes fault sink.old sink.new) }
+        → IfSome (I.remaining input.old) (λ bytes.
+        EndsServing S.contents S.failures scenario.now bytes (I.remaining input.new) fault
+        sink.old sink.new) }
+
+    // `Input` means that a read failed.
+    ensures input_failed { result ≡ Err ServeFault.Input
+        → I.failures input.new ≡ one_failure_more (I.failures input.old) }
+    ensures input_quiet { result ≢ Err ServeFault.Input
+        → I.failures input.new ≡ I.failures input.old }
 
     // A run fault is want of memory, in a frame or for the accounts.
     ensures run { (why : RunView) → result ≡ Err (ServeFault.Report (ReportFault.Run why))
@@ -78,22 +90,29 @@ pub fn serve_scenario<
 }
 
 /// Runs the frames of the scenario, answers the lines of the input, and tells the readers.
-fn serve<R: Threads + Sync + AllocGlobal, X: SystemOf<Value = i64> + Send, B: BufRead, S: Sink>(
+fn serve<R: Threads + Sync + AllocGlobal, X: SystemOf<Value = i64> + Send, I: Source, S: Sink>(
     rt: &R,
     server: &mut Server<X>,
     workers: Workers,
-    input: &mut B,
+    input: &mut I,
     sink: &mut S,
 ) -> Result<(), ServeFault>
     requires runnable { IsRunnable server.old.scenario.now }
     requires engine { EngineStands X.meaning server.old.engine
         (state_of server.old.scenario.now) }
-    ensures ok { OnOk result (IfSome (B.remaining input.old) (λ bytes.
-        IsServed server.old.scenario.now bytes (S.contents sink.old) (S.contents sink.new))) }
+    ensures ok { OnOk result (IfSome (I.remaining input.old) (λ bytes.
+        IsAnswered server.old.scenario.now bytes (S.contents sink.old) (S.contents sink.new))) }
+    ensures all_read { OnOk result (IfSome (I.remaining input.old)
+        (λ _. I.remaining input.new ≡ Some [])) }
     ensures quiet { OnOk result (S.failures sink.new ≡ S.failures sink.old) }
     ensures ends { (fault : FaultView) → result ≡ Err fault
-        → IfSome (B.remaining input.old) (λ bytes.
-        EndsServing S.contents S.failures server.old.scenario.now bytes fault sink.old sink.new) }
+        → IfSome (I.remaining input.old) (λ bytes.
+        EndsServing S.contents S.failures server.old.scenario.now bytes (I.remaining input.new)
+        fault sink.old sink.new) }
+    ensures input_failed { result ≡ Err ServeFault.Input
+        → I.failures input.new ≡ one_failure_more (I.failures input.old) }
+    ensures input_quiet { result ≢ Err ServeFault.Input
+        → I.failures input.new ≡ I.failures input.old }
     ensures run { (why : RunView) → result ≡ Err (ServeFault.Report (ReportFault.Run why))
         → why ≡ RunFault.NoMemory }
 {
@@ -128,13 +147,13 @@ fn pass_frames<R: Threads + Sync, X: SystemOf<Value = i64> + Send>(
 fn answer_lines<
     R: Threads + Sync + AllocGlobal,
     X: SystemOf<Value = i64> + Send,
-    B: BufRead,
+    I: Source,
     S: Sink,
 >(
     rt: &R,
     server: &mut Server<X>,
     workers: Workers,
-    input: &mut B,
+    input: &mut I,
     sink: &mut S,
 ) -> Result<(), ServeFault>
     requires runnable { IsRunnable server.old.scenario.now }
@@ -144,41 +163,53 @@ fn answer_lines<
     ensures ok { OnOk result ((requests : List RequestView)
         × AnsweredSoFar S.contents S.failures X.meaning server.old.scenario.now
         (after_own server.old.scenario.now) requests sink.old sink.new server.new.engine
-        × IfSome (B.remaining input.old) (λ bytes.
+        × IfSome (I.remaining input.old) (λ bytes.
         AllZip (AsksFor server.old.scenario.now) (lines_of bytes) requests)) }
+    ensures all_read { OnOk result (IfSome (I.remaining input.old)
+        (λ _. I.remaining input.new ≡ Some [])) }
     ensures ends { (fault : FaultView) → result ≡ Err fault
-        → IfSome (B.remaining input.old) (λ bytes.
-        EndsServing S.contents S.failures server.old.scenario.now bytes fault sink.old sink.new) }
+        → IfSome (I.remaining input.old) (λ bytes.
+        EndsServing S.contents S.failures server.old.scenario.now bytes (I.remaining input.new)
+        fault sink.old sink.new) }
+    ensures input_failed { result ≡ Err ServeFault.Input
+        → I.failures input.new ≡ one_failure_more (I.failures input.old) }
+    ensures input_quiet { result ≢ Err ServeFault.Input
+        → I.failures input.new ≡ I.failures input.old }
     ensures run { (why : RunView) → result ≡ Err (ServeFault.Report (ReportFault.Run why))
         → why ≡ RunFault.NoMemory }
 {
     let mut line = Vec::new(rt.alloc());
-    for _ in 0..u64::MAX {
-        if !answer_next(rt, server, workers, input, &mut line)? {
-            return Ok(());
-        }
+    while answer_next(rt, server, workers, input, &mut line)? {
         put_answer(server, sink)?;
     }
-    Err(ServeFault::Input)
+    Ok(())
 }
 
 /// Makes the answer of the next line, which is read into `line`; false if there is none.
-fn answer_next<R: Threads + Sync + AllocGlobal, X: SystemOf<Value = i64> + Send, B: BufRead>(
+fn answer_next<R: Threads + Sync + AllocGlobal, X: SystemOf<Value = i64> + Send, I: Source>(
     rt: &R,
     server: &mut Server<X>,
     workers: Workers,
-    input: &mut B,
+    input: &mut I,
     line: &mut Vec<u8>,
 ) -> Result<bool, ServeFault>
     requires serves { Serves X.meaning server.old }
     ensures same { server.new.scenario ≡ server.old.scenario }
     ensures end { result ≡ Ok false → (server.new.engine ≡ server.old.engine)
-        × IfSome (B.remaining input.old) (λ bytes. bytes ≡ []) }
+        × IfSome (I.remaining input.old) (λ bytes. bytes ≡ []) }
     ensures next { result ≡ Ok true → (request : RequestView)
-        × IfSome (B.remaining input.old) (λ bytes.
+        × IfSome (I.remaining input.old) (λ bytes.
         (bytes ≢ []) × AsksFor server.old.scenario.now (first_line bytes) request)
         × Answers X.meaning request server.old server.new }
-    ensures rest { OnOk result (DropsThrough (B.remaining input.old) (B.remaining input.new) 10) }
+    ensures rest { OnOk result (DropsThrough (I.remaining input.old) (I.remaining input.new) 10) }
+    ensures begun { (fault : FaultView) → result ≡ Err fault
+        → IfSome (I.remaining input.old) (λ bytes.
+        TakesInLine bytes (I.remaining input.new) fault) }
+    ensures input_failed { result ≡ Err ServeFault.Input
+        → I.failures input.new ≡ one_failure_more (I.failures input.old) }
+    ensures input_quiet { result ≢ Err ServeFault.Input
+        → I.failures input.new ≡ I.failures input.old }
+    ensures fewer { OnOk result (I.reads_left input.new < I.reads_left input.old) }
     ensures memory { (fault : ReportView) → result ≡ Err (ServeFault.Report fault)
         → IsWantOfMemory fault }
 {

@@ -14,7 +14,7 @@ ghost use Rattle.msgrun.specs.Prelude.{main_fault, main_fault_of_check, status_a
 
 use msg_command::{Action, InputFault, MainFault, WordFault, parse_words, print_fault, read_all};
 use msg_exec::{MAX_WORKERS, Workers};
-use msg_json::{StdSink, put_all};
+use msg_json::{StdSink, StdSource, put_all};
 use msg_scenario::{
     AnswerFault, CheckFault, Form, answer_bytes, check_bytes, plan_bytes, report_bytes,
 };
@@ -111,9 +111,10 @@ fn serve_lines<R: AllocGlobal + Files + Input + Print + Sync + Threads>(
         unreachable!()
     };
     let bytes = bytes_of(rt, Some(file))?;
-    let Ok(mut input) = BufReader::with_capacity(rt.alloc(), READ_AHEAD, rt.reader()) else {
+    let Ok(input) = BufReader::with_capacity(rt.alloc(), READ_AHEAD, rt.reader()) else {
         return Err(MainFault::Built);
     };
+    let mut input = StdSource::new(input);
     let mut output = StdSink::new(io::writer(rt));
     serve_bytes(rt, bytes.as_slice(), workers, &mut input, &mut output).map_err(as_main_fault)
 }

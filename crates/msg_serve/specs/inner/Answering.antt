@@ -8,14 +8,14 @@ use Rattle.msg_exec.specs.declared.engine.EngineOf.{EngineOf}
 use Rattle.msg_frames.specs.Prelude.{SameSystems, State}
 use Rattle.msg_json.specs.Prelude.{Reading, Text}
 use Rattle.msg_json.specs.declared.fault.Fault.{Fault}
-use Rattle.msg_log_json.specs.Prelude.{refused_line}
+use Rattle.msg_log_json.specs.Prelude.{IsPlain, refused_line}
 use Rattle.msg_reading.specs.Prelude.{IsRunnable, state_of}
 use Rattle.msg_reading.specs.declared.scenario.Scenario.{Scenario}
 use Rattle.msg_serve.specs.declared.server.Server.{Server}
 use Rattle.msg_serve.specs.declared.request.Request.{Request as Asked}
 use Rattle.msg_serve.specs.declared.request.Request.TheVariants as asked
 use Rattle.msg_serve.specs.{Lines.lines_of, Requests.AsksFor, Requests.Request, Requests.readers, Requests.refused, Requests.request_of, Requests.run}
-use Rattle.msg_serve.specs.Served.{after_request, after_requests, answer_of, answers_of}
+use Rattle.msg_serve.specs.Served.{after_request, after_requests, answer_of, texts_of}
 use Rattle.msg_system.specs.Prelude.{Meaning}
 use Rattle.msg_json.specs.declared.report_fault.ReportFault.{ReportFault}
 use Rattle.msg_json.specs.declared.report_fault.ReportFault.TheVariants as report_fault
@@ -36,7 +36,8 @@ request_seen (Err e) = Err e
 -- the value of a line asks for this
 abbrev pub ValueAsksFor : Scenario → Data → Request → Type 0
 ValueAsksFor s d (refused text) =
-    (e : Fault) × (request_of s d ≡ Err e) × ((why : Text) × (text ≡ refused_line e why))
+    (e : Fault) × (request_of s d ≡ Err e)
+    × ((why : Text) × IsPlain why × (text ≡ refused_line e why))
 ValueAsksFor s d request = request_of s d ≡ Ok request
 
 -- the first lines ask for these, and what is left of the input has the others
@@ -73,6 +74,6 @@ module _ {S : Type 0} (contents : S → Option (List ℕ)) (failures : S → ℕ
   -- from a state on these requests were answered, and no put failed
   pub record AnsweredSoFar (requests : List Request) (old now : S) (e : EngineOf X ℤ)
       : Type 0 where
-    pub took : Appends (contents old) (contents now) (answers_of s requests first)
+    pub took : Appends (contents old) (contents now) (texts_of s requests first)
     pub quiet : failures now ≡ failures old
     pub stands : EngineStands meaning e (after_requests requests first)
