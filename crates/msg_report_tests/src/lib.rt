@@ -17,6 +17,8 @@ mod reports;
 #[cfg(test)]
 mod scenario_files;
 #[cfg(test)]
+mod serving;
+#[cfg(test)]
 mod sparing;
 #[cfg(test)]
 mod std_sinks;
