@@ -12,8 +12,8 @@ use crate::told::expect_engine;
 use msg_exec::{Engine, EngineOf, Items, Place};
 use msg_part_tests::numbers::{res_no, type_no};
 use msg_system::{
-    Access, Cursors, NoMemory, Op, Program, Relay, Reply, Scripted, Start, System, SystemOf, Tally,
-    fits_world, one_op_is_a_turn,
+    Access, Cursors, NoMemory, Op, Program, Refused, Relay, Reply, Scripted, Start, System,
+    SystemOf, Tally, fits_world, one_op_is_a_turn,
 };
 use msg_world::{Counts, Lent, MAX_RESOURCES, MAX_SYSTEMS, MAX_TYPES, Taken, TypeNo, World};
 use std::alloc::Global;
@@ -44,6 +44,10 @@ impl System for Listener {
 
     fn read_type(&self, op: u32) -> Option<TypeNo> {
         if op == 0 { Some(self.from) } else { None }
+    }
+
+    fn refused(&self, _op: u32, _reply: &Reply) -> Option<Refused> {
+        None
     }
 
     fn begins(&self) -> Start {

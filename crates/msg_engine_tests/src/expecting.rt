@@ -37,7 +37,21 @@ pub fn expect_frame<
     drop(log);
 }
 
-/// Runs these frames on `number` workers, and drops the engine.
+/// Runs these frames on `number` workers.
+pub fn expect_each<
+    R: Threads + Sync + Abort + AllocGlobal,
+    V: Value + Send + Sync + Debug,
+    S: SystemOf<Value = V> + Send,
+>(rt: &R, engine: &mut EngineOf<S, V>, number: u32, frames: &[Told<'_, V>])
+    requires engine { IsEngine V.values S.meaning engine.old }
+    ensures engine { IsEngine V.values S.meaning engine.new }
+{
+    for frame in frames {
+        expect_frame(rt, engine, number, frame);
+    }
+}
+
+/// The same, and drops the engine.
 pub fn expect_frames<
     R: Threads + Sync + Abort + AllocGlobal,
     V: Value + Send + Sync + Debug,
@@ -45,9 +59,7 @@ pub fn expect_frames<
 >(rt: &R, mut engine: EngineOf<S, V>, number: u32, frames: &[Told<'_, V>])
     requires engine { IsEngine V.values S.meaning engine }
 {
-    for frame in frames {
-        expect_frame(rt, &mut engine, number, frame);
-    }
+    expect_each(rt, &mut engine, number, frames);
     drop(engine);
 }
 

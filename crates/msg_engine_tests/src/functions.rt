@@ -1,15 +1,18 @@
 // Systems that are one function, of those that are there already, on 1 and 2 workers.
+ghost use Rattle.std.specs.Prelude.{◌≡◌, nat_lt, negsuc, pos, if◌then◌else◌};
 ghost use Rattle.msg_exec.specs.Prelude.{IsEngine};
 ghost use Rattle.msg_world.specs.Prelude.{i64_values};
 
-use crate::expecting::{Told, expect_frames};
+use crate::equal::expect_eq;
+use crate::expecting::{Told, expect_each, expect_frames};
 use crate::making::{add, engine_over};
 use msg_exec::{EngineBuilder, EngineOf};
 use msg_function::Port::{Messages, Resource};
 use msg_function::ready::{Count, Filter, HoldBack, Sum, Test};
-use msg_function::{Either, FunctionSystem};
+use msg_function::{Either, Function, FunctionSystem, Inbox, NoMemory, Outbox};
 use msg_part_tests::numbers::{res_no, type_no};
 use msg_system::SystemOf;
+use msg_world::Value;
 use std::alloc::Global;
 use std::panic::Expect;
 use std::process::Abort;
@@ -86,4 +89,83 @@ fn functions_that_are_there_already(rt: HostRuntime) {
     for number in [1, 2] {
         expect_frames(&rt, ready(&rt, rt.alloc()), number, FRAMES);
     }
+}
+
+/// Writes how many messages it was given, and to a resource first a 7 and then what it is told of
+/// losses: -1 if its last message was refused, 5 if it missed some, and else 0.
+#[derive(Drop)]
+struct Teller;
+
+impl Function<1, 2> for Teller {
+    type Value = i64;
+
+    ghost use Rattle.std.specs.Prelude.{length, nat_lt, negsuc, pos, if◌then◌else◌};
+    ghost use Rattle.msg_function.specs.Prelude.{nothing, put};
+
+    ghost answers = { λ teller given. (
+      teller,
+      put 0 (if nat_lt 0 (length (given.messages 0)) then pos 1 else pos 0)
+          (put 1 (if given.spent 0 then negsuc 0 else (if nat_lt 0 (given.missed 0) then pos 5 else pos 0))
+          (put 1 (pos 7) nothing)),
+    ) };
+
+    fn answer(&mut self, inbox: &Inbox<i64>, outbox: &mut Outbox<i64, 2>) -> Result<(), NoMemory> {
+        outbox.write(1, 7)?;
+        outbox.write(1, told(inbox.spent(0), inbox.missed(0)))?;
+        outbox.write(0, if inbox.read(0).is_empty() { 0 } else { 1 })
+    }
+}
+
+/// What it is told of losses.
+fn told(spent: bool, missed: u64) -> i64
+    ensures { result ≡ (if spent then negsuc 0 else (if nat_lt 0 missed then pos 5 else pos 0)) }
+{
+    if spent {
+        -1
+    } else if missed > 0 {
+        5
+    } else {
+        0
+    }
+}
+
+/// An engine of one that joins with frame 3, of a type with two numbers.
+fn telling(rt: &impl Abort, alloc: Global) -> EngineOf<FunctionSystem<Teller, 1, 2>>
+    ensures engine { IsEngine i64_values ⟦<FunctionSystem<Teller, 1, 2> as SystemOf>⟧.meaning result }
+{
+    let mut systems = EngineBuilder::new(alloc);
+    let writes = [Messages(type_no(1)), Resource(res_no(0))];
+    let teller = FunctionSystem::new(alloc, Teller, [Messages(type_no(0))], writes);
+    let teller = teller.expect(rt, "a teller");
+    add(rt, &mut systems, teller, Vec::new(alloc), 3);
+    engine_over(rt, alloc, systems, &[10, 2], &[0])
+}
+
+/// How many messages the first writer was refused.
+fn first_refused<V: Value, S: SystemOf<Value = V>>(
+    rt: &impl Abort,
+    engine: &EngineOf<S, V>,
+) -> Option<u64> {
+    let accounts = engine.writer_accounts().expect(rt, "accounts of writers");
+    accounts.first().map(|account| account.refused)
+}
+
+#[test]
+fn functions_hear_what_they_lost(rt: HostRuntime) {
+    const FRAMES: &[Told<'static>] = &[
+        (&[1], " wrote 1 from 0"),
+        (&[2], " wrote 1 from 1"),
+        (
+            &[3],
+            " wrote 1 from 2[0 missed 1 read from 1: host=2 host=3 wrote 1 from 0 Value(5)]",
+        ),
+        (&[], "[0 read from 3: wrote 1 from 1 Value(0)]"),
+        (&[], "[0 read from 3: Spent Value(0)]"),
+        (&[], "[0 read from 3: Spent Value(-1)]"),
+    ];
+    let rt = &rt;
+    let mut engine = telling(rt, rt.alloc());
+    expect_each(rt, &mut engine, 1, FRAMES);
+    expect_eq(rt, first_refused(rt, &engine), Some(2));
+    drop(engine);
 }

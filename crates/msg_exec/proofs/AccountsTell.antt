@@ -3,8 +3,8 @@ use Rattle.std.proofs.Common.{◌≡◌, ℕ, ◌+◌, ◌<◌, List, [], ◌∷
 use Rattle.std.specs.List.{filter, range_with_len}
 use Rattle.std.proofs.lemmas.{Bool.cases_Bool, List.map_push, List.Elements.Contains-get_or}
 use Rattle.msg_order.proofs.Elements.{filter-Contains, filter_takes, flat_map-Contains, map-Contains, range-Contains}
-use Rattle.msg_frames.specs.declared.account.Account.{Account}
-use Rattle.msg_frames.specs.Prelude.{AddsUp, IsSoundState, State, account_of, accounts_of, accounts_of_system, is_reader}
+use Rattle.msg_frames.specs.declared.{account.Account.Account, writer_account.WriterAccount.WriterAccount}
+use Rattle.msg_frames.specs.Prelude.{AddsUp, IsSoundState, State, account_of, accounts_of, accounts_of_system, is_reader, is_writer, writer_account_of}
 use Rattle.msg_world.specs.Prelude.{Values}
 
 -- ---- one account
@@ -19,6 +19,16 @@ module _ {V : Type 0} {values : Values V} where
   -- those of system i for the first n types
   abbrev pub accounts_below : State values → ℕ → ℕ → List Account
   accounts_below s i n = map (account_of s i) (filter (is_reader s i) (range_with_len 0 n))
+
+  abbrev pub writers_below : State values → ℕ → ℕ → List WriterAccount
+  writers_below s i n = map (writer_account_of s i) (filter (is_writer s i) (range_with_len 0 n))
+
+  -- the account of a writer is appended
+  pub writer_more : (s : State values) (i n : ℕ) (xs : List WriterAccount) {before after : List WriterAccount} {a : WriterAccount}
+      → IsTrue (is_writer s i n) → a ≡ writer_account_of s i n
+      → before ≡ xs ++ writers_below s i n → after ≡ before ++ a ∷ [] → after ≡ xs ++ writers_below s i (n + 1)
+  writer_more s i n xs is told far pushed =
+      rw (← filter_takes (is_writer s i) n _ refl is, map_push, ← append_assoc) (cc)
 
   -- the account of a reader is appended
   pub reader_more : (s : State values) (i n : ℕ) (xs : List Account) {before after : List Account} {a : Account}

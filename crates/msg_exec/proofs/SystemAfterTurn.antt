@@ -6,10 +6,10 @@ use Rattle.msg_world.specs.Prelude.{SameShape, WorldState, Values}
 use Rattle.msg_system.specs.{declared.limits.TheConstants.MAX_OPS, declared.op.Op.Op, declared.reply.Reply.Reply}
 use Rattle.msg_system.specs.Prelude.{Job as JobState, Meaning, after_at_most, after_job, next_op, refusal, turn}
 use Rattle.msg_frames.specs.{declared.log.Outcome.Outcome, declared.totals.Totals.Totals}
-use Rattle.msg_frames.specs.Prelude.{Member, ReadEntry, State, member_after, entries_at, outcome_of, with_entries, with_member}
-use Rattle.msg_frames.proofs.EntriesOfSteps.{job_logged}
+use Rattle.msg_frames.specs.Prelude.{Member, State, member_after, outcome_of, with_member, with_steps}
+use Rattle.msg_frames.proofs.EntriesOfSteps.{job_told}
 use Rattle.msg_exec.specs.Prelude.{Lender, LenderStands, MemberStands, TotalsStand, capped_totals, system_at, totals_at}
-use Rattle.msg_exec.specs.inner.Totals.{HasFewReplies, entries_by}
+use Rattle.msg_exec.specs.inner.Totals.{HasFewReplies, totals_by}
 
 -- ---- what came of it
 
@@ -21,11 +21,11 @@ module _ {V : Type 0} where
   cut_at_most (Some op) rs few = rw length_push (omega (arith, few))
 
 module _ {V : Type 0} {values : Values V} where
-  -- the entries of its last ops are those of its turn
-  last_entries : (t : ℕ) (j : JobState V) (w : WorldState values)
-      → entries_by t (after_job j w).job.system.last (outcome_of (after_job j w).replies)
-      ≡ entries_at t (after_job j w).steps
-  last_entries t j w = grind (arith, append-nil, cases_Bool, job_logged t j w)
+  -- what its last ops were answered adds what its turn tells
+  last_told : (t : ℕ) (j : JobState V) (w : WorldState values) (x : Totals)
+      → totals_by t (after_job j w).job.system.last (outcome_of (after_job j w).replies) x
+      ≡ with_steps t (after_job j w).steps x
+  last_told t j w x = grind (arith, cases_Bool, job_told t j w x)
 
   at_most_replies : (n : ℕ) (next : List (Reply V) → Option (Op V)) (writer : ℕ) (places : ℕ → ℕ) (w : WorldState values)
       → length (after_at_most n next writer places w).replies ≤ n
@@ -73,13 +73,13 @@ module _ {V : Type 0} {values : Values V} where
       → ops ≡ (after_job m.job w).job.system.last → o ≡ outcome_of (after_job m.job w).replies
       → TotalsStand types old m.totals → length new ≡ length old
       → ((t : ℕ) (x : Totals) → t < length old → totals_at old t ≡ capped_totals x → totals_at new t
-      ≡ capped_totals (with_entries (entries_by t ops o) x))
+      ≡ capped_totals (totals_by t ops o x))
       → TotalsStand types new (member_after (after_job m.job w) m).totals
   totals_after types m w old new ops o its came stands as_many entered =
-      let same : (t : ℕ) → entries_by t ops o ≡ entries_at t (after_job m.job w).steps =
-      λ t. rw (its, came) (last_entries t m.job w) in
+      let same : (t : ℕ) → totals_by t ops o (m.totals t) ≡ with_steps t (after_job m.job w).steps (m.totals t) =
+      λ t. rw (its, came) (last_told t m.job w (m.totals t)) in
       record {
         as_many = as_many ∙ stands.as_many;
         each = λ t lt. entered t (m.totals t) (rw stands.as_many lt) (stands.each t lt)
-            ∙ ap (λ (es : List (ReadEntry V)). capped_totals (with_entries es (m.totals t))) (same t);
+            ∙ ap capped_totals (same t);
       }

@@ -1,5 +1,5 @@
--- How an engine keeps totals: each number within `u64`. No number of a run is past it, so that what
--- callers see is exact.
+-- How an engine keeps totals: each number within `u64`. Of what readers got, missed and cleared no
+-- number of a run is past it, so that what callers see of it is exact.
 use Rattle.std.specs.Prelude.{ℕ, ◌-◌, ◌^◌, min, List, slice_index_or}
 use Rattle.msg_frames.specs.declared.totals.Totals.{Totals}
 use Rattle.msg_frames.specs.Prelude.{no_totals}
@@ -15,6 +15,7 @@ capped_totals x =
       got = within_u64 x.got;
       missed = within_u64 x.missed;
       cleared = within_u64 x.cleared;
+      refused = within_u64 x.refused;
     }
 
 -- the totals of type t; past the end of the list, those of a reader that was given nothing

@@ -39,6 +39,7 @@ fn account<V: Value, S: SystemOf<Value = V>>(
         got,
         missed,
         cleared,
+        ..
     } = *totals;
     let place = start
         .unwrap_or(0)

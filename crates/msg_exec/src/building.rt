@@ -137,6 +137,7 @@ fn totals_of(alloc: Global, systems: usize, types: usize) -> Result<Vec<Vec<Tota
         got: 0,
         missed: 0,
         cleared: 0,
+        refused: 0,
     };
     let mut totals = Vec::new(alloc);
     for _system in 0..systems {

@@ -72,6 +72,7 @@ fn open_accounts<V: Value, S: SystemOf<Value = V>>(
             got: 0,
             missed: 0,
             cleared: 0,
+            refused: 0,
         };
     }
 }

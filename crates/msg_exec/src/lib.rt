@@ -23,6 +23,7 @@ mod side_by_side;
 mod size;
 mod spares;
 mod totals;
+mod writer_accounts;
 
 pub use build_error::BuildError;
 pub use build_refusal::BuildRefusal;
@@ -32,7 +33,8 @@ pub use host::Host;
 pub use loop_fault::LoopFault;
 pub use msg_buffer::NoMemory;
 pub use msg_frames::{
-    Account, Arrangement, Backlog, Frame, Items, LAST_JOIN, Log, Outcome, Place, Totals, Turn, laws,
+    Account, Arrangement, Backlog, Frame, Items, LAST_JOIN, Log, Outcome, Place, Totals, Turn,
+    WriterAccount, laws,
 };
 pub use msg_workers::{Gate, MAX_WORKERS, NoGate, Runs, Workers, work};
 pub use msg_world::RunFault;

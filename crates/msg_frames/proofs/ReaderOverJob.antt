@@ -15,10 +15,6 @@ module _ {V : Type 0} {values : Values V} where
   abbrev pub by_system : ℕ → List (Step values) → List (ℕ × Step values)
   by_system i xs = map (λ x. (i, x)) xs
 
-  -- the steps of system i
-  abbrev pub steps_of : ℕ → List (ℕ × Step values) → List (Step values)
-  steps_of i xs = map (λ x. x.1) (filter (λ x. x.0 == i) xs)
-
 module _ {V : Type 0} where
   -- a moment, as a tile of the buffers' laws
   abbrev pub tile_of : Moment V → History (Record V) × Stretch

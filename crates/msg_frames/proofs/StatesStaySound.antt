@@ -3,11 +3,12 @@ use Rattle.std.proofs.Common.{AllPairs, Contains, IsFalse, List, [], ap, arith, 
 use Rattle.msg_order.specs.Prelude.{has_joined}
 use Rattle.std.proofs.lemmas.{Bool.false≢true, List.FromFn.length-range_with_len}
 use Rattle.msg_frames.specs.Frames.{settled_order, turn_order}
-use Rattle.msg_frames.specs.Prelude.{FrameStaysSound, IsBalanced, IsSoundState, Member, Moment, RunStaysSound, SameSystems, State, after_turns_of, before_turns, counts, frame, join_flags, joined_member, reader_place}
+use Rattle.msg_frames.specs.Prelude.{FrameStaysSound, IsBalanced, IsSoundState, Member, Moment, RunStaysSound, SameSystems, State, after_turns_of, before_turns, counts, entries_at, frame, join_flags, joined_member, reader_place}
 use Rattle.msg_order.proofs.Functions.{turns_differ, turns_joined}
 use Rattle.msg_frames.proofs.{EntriesAddUp.all_told, HistoriesGrow.counts_more}
 use Rattle.msg_frames.proofs.BeforeTurns.{Prepares, begun_within, comes, prepares, stood, waits}
-use Rattle.msg_frames.proofs.ReaderOverTurns.{Reads, turns_moments, turns_read, turns_skip}
+use Rattle.msg_frames.proofs.ReaderOverJob.{entries_are}
+use Rattle.msg_frames.proofs.ReaderOverTurns.{Reads, turns_moments, turns_own, turns_read, turns_skip}
 use Rattle.msg_frames.proofs.SystemsStay.{joined_below, joined_stay, no_cycle_stays, turns_keep, uses_stay}
 use Rattle.msg_frames.proofs.TellsEachOnce.{tells_once, tiles_rise}
 use Rattle.msg_world.specs.Prelude.{Values}
@@ -54,7 +55,7 @@ module _ {V : Type 0} {values : Values V} where
       let order : List ℕ = turn_order b in
       let keep = turns_keep order b in
       let u : State values = (after_turns_of order b).state in
-      let reads : (i t : ℕ) → t < u.types → Reads i t b (turns_moments i t order b) u =
+      let reads : (i t : ℕ) → t < u.types → Reads i t b (turns_own i order b) u =
       λ i t below. turns_read i t order b (sound.histories t (rw (keep.0.types) at below))
       (sound.places i t (rw (keep.0.types) at below)) in
       record {
@@ -66,15 +67,16 @@ module _ {V : Type 0} {values : Values V} where
         writers = λ i below. grind (arith, keep.0.members i, keep.0.systems, sound.writers i);
         waiting = λ i t isnt.
             let out = has_no_turn b i in
-            grind (arith, joined_alike b _ i keep, out, isnt, turns_skip i t order b, sound.waiting i t);
+            grind (arith, joined_alike b _ i keep, out, isnt, turns_skip i order b, sound.waiting i t);
         balanced = λ i t below has.
             let ms : List (Moment V) = turns_moments i t order b in
             let read = reads i t below in
             let once = tells_once (reader_place b i t) ms (reader_place u i t) read.passes.tile in
             let up = tiles_rise (reader_place b i t) ms (reader_place u i t) read.passes.tile in
             let number = length-range_with_len (reader_place b i t) (reader_place u i t - reader_place b i t) in
-            let more = all_told (map (λ m. m.entry) ms) in
-            grind (arith, read.totals, sound.balanced i t, joined_alike b u i keep, more, ap length once, number, up, keep.0.types);
+            let entries = entries_are t (turns_own i order b) in
+            let more = all_told (entries_at t (turns_own i order b)) in
+            grind (arith, read.totals, sound.balanced i t, joined_alike b u i keep, more, ap length (rw entries at once), number, up, keep.0.types);
       }
 
   pub run_sound : RunStaysSound values

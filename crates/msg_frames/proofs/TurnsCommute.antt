@@ -3,9 +3,9 @@ use Rattle.std.proofs.Common.{IsTrue, List, Option, ap, arith, false, ne_eqb, sy
 use Rattle.std.proofs.lemmas.{Bool.and_from, Bool.cases_Bool, Bool.Decides.eqb_tells}
 use Rattle.msg_world.specs.{Prelude.Conflict, Prelude.Values, Prelude.WorldState, Prelude.content, declared.access.Access.Access, declared.part.Part.Part, declared.part.Part.TheVariants.OfResource, declared.part.Part.TheVariants.OfType, declared.part.Part.TheVariants.Registry}
 use Rattle.msg_system.specs.{Prelude.AfterJob, Prelude.HasFootprint, Prelude.IsAccessOf, Prelude.Job, Prelude.JobFootprint, Prelude.Needs, Prelude.after_job, Prelude.needs_any, declared.reply.Reply.Reply}
-use Rattle.msg_frames.proofs.EntriesOfSteps.{job_logged, outcome_entries}
+use Rattle.msg_frames.proofs.EntriesOfSteps.{job_told, outcome_told}
 use Rattle.msg_system.proofs.AccessesUseNeeds.{uses_needs}
-use Rattle.msg_frames.specs.Prelude.{AreAccessesOf, Member, Outcome, State, after_turn_of, entries_at, logged_turn, member_after, member_needs, outcome_of, turn_of, with_entries}
+use Rattle.msg_frames.specs.Prelude.{AreAccessesOf, Member, Outcome, State, Totals, after_turn_of, logged_turn, member_after, member_needs, outcome_of, turn_of, with_steps}
 use Rattle.msg_order.specs.Prelude.{access_of}
 
 module _ {V : Type 0} {values : Values V} where
@@ -30,12 +30,12 @@ module _ {V : Type 0} {values : Values V} where
   abbrev pub given_by_turn : Member V → AfterJob values → Member V × Outcome V
   given_by_turn m e = (member_after e m, outcome_of e.replies)
 
-  -- turns that are answered alike have the same entries
-  same_entries : (j : Job V) (v w : WorldState values) (t : ℕ) → (after_job j v).replies ≡ (after_job j w).replies
-      → entries_at t (after_job j v).steps ≡ entries_at t (after_job j w).steps
-  same_entries j v w t same =
-      sym (job_logged t j v) ∙ ap (λ (r : Option (List (Reply V))). outcome_entries t j.system (outcome_of r)) same
-      ∙ job_logged t j w
+  -- turns that are answered alike add the same to totals
+  same_totals : (j : Job V) (v w : WorldState values) (t : ℕ) (x : Totals) → (after_job j v).replies ≡ (after_job j w).replies
+      → with_steps t (after_job j v).steps x ≡ with_steps t (after_job j w).steps x
+  same_totals j v w t x same =
+      sym (job_told t j v x) ∙ ap (λ (r : Option (List (Reply V))). outcome_told t j.system (outcome_of r) x) same
+      ∙ job_told t j w x
 
   pub turn_footprint : JobFootprint values → (m : Member V)
       → HasFootprint (member_needs m) (λ (e : AfterJob values). e.world) (given_by_turn m) (after_job m.job)
@@ -46,7 +46,7 @@ module _ {V : Type 0} {values : Values V} where
         λ k. (
           record m {
             job = (given k).0;
-            totals = λ t. with_entries (same_entries m.job v w t (λ i. (given i).1) k) (m.totals t);
+            totals = λ t. same_totals m.job v w t (m.totals t) (λ i. (given i).1) k;
           },
           outcome_of (given k).1,
         );

@@ -5,9 +5,9 @@ use Rattle.std.specs.List.{range_with_len}
 use Rattle.msg_buffer.specs.Prelude.{History, IsPresent, count}
 use Rattle.msg_world.specs.{Prelude.Values, declared.record.Record.Record}
 use Rattle.msg_frames.specs.{Steps.IsWrittenOnce, declared.frame.Frame.Frame}
-use Rattle.msg_frames.specs.Entries.{ReadEntry, numbers_missed, numbers_passed, entry_numbers, totals_from, with_entries}
+use Rattle.msg_frames.specs.Entries.{ReadEntry, numbers_missed, numbers_passed, entry_numbers, refused_at, totals_from, with_entries, with_refused}
 use Rattle.msg_frames.specs.Frames.{State, join_flags, run}
-use Rattle.msg_frames.specs.Moments.{Moment, found_at, moments, reader_place}
+use Rattle.msg_frames.specs.Moments.{Moment, found_at, moments, own_steps_in, reader_place}
 
 -- ---- what an entry says
 
@@ -36,6 +36,10 @@ module _ {V : Type 0} {values : Values V} where
   abbrev pub entries_in_run : ℕ → ℕ → List (Frame V) → State values → List (ReadEntry V)
   entries_in_run i t frames s = map (λ m. m.entry) (moments i t frames s)
 
+  -- how many messages of type t system i was refused in a run
+  abbrev pub refused_in_run : ℕ → ℕ → List (Frame V) → State values → ℕ
+  refused_in_run i t frames s = refused_at t (own_steps_in i frames s)
+
   -- where a run found a reader
   abbrev pub found_in_run : ℕ → ℕ → List (Frame V) → State values → ℕ
   found_in_run i t frames s = found_at s (run frames s).state i t
@@ -54,10 +58,12 @@ pub record IsServed {V : Type 0} {values : Values V} (i t : ℕ) (frames : List 
       (place_after_run i t frames s - found_in_run i t frames s)
   -- each is true
   pub true : All (IsTrueEntry ((run frames s).state.world.histories t)) (moments i t frames s)
-  -- and its totals count what they tell, from those that it had, or new ones if it joined then
+  -- And its totals count what they tell, and what was refused of the type, from those that it had,
+  -- or new ones if it joined then.
   pub totals : ((run frames s).state.members i).totals t
-      ≡ with_entries (entries_in_run i t frames s) (if has_joined (join_flags s) i
-      then (s.members i).totals t else totals_from (found_in_run i t frames s))
+      ≡ with_refused (refused_in_run i t frames s)
+      (with_entries (entries_in_run i t frames s) (if has_joined (join_flags s) i
+      then (s.members i).totals t else totals_from (found_in_run i t frames s)))
 
 -- What a run comes to.
 pub record IsCompleteRun {V : Type 0} {values : Values V} (frames : List (Frame V))

@@ -1,11 +1,11 @@
 -- What the replies of a system tell of its readers: what each read and each clear went past. A
 -- reader is a system and a type that it reads.
-use Rattle.std.specs.Prelude.{Bool, List, None, Option, Some, [], false, flat_map, if◌then◌else◌, is_some, length, option_map, option_to_list, ℕ, ◌++◌, ◌+◌, ◌-◌}
-use Rattle.std.specs.List.{range_with_len}
-use Rattle.std.specs.Option.{option_or}
+use Rattle.std.specs.Prelude.{Bool, List, None, Option, Some, [], false, flat_map, if◌then◌else◌, is_some, length, option_map, option_to_list, ℕ, ◌++◌, ◌+◌, ◌-◌, ◌==◌}
+use Rattle.std.specs.List.{range_with_len, sum_by}
+use Rattle.std.specs.Option.{option_map_or, option_or}
 use Rattle.msg_buffer.specs.Prelude.{Stretch}
 use Rattle.msg_world.specs.{Prelude.Values, Prelude.same_part, declared.part.Part.TheVariants.OfType, declared.record.Record.Record}
-use Rattle.msg_system.specs.{Prelude.Step, Prelude.op_parts, Prelude.reply_took, declared.op.Op.Op, declared.reply.Reply.Reply, declared.reply.Reply.TheVariants.Cleared, declared.reply.Took.Took}
+use Rattle.msg_system.specs.{Prelude.Step, Prelude.op_parts, Prelude.refused_by, Prelude.reply_took, declared.op.Op.Op, declared.reply.Reply.Reply, declared.reply.Reply.TheVariants.Cleared, declared.reply.Took.Took}
 use Rattle.msg_frames.specs.declared.totals.Totals.{Totals}
 
 -- What a reader went past by one op, and the messages that it was given; None if it cleared them.
@@ -73,11 +73,12 @@ module _ {V : Type 0} where
 
 -- the totals of a reader that hasn't joined
 abbrev pub no_totals : Totals
-no_totals = record { start = None; got = 0; missed = 0; cleared = 0 }
+no_totals = record { start = None; got = 0; missed = 0; cleared = 0; refused = 0 }
 
 -- the totals of a reader that joins at this place
 abbrev pub totals_from : ℕ → Totals
-totals_from place = record { start = Some place; got = 0; missed = 0; cleared = 0 }
+totals_from place =
+    record { start = Some place; got = 0; missed = 0; cleared = 0; refused = 0 }
 
 module _ {V : Type 0} where
   -- the totals with more entries
@@ -87,3 +88,22 @@ module _ {V : Type 0} where
     missed = x.missed + length (flat_map numbers_missed es);
     cleared = x.cleared + length (flat_map numbers_cleared es);
   }
+
+-- the totals with so many refused messages more
+abbrev pub with_refused : ℕ → Totals → Totals
+with_refused n x = record x { refused = x.refused + n }
+
+module _ {V : Type 0} where
+  -- how many messages of a type an op that was answered so didn't write
+  abbrev pub refused_for : ℕ → Op V → Reply V → ℕ
+  refused_for t op reply =
+      option_map_or (λ r. if r.of_type == t then r.n else 0) (refused_by op reply) 0
+
+module _ {V : Type 0} {values : Values V} where
+  -- how many messages of a type these steps didn't write
+  abbrev pub refused_at : ℕ → List (Step values) → ℕ
+  refused_at t steps = sum_by (λ x. refused_for t x.op x.reply) steps
+
+  -- the totals for a type with what these steps tell
+  abbrev pub with_steps : ℕ → List (Step values) → Totals → Totals
+  with_steps t steps x = with_refused (refused_at t steps) (with_entries (entries_at t steps) x)

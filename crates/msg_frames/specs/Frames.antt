@@ -10,11 +10,11 @@ use Rattle.msg_order.specs.{Prelude.Graph, Prelude.access_of, Prelude.settled, P
 use Rattle.msg_system.specs.{declared.op.Op.TheVariants.Write, declared.reply.Reply.Reply}
 use Rattle.msg_system.specs.Prelude.{AfterJob, FitsWorld, IsAccessOf, Job, Needs, Step, after_job, after_start, asked_started, needs_any, numbers_for, with_conditions, write_reply}
 use Rattle.msg_frames.specs.{declared.frame.Frame.Frame, declared.log.Log.Log, declared.log.Outcome.Outcome, declared.log.Turn.Turn, declared.totals.Totals.Totals}
-use Rattle.msg_frames.specs.Entries.{entries_at, totals_from, with_entries}
+use Rattle.msg_frames.specs.Entries.{totals_from, with_steps}
 use Rattle.msg_frames.specs.declared.log.Outcome.TheVariants.{Ran, Skipped}
 
 -- One system of a state: its job with all cursors, the frame that it joins with (with 1 it joins
--- before any), and of each type what it got, missed and cleared.
+-- before any), and of each type what it got, missed and cleared, and what it was refused.
 pub record Member (V : Type 0) : Type 0 where
   pub job : Job V
   pub join : ℕ
@@ -111,10 +111,10 @@ module _ {V : Type 0} {values : Values V} where
   abbrev pub turn_of : State values → ℕ → AfterJob values
   turn_of s i = after_job (s.members i).job s.world
 
-  -- a member after its turn, whose totals count the entries of that
+  -- a member after its turn, whose totals count what the steps of that tell
   abbrev pub member_after : AfterJob values → Member V → Member V
   member_after done m =
-      record m { job = done.job; totals = λ t. with_entries (entries_at t done.steps) (m.totals t) }
+      record m { job = done.job; totals = λ t. with_steps t done.steps (m.totals t) }
 
   -- the state after the turn of system i
   abbrev pub after_turn_of : ℕ → State values → State values

@@ -1,10 +1,10 @@
 -- What a reader was given over a run, moment by moment.
-use Rattle.std.specs.Prelude.{IfSome, List, drop, filter, flat_map, if◌then◌else◌, map, take, unwrap_or, ℕ, ◌==◌, ◌≡◌}
+use Rattle.std.specs.Prelude.{IfSome, List, [], drop, filter, flat_map, if◌then◌else◌, map, take, unwrap_or, ℕ, ◌++◌, ◌==◌, ◌∷◌, ◌≡◌}
 use Rattle.msg_order.specs.Prelude.{has_joined}
 use Rattle.msg_buffer.specs.Prelude.{History, Stretch, instances, message_of}
 use Rattle.msg_world.specs.{Prelude.Values, declared.record.Record.Record}
 use Rattle.msg_system.specs.Prelude.{Step}
-use Rattle.msg_frames.specs.{Entries.ReadEntry, Entries.entry_for, Frames.State, Frames.join_flags, Frames.run, declared.frame.Frame.Frame}
+use Rattle.msg_frames.specs.{Entries.ReadEntry, Entries.entry_for, Frames.State, Frames.before_turns, Frames.frame, Frames.join_flags, Frames.run, Frames.turn_order, Frames.turns_steps, declared.frame.Frame.Frame}
 
 -- ---- the moments of a run
 
@@ -30,10 +30,21 @@ module _ {V : Type 0} {values : Values V} where
       map (λ e. record { history = x.world.histories t; place = x.places t; entry = e })
       (entry_for t x.op x.reply)
 
+  -- the steps of system i
+  abbrev pub steps_of : ℕ → List (ℕ × Step values) → List (Step values)
+  steps_of i xs = map (λ x. x.1) (filter (λ x. x.0 == i) xs)
+
   -- the moments of system i in a run of frames
   abbrev pub moments : ℕ → ℕ → List (Frame V) → State values → List (Moment V)
-  moments i t frames s =
-      flat_map (moments_at t) (map (λ x. x.1) (filter (λ x. x.0 == i) (run frames s).steps))
+  moments i t frames s = flat_map (moments_at t) (steps_of i (run frames s).steps)
+
+module _ {V : Type 0} {values : Values V} where
+  -- the steps of system i in its turns in a run of frames
+  abbrev pub own_steps_in : ℕ → List (Frame V) → State values → List (Step values)
+  own_steps_in i [] s = []
+  own_steps_in i (f ∷ frames) s =
+      let ready : State values = before_turns f.posts s in
+      steps_of i (turns_steps (turn_order ready) ready) ++ own_steps_in i frames (frame f s).state
 
 -- ---- where a run finds a reader
 

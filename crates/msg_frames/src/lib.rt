@@ -10,6 +10,7 @@ mod limits;
 mod log;
 mod place;
 mod totals;
+mod writer_account;
 
 pub use account::Account;
 pub use arrangement::Arrangement;
@@ -20,3 +21,4 @@ pub use log::{Log, Outcome, Turn};
 pub use msg_world::Items;
 pub use place::Place;
 pub use totals::Totals;
+pub use writer_account::WriterAccount;

@@ -1,5 +1,6 @@
-ghost use Rattle.std.specs.Prelude.{◌≡◌};
+ghost use Rattle.std.specs.Prelude.{◌≡◌, [], count_by, unwrap_or};
 ghost use Rattle.std.specs.Option.{option_copied};
+ghost use Rattle.msg_system.specs.Prelude.{is_spent};
 ghost use Rattle.msg_frames.specs.Logs.{cut_of, turn_in, turn_replies};
 
 use crate::Items;
@@ -44,6 +45,21 @@ impl<V> Turn<V> {
     {
         let last = self.replies()?.last()?;
         last.is_cut().then_some(last)
+    }
+
+    /// How many of its writes were refused, each whole, since too few numbers of the type were
+    /// left.
+    ///
+    /// ```
+    /// if turn.spent() > 0 {
+    ///     println!(rt; "system {} wrote less than it answered", turn.system)?;
+    /// }
+    /// ```
+    pub fn spent(&self) -> usize
+        ensures spent { result ≡ count_by is_spent (unwrap_or (turn_replies self.now) []) }
+    {
+        let replies = self.replies().unwrap_or(&[]);
+        replies.iter().filter(|reply| reply.is_spent()).count()
     }
 }
 

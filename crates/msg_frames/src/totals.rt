@@ -1,4 +1,5 @@
-/// What a reader got, missed and cleared since it joined, in messages.
+/// What a system got, missed and cleared of a type since it joined, and what it wrote to the type
+/// and was refused, in messages.
 #[derive(Clone, Copy, Debug, PartialEq, Eq)]
 pub struct Totals {
     /// Its place as it joined; None before that.
@@ -6,4 +7,5 @@ pub struct Totals {
     pub got: u64,
     pub missed: u64,
     pub cleared: u64,
+    pub refused: u64,
 }

@@ -1,20 +1,20 @@
--- The turn of a of_function: what it reads, and then what it op_answers to that.
-use Rattle.std.proofs.Common.{All, ◌≡◌, false, ℕ, zero, suc, ◌+◌, ◌-◌, ◌≤◌, ◌<◌, ◌++◌, true, List, [], ◌∷◌, length, map, Option, Some, None, take, drop, refl, sym, ap, subst, ◌∙◌, arith, inl, inr, append_assoc, option_map, option_to_list, IsTrue, slice_get, get_or}
+-- The turn of a function: what it reads, and then what it answers to that.
+use Rattle.std.proofs.Common.{All, Bool, ◌≡◌, false, ℕ, zero, suc, ◌+◌, ◌-◌, ◌≤◌, ◌<◌, ◌++◌, true, List, [], ◌∷◌, length, map, Option, Some, None, take, drop, refl, sym, ap, subst, ◌∙◌, arith, inl, inr, append_assoc, option_map, option_to_list, IsTrue, slice_get, get_or}
 use Rattle.std.proofs.lemmas.Bool.{cases_Bool, cases_lt}
 use Rattle.std.proofs.lemmas.List.{append-nil, append_cancel_left, length-append, length-map, length-take, length-take-le, take_more, take_all, take_at}
 use Rattle.std.proofs.Math.Seq.{drop-append_seam, take-append-add}
-use Rattle.std.proofs.lemmas.Option.{none-some, same_Some, slice_get_cases, slice_get_past}
+use Rattle.std.proofs.lemmas.Option.{none-some, same_Some, slice_get-get_or, slice_get_cases, slice_get_past}
 use Rattle.msg_world.specs.{declared.lent.Lent.Lent, declared.part.Part.Part, Prelude.LoanStands, Prelude.Parts, Prelude.WorldState, Prelude.Values, Prelude.taken_of}
 use Rattle.msg_system.specs.{declared.op.Op.Op, declared.reply.Reply.Reply}
-use Rattle.msg_system.specs.Prelude.{AfterProgram, Needs, after_at_most, after_op, after_program, cut_after, is_cut, keeps_to, next_done, may_read, next_op, ops_answered, after_replies, Meaning, Ran, cursor_places, turn}
+use Rattle.msg_system.specs.Prelude.{AfterProgram, BeginsTurnsWith, Needs, after_at_most, after_op, after_program, cut_after, is_cut, keeps_to, next_done, may_read, next_op, ops_answered, after_replies, Meaning, Ran, cursor_places, turn}
 use Rattle.msg_system.specs.declared.{limits.TheConstants.MAX_OPS, start.Start.Start}
 use Rattle.msg_function.specs.declared.port.Port.{Port}
-use Rattle.msg_function.specs.Functions.{Answer, FunctionOf, TurnIsWhole, given_by, part_of, ports_needs, of_function, read_op, some_port_is, write_op, written_op, written_ops}
+use Rattle.msg_function.specs.Functions.{Answer, FunctionOf, Kept, TurnIsWhole, given_by, kept_of, nothing, part_of, ports_needs, of_function, read_op, refused_parts, some_port_is, write_op, written_op, written_ops}
 use Rattle.msg_system.specs.inner.TurnRuns.{IsAfterProgram}
 use Rattle.msg_system.proofs.{Runs.same_part_refl, Turns.next_of_ops, Turns.one_reply_each, Turns.ops_answered-snoc, Turns.ran_turn, WholeTurns.ends_itself, WholeTurns.op_is_done, WholeTurns.told_alike}
 use Rattle.msg_function.specs.declared.identity.Identity.{Identity}
 use Rattle.msg_function.specs.inner.Runs.{OpsRan}
-use Rattle.msg_function.proofs.Steps.{after_program-append, ran_then}
+use Rattle.msg_function.proofs.{Steps.after_program-append, Steps.ran_then, Written.few_writes}
 
 -- ---- of a list and another one behind it
 
@@ -174,17 +174,6 @@ all_kept reads writes answer i op is =
     let n : Needs = ports_needs reads writes in
     reads_kept n reads (λ p h. grind (arith, h, cases_Bool)) (written_ops writes answer) (writes_kept n writes answer (λ p h. h)) i op is
 
--- there are no more writes than parts that are written
-one_write : {V : Type 0} (port : Port) (values : List V) (o : Option V) → length (option_to_list (option_map (write_op port values) o)) ≤ 1
-one_write port values None = omega arith
-one_write port values (Some last) = omega arith
-
-few_writes : {V : Type 0} (ports : List Port) (answer : Answer V) → length (written_ops ports answer) ≤ length ports
-few_writes [] answer = omega arith
-few_writes (port ∷ ports) answer =
-    let here = one_write port (answer 0) (slice_get (answer 0) (length (answer 0) - 1)) in
-    omega (arith, here, length-append (written_op port (answer 0)) (written_ops ports (λ k. answer (suc k))), few_writes ports (λ k. answer (suc k)))
-
 -- ---- no reply to an op that was done tells of a cut
 
 all_are_done : {V : Type 0} {values : Values V} (ops : List (Op V)) (w : ℕ) (ps : ℕ → ℕ) (s : WorldState values)
@@ -196,9 +185,13 @@ all_are_done (op ∷ ops) w ps s (suc i) d lt = all_are_done ops w _ (after_op o
 -- ---- a function
 
 module _ {V M : Type 0} (answers : FunctionOf V M) (reads writes : List Port)
-    (few : length reads + length writes ≤ MAX_OPS) (memory : M) (start : Start) where
+    (few : length reads + length writes ≤ MAX_OPS) (kept : Kept M) (start : Start) where
+  -- what it makes of the replies to what it reads
+  abbrev pub made : List (Reply V) → M × Answer V
+  made told = answers kept.memory (given_by kept.refused told)
+
   abbrev op_answers : List (Reply V) → List (Op V)
-  op_answers told = written_ops writes (answers memory (given_by told)).1
+  op_answers told = written_ops writes (made told).1
 
   abbrev ops_to : List (Reply V) → List (Op V)
   ops_to told = map read_op reads ++ op_answers told
@@ -208,14 +201,14 @@ module _ {V M : Type 0} (answers : FunctionOf V M) (reads writes : List Port)
 
   few_ops : (told : List (Reply V)) → length (ops_to told) ≤ MAX_OPS
   few_ops told =
-      omega (arith, few, same_many, length-append (map (read_op {V = V}) reads) (op_answers told), few_writes writes (answers memory (given_by told)).1)
+      omega (arith, few, same_many, length-append (map (read_op {V = V}) reads) (op_answers told), few_writes writes (made told).1)
 
   all_needed : (told : List (Reply V)) (i : ℕ) (op : Op V) → slice_get (ops_to told) i ≡ Some op → keeps_to (ports_needs reads writes) op ≡ true
-  all_needed told = all_kept reads writes (answers memory (given_by told)).1
+  all_needed told = all_kept reads writes (made told).1
 
   module _ (w : ℕ) (ps : ℕ → ℕ) (last : List (Op V)) where
     abbrev now : Meaning V
-    now = of_function answers reads writes memory start w ps last
+    now = of_function answers reads writes kept start w ps last
 
     turn_is : {values : Values V} (s : WorldState values) → after_at_most MAX_OPS (next_op now) w ps s
         ≡ after_program (ops_to (after_program (map read_op reads) w ps s).replies) w ps s
@@ -232,10 +225,10 @@ module _ {V M : Type 0} (answers : FunctionOf V M) (reads writes : List Port)
     -- what it is after a turn that was answered so
     after_is : (told replies : List (Reply V)) → take (length reads) replies ≡ told → length replies ≡ length (ops_to told) → (qs : ℕ → ℕ)
         → record (after_replies replies now) { places = qs }
-        ≡ of_function answers reads writes (answers memory (given_by told)).0 start w qs (ops_to told)
+        ≡ of_function answers reads writes (kept_of answers reads writes (made told) replies) start w qs (ops_to told)
     after_is told replies first long qs =
         let at : List (Reply V) → Meaning V =
-        λ t. of_function answers reads writes (answers memory (given_by t)).0 start w qs (ops_to t) in
+        λ t. of_function answers reads writes (kept_of answers reads writes (made t) replies) start w qs (ops_to t) in
         let here : record (after_replies replies now) { places = qs } ≡ at (take (length reads) replies) =
         rw (answered_is (take (length reads) replies) replies refl (long ∙ ap (λ t. length (ops_to t)) (sym first))) refl in
         here ∙ ap at first
@@ -247,7 +240,7 @@ module _ {V M : Type 0} (answers : FunctionOf V M) (reads writes : List Port)
         over (ports_needs reads writes) (map read_op reads) (length reads) same_many op_answers few_ops all_needed told replies first long
 
     -- A turn is whole, and after it the system has the memory that comes of it.
-    pub is_whole : {values : Values V} (s : WorldState values) → TurnIsWhole answers reads writes memory now s
+    pub is_whole : {values : Values V} (s : WorldState values) → TurnIsWhole answers reads writes kept now s
     unfolding turn
     is_whole {values} s =
         let read : List (Reply V) = (after_program (map read_op reads) w ps s).replies in
@@ -260,33 +253,38 @@ module _ {V M : Type 0} (answers : FunctionOf V M) (reads writes : List Port)
         record {
           is = is;
           after = subst (λ (e : AfterProgram values). record (after_replies e.replies now) { places = e.places }
-              ≡ of_function answers reads writes (answers memory (given_by read)).0 start w e.places ops)
+              ≡ of_function answers reads writes (kept_of answers reads writes (made read) e.replies) start w e.places ops)
               (sym is) (after_is read done.replies first each done.places);
           uncut = subst (λ (e : AfterProgram values). All (λ reply. is_cut reply ≡ false) e.replies) (sym is) (all_are_done ops w ps s);
         }
 
   -- What a run gives that reads, answers and writes: a turn.
   pub function_ran : {values : Values V} (me mine his : Identity) (last : List (Op V)) (l m n : Lent V) (taken : Parts V) (a b c : List (Reply V))
-      (memory_after : M) (answer : Answer V)
-      → OpsRan values (map read_op reads) me mine l m a b → (memory_after, answer) ≡ answers memory (given_by (drop (length a) b))
-      → OpsRan values (written_ops writes answer) mine his m n b c → taken ≡ taken_of n
-      → Ran values (of_function answers reads writes memory start me.writer (cursor_places me.cursors) last)
-      (of_function answers reads writes memory_after start his.writer (cursor_places his.cursors) (map read_op reads ++ written_ops writes answer))
+      (memory : M) (answer : Answer V) (refused : List Bool)
+      → OpsRan values (map read_op reads) me mine l m a b → (memory, answer) ≡ made (drop (length a) b)
+      → OpsRan values (written_ops writes answer) mine his m n b c → refused ≡ refused_parts writes answer (drop (length b) c) → taken ≡ taken_of n
+      → Ran values (of_function answers reads writes kept start me.writer (cursor_places me.cursors) last)
+      (of_function answers reads writes (record { memory = memory; refused = refused }) start his.writer (cursor_places his.cursors)
+      (map read_op reads ++ written_ops writes answer))
       l taken a c
-  function_ran {values} me mine his last l m n taken a b c memory_after answer first made second is =
+  function_ran {values} me mine his last l m n taken a b c memory answer refused first is_made second noted is =
       let w : ℕ = me.writer in let ps : ℕ → ℕ = cursor_places me.cursors in let qs : ℕ → ℕ = cursor_places his.cursors in
       let told : List (Reply V) = first.replies.0 in
       let replies : List (Reply V) = told ++ second.replies.0 in
       let new_by : M × Answer V → ℕ → Meaning V =
-      λ x v. of_function answers reads writes x.0 start v qs (map read_op reads ++ written_ops writes x.1) in
-      let made_now : (memory_after, answer) ≡ answers memory (given_by told) =
-      rw (first.replies.1, drop-append_seam a told) at made in
+      λ x v. of_function answers reads writes (kept_of answers reads writes x replies) start v qs (map read_op reads ++ written_ops writes x.1) in
+      let made_now : (memory, answer) ≡ made told =
+      rw (first.replies.1, drop-append_seam a told) at is_made in
       let ops : map read_op reads ++ written_ops writes answer ≡ ops_to told =
       ap (λ (x : M × Answer V). map read_op reads ++ written_ops writes x.1) made_now in
       let appended : c ≡ a ++ replies = rw (second.replies.1, first.replies.1, append_assoc) refl in
       let many : length replies ≡ length (map read_op reads ++ written_ops writes answer) =
       rw (length-append, length-append, first.replies.2, second.replies.2) refl in
-      let front : take (length reads) replies ≡ told = take_at told _ (length reads) (first.replies.2 ∙ same_many) in
+      let as_many : length told ≡ length reads = first.replies.2 ∙ same_many in
+      let front : take (length reads) replies ≡ told = take_at told _ (length reads) as_many in
+      let behind : drop (length reads) replies ≡ second.replies.0 = rw (← as_many) (drop-append_seam told second.replies.0) in
+      let refused_now : refused ≡ refused_parts writes answer (drop (length reads) replies) =
+      rw (behind, noted, second.replies.1, drop-append_seam b second.replies.0) refl in
       let long : length replies ≡ length (ops_to told) = many ∙ ap length ops in
       let all : OpsRan values (map read_op reads ++ written_ops writes answer) me his l n a c = ran_then first second in
       let same_turn : (s : WorldState values) → LoanStands l s
@@ -297,13 +295,30 @@ module _ {V M : Type 0} (answers : FunctionOf V M) (reads writes : List Port)
       turn_is w ps last s ∙ ap (λ t. after_program (ops_to t) w ps s) (sym same_told) ∙ ap (λ o. after_program o w ps s) (sym ops) in
       let ended : (now w ps last).rule [] replies ≡ None = over_is w ps last told replies front long in
       let quiet : replies ++ cut_after ((now w ps last).rule []) replies ≡ replies = rw (ended, append-nil) refl in
-      ran_turn (now w ps last) (new_by (memory_after, answer) his.writer) l n taken a c c
+      subst (λ r. Ran values (now w ps last) (of_function answers reads writes (record { memory = memory; refused = r }) start his.writer qs
+      (map read_op reads ++ written_ops writes answer)) l taken a c) (sym refused_now)
+      (ran_turn (now w ps last) (new_by (memory, answer) his.writer) l n taken a c c
       (λ s stands. subst (λ e. IsAfterProgram e qs n a c) (sym (same_turn s stands)) (all.ran s stands))
       all.same is (replies, appended, ops ∙ sym (answered_is w ps last told replies front long), sym many)
       (rw (ended, append-nil) refl)
-      (ap (λ x. new_by x his.writer) made_now ∙ ap (new_by (answers memory (given_by told))) (second.writer ∙ first.writer)
+      (ap (λ x. new_by x his.writer) made_now ∙ ap (new_by (made told)) (second.writer ∙ first.writer)
       ∙ sym (after_is w ps last told replies front long qs)
-      ∙ ap (λ rs. record (after_replies rs (now w ps last)) { places = qs }) (sym quiet))
+      ∙ ap (λ rs. record (after_replies rs (now w ps last)) { places = qs }) (sym quiet)))
+
+-- each turn begins by reading the parts
+pub reads_first : {V M : Type 0} (answers : FunctionOf V M) (reads writes : List Port) (kept : Kept M) (start : Start) (w : ℕ) (ps : ℕ → ℕ)
+    (last : List (Op V)) → length reads + length writes ≤ MAX_OPS
+    → BeginsTurnsWith (map read_op reads) (of_function answers reads writes kept start w ps last)
+reads_first {V} answers reads writes kept start w ps last few =
+    let ops : List (Op V) = map read_op reads in
+    let n : Needs = ports_needs reads writes in
+    record {
+      few = omega (arith, few, length-map (read_op {V = V}) reads);
+      kept = λ i d lt.
+          let at : slice_get (ops ++ []) i ≡ Some (get_or ops i d) = rw append-nil (slice_get-get_or ops i d lt) in
+          grind (arith, all_kept reads writes nothing i (get_or ops i d) (slice_get-front ops (written_ops writes nothing) [] i lt ∙ at));
+      each = λ turns replies lt. slice_get-front ops _ [] (length replies) lt ∙ rw append-nil refl;
+    }
 
 -- as many parts were answered as are read
 pub parts_told : {V : Type 0} {values : Values V} (reads : List Port) (me mine : Identity) (l m : Lent V) (a b : List (Reply V))

@@ -1,5 +1,7 @@
 -- Ops on a loan, one after the other
 pub mod Steps
+-- Which op of a turn writes which part
+pub mod Written
 -- The lists of an outbox
 pub mod Lists
 -- What a system reads and writes

@@ -38,3 +38,7 @@ module _ {X V : Type 0} (f : X → List V) where
   longer_in xs k x y values lt at is =
       let here : slice_index_or (map f xs) k [] ≡ f x = get_or-map f xs k x [] lt ∙ ap f (sym at) in
       rw (map-set, is, ← here) (longer (map f xs) k values (rw length-map lt))
+
+  -- the values of a part are those of its list
+  pub list_at : (xs : List X) (k : ℕ) (x : X) → k < length xs → x ≡ get_or xs k x → f x ≡ answer_in (map f xs) k
+  list_at xs k x lt at = ap f at ∙ sym (get_or-map f xs k x [] lt)

@@ -1,6 +1,7 @@
 -- What a function is given and answers, and what its system does.
-use Rattle.std.specs.Prelude.{All, ◌≡◌, false, ℕ, suc, ◌==◌, ◌-◌, ◌++◌, Bool, not, ◌&&◌, List, [], ◌∷◌, Option, Some, None, fold, length, map, option_map, option_to_list, slice_get, slice_index_or, take, if◌then◌else◌}
-use Rattle.std.specs.List.{list_any}
+use Rattle.std.specs.Prelude.{All, ◌≡◌, false, ℕ, suc, ◌==◌, ◌-◌, ◌++◌, Bool, not, ◌&&◌, List, [], ◌∷◌, Option, Some, None, drop, fold, length, map, nat_lt, option_map, option_to_list, replicate, slice_get, slice_index_or, take, if◌then◌else◌}
+use Rattle.std.specs.List.{list_any, range_with_len}
+use Rattle.std.specs.Option.{option_map_or}
 use Rattle.msg_world.specs.declared.part.Part.{Part}
 use Rattle.msg_world.specs.declared.part.Part.TheVariants.{OfType, OfResource}
 use Rattle.msg_world.specs.declared.record.Record.{Record}
@@ -10,7 +11,7 @@ use Rattle.msg_system.specs.declared.reply.Reply.TheVariants as reply
 use Rattle.msg_system.specs.declared.op.Op.{Op}
 use Rattle.msg_system.specs.declared.op.Op.TheVariants as op
 use Rattle.msg_system.specs.declared.start.Start.{Start}
-use Rattle.msg_system.specs.Prelude.{Meaning, Needs, OpRule, after_program, after_turn, brought, is_cut, is_resource, turn}
+use Rattle.msg_system.specs.Prelude.{Meaning, Needs, OpRule, after_program, after_turn, brought, is_cut, is_resource, is_spent, turn}
 use Rattle.msg_function.specs.declared.inbox.Inbox.{Inbox}
 use Rattle.msg_function.specs.declared.outbox.Outbox.{Outbox}
 use Rattle.msg_function.specs.declared.port.Port.{Port}
@@ -18,11 +19,13 @@ use Rattle.msg_function.specs.declared.port.Port.TheVariants.{Messages, Resource
 
 -- ---- what it is given
 
--- What came of each part that is read: its messages, how many were missed, or its value.
+-- What came of each part that is read: its messages, how many were missed, or its value. And of each
+-- part that is written, whether what was answered to it in the last turn was refused.
 pub record Given (V : Type 0) : Type 0 where
   pub messages : ℕ → List (Record V)
   pub missed : ℕ → ℕ
   pub value : ℕ → Option V
+  pub spent : ℕ → Bool
 
 module _ {V : Type 0} where
   -- how many messages a reply says were missed
@@ -35,21 +38,26 @@ module _ {V : Type 0} where
   value_of (Some (reply.Value v)) = Some v
   value_of _ = None
 
-  -- what is given by the replies to what is read
-  abbrev pub given_by : List (Reply V) → Given V
-  given_by replies = record {
+  -- what is given by which parts were refused, and by the replies to what is read
+  abbrev pub given_by : List Bool → List (Reply V) → Given V
+  given_by refused replies = record {
     messages = λ k. brought (slice_get replies k);
     missed = λ k. missed_of (slice_get replies k);
     value = λ k. value_of (slice_get replies k);
+    spent = λ k. slice_index_or refused k false;
   }
 
   -- what an inbox has
   abbrev pub given : Inbox V → Given V
-  given inbox = given_by inbox.replies.now
+  given inbox = given_by inbox.refused.now inbox.replies.now
 
   -- how many parts it is given
   abbrev pub parts : Inbox V → ℕ
   parts inbox = length inbox.replies.now
+
+  -- how many parts are written
+  abbrev pub written_parts : Inbox V → ℕ
+  written_parts inbox = length inbox.refused.now
 
 -- ---- what it answers
 
@@ -98,6 +106,21 @@ module _ {V : Type 0} where
   written_ops (port ∷ ports) answer =
       written_op port (answer 0) ++ written_ops ports (λ k. answer (suc k))
 
+-- ---- what was refused
+
+module _ {V : Type 0} where
+  -- Part k was refused, by the replies to what was written: something was answered to it, and the
+  -- reply to that, which stands behind those of the parts before it, says so.
+  abbrev pub was_refused : List Port → Answer V → List (Reply V) → ℕ → Bool
+  was_refused ports answer replies k =
+      nat_lt 0 (length (answer k)) && option_map_or is_spent
+      (slice_get replies (length (written_ops (take k ports) answer))) false
+
+  -- of each part, whether it was refused
+  abbrev pub refused_parts : List Port → Answer V → List (Reply V) → List Bool
+  refused_parts ports answer replies =
+      map (was_refused ports answer replies) (range_with_len 0 (length ports))
+
 -- ---- its system
 
 -- the part of a port
@@ -126,59 +149,78 @@ ports_needs reads writes = record {
 abbrev pub FunctionOf : Type 0 → Type 0 → Type 0
 FunctionOf V M = M → Given V → M × Answer V
 
+-- What is kept from turn to turn: the memory, and of each part that is written whether what was
+-- answered to it in the last turn was refused.
+pub record Kept (M : Type 0) : Type 0 where
+  pub memory : M
+  pub refused : List Bool
+
+-- nothing was answered yet
+abbrev pub unrefused : {M : Type 0} → List Port → M → Kept M
+unrefused writes memory = record { memory = memory; refused = replicate (length writes) false }
+
 module _ {V M : Type 0} (answers : FunctionOf V M) (reads writes : List Port) where
   -- what it makes of the replies of a turn, of which the first are those to what it reads
-  abbrev pub made_of : M → List (Reply V) → M × Answer V
-  made_of memory replies = answers memory (given_by (take (length reads) replies))
+  abbrev pub made_of : Kept M → List (Reply V) → M × Answer V
+  made_of kept replies = answers kept.memory (given_by kept.refused (take (length reads) replies))
 
   -- the ops of a turn: it reads each part, and then writes what it answers to that
-  abbrev pub turn_ops : M → List (Reply V) → List (Op V)
-  turn_ops memory replies = map read_op reads ++ written_ops writes (made_of memory replies).1
+  abbrev pub turn_ops : Kept M → List (Reply V) → List (Op V)
+  turn_ops kept replies = map read_op reads ++ written_ops writes (made_of kept replies).1
 
-  -- its memory after turns that were answered so
-  abbrev pub memory_after : M → List (List (Reply V)) → M
-  memory_after memory turns = fold (λ m replies. (made_of m replies).0) memory turns
+  -- what is kept of a memory and an answer, by the replies of the turn
+  abbrev pub kept_of : M × Answer V → List (Reply V) → Kept M
+  kept_of made replies = record {
+    memory = made.0;
+    refused = refused_parts writes made.1 (drop (length reads) replies);
+  }
+
+  -- what is kept after turns that were answered so
+  abbrev pub kept_after : Kept M → List (List (Reply V)) → Kept M
+  kept_after kept turns = fold (λ k replies. kept_of (made_of k replies) replies) kept turns
 
   -- its rule: op k of the turn after k replies
-  abbrev pub function_rule : M → OpRule V
-  function_rule memory turns replies =
-      slice_get (turn_ops (memory_after memory turns) replies) (length replies)
+  abbrev pub function_rule : Kept M → OpRule V
+  function_rule kept turns replies =
+      slice_get (turn_ops (kept_after kept turns) replies) (length replies)
 
-  -- the system of a function that has this memory, after a turn with these last ops
-  abbrev pub of_function : M → Start → ℕ → (ℕ → ℕ) → List (Op V) → Meaning V
-  of_function memory start writer places last = record {
+  -- the system of a function that has kept this, after a turn with these last ops
+  abbrev pub of_function : Kept M → Start → ℕ → (ℕ → ℕ) → List (Op V) → Meaning V
+  of_function kept start writer places last = record {
     needs = ports_needs reads writes;
     start = start;
     writer = writer;
     places = places;
-    rule = function_rule memory;
+    rule = function_rule kept;
     last = last;
   }
 
   -- one that was given nothing yet
   abbrev pub new_function : M → Start → ℕ → Meaning V
-  new_function memory start writer = of_function memory start writer (λ t. 0) (map read_op reads)
+  new_function memory start writer =
+      of_function (unrefused writes memory) start writer (λ t. 0) (map read_op reads)
 
 module _ {V M : Type 0} {values : Values V} (answers : FunctionOf V M) (reads writes : List Port) where
   -- what it makes of what it reads in its turn on a world
-  abbrev pub made_on : M → Meaning V → WorldState values → M × Answer V
-  made_on memory m s =
-      answers memory (given_by (after_program (map read_op reads) m.writer m.places s).replies)
+  abbrev pub made_on : Kept M → Meaning V → WorldState values → M × Answer V
+  made_on kept m s = answers kept.memory
+      (given_by kept.refused (after_program (map read_op reads) m.writer m.places s).replies)
 
   -- what it reads there, and then all that it answers to that
-  abbrev pub ops_on : M → Meaning V → WorldState values → List (Op V)
-  ops_on memory m s = map read_op reads ++ written_ops writes (made_on memory m s).1
+  abbrev pub ops_on : Kept M → Meaning V → WorldState values → List (Op V)
+  ops_on kept m s = map read_op reads ++ written_ops writes (made_on kept m s).1
 
 -- no reply of a turn tells that it was cut
 abbrev pub TellsOfNoCut : {V : Type 0} {values : Values V} → Meaning V → WorldState values → Type 0
 TellsOfNoCut m s = All (λ reply. is_cut reply ≡ false) (turn m s).replies
 
 -- A turn is never cut: it is all that is read, and then all that is answered to that. After it the
--- system has the memory that was made of that.
+-- system has the memory that was made of that, and knows which parts were refused.
 pub record TurnIsWhole {V M : Type 0} {values : Values V} (answers : FunctionOf V M)
-    (reads writes : List Port) (memory : M) (m : Meaning V) (s : WorldState values) : Type 0 where
-  pub is : turn m s ≡ after_program (ops_on answers reads writes memory m s) m.writer m.places s
+    (reads writes : List Port) (kept : Kept M) (m : Meaning V) (s : WorldState values) : Type 0 where
+  pub is : turn m s ≡ after_program (ops_on answers reads writes kept m s) m.writer m.places s
   pub after : after_turn m s
-      ≡ of_function answers reads writes (made_on answers reads writes memory m s).0 m.start m.writer
-      (turn m s).places (ops_on answers reads writes memory m s)
+      ≡ of_function answers reads writes
+      (kept_of answers reads writes (made_on answers reads writes kept m s) (turn m s).replies)
+      m.start m.writer (turn m s).places (ops_on answers reads writes kept m s)
   pub uncut : TellsOfNoCut m s

@@ -1,5 +1,5 @@
 // Systems of two kinds, over values of any type.
-use msg_system::{Access, NoMemory, Numbered, Reply, Start, SystemOf};
+use msg_system::{Access, NoMemory, Numbered, Refused, Reply, Start, SystemOf};
 use msg_world::{Counts, Lent, Taken, TypeNo};
 use std::alloc::Global;
 
@@ -32,6 +32,13 @@ impl<A: SystemOf, B: SystemOf<Value = A::Value>> SystemOf for Either<A, B> {
         match self {
             Either::Left(a) => a.read_type(op),
             Either::Right(b) => b.read_type(op),
+        }
+    }
+
+    fn refused(&self, op: u32, reply: &Reply<A::Value>) -> Option<Refused> {
+        match self {
+            Either::Left(a) => a.refused(op, reply),
+            Either::Right(b) => b.refused(op, reply),
         }
     }
 

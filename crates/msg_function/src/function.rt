@@ -38,7 +38,7 @@ pub trait Function<const READS: usize, const WRITES: usize>: Drop {
     type Value: Value;
 
     ghost use Rattle.std.specs.Prelude.{◌≡◌, OnOk};
-    ghost use Rattle.msg_function.specs.Functions.{Answer, Given, answered, given, nothing, parts};
+    ghost use Rattle.msg_function.specs.Functions.{Answer, Given, answered, given, nothing, parts, written_parts};
 
     // What it is after a turn in which it was given this, and what it answers.
     ghost answers: { Self → Given Self.Value → Self × Answer Self.Value };
@@ -50,6 +50,7 @@ pub trait Function<const READS: usize, const WRITES: usize>: Drop {
         outbox: &mut Outbox<Self::Value, WRITES>,
     ) -> Result<(), NoMemory>
         requires parts { parts inbox.now ≡ READS }
+        requires written_parts { written_parts inbox.now ≡ WRITES }
         requires empty { answered outbox.old ≡ nothing }
         ensures answers { OnOk result
             ((self.new, answered outbox.new) ≡ answers self.old (given inbox.now)) };

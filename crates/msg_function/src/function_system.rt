@@ -7,7 +7,7 @@ use crate::identity::Identity;
 use crate::ports::{access_of, type_at};
 use crate::turn::read_ports;
 use crate::{Function, Inbox, NoMemory, Outbox, Port};
-use msg_system::{Access, Cursors, Items, Numbered, Reply, Start, SystemOf};
+use msg_system::{Access, Cursors, Items, Numbered, Refused, Reply, Start, SystemOf};
 use msg_world::{Counts, Lent, Taken, TypeNo};
 use std::alloc::Global;
 
@@ -27,6 +27,7 @@ pub struct FunctionSystem<T: Function<READS, WRITES>, const READS: usize, const 
     reads: Items<Port>,
     writes: Items<Port>,
     outbox: Outbox<T::Value, WRITES>,
+    refused: [bool; WRITES],
     access: Access,
     start: Start,
     me: Identity,
@@ -63,6 +64,7 @@ impl<T: Function<READS, WRITES> + Send, const READS: usize, const WRITES: usize>
             reads: Items::from_vec(Vec::from_array(alloc, reads)?),
             writes: Items::from_vec(Vec::from_array(alloc, writes)?),
             outbox,
+            refused: [false; WRITES],
             access,
             start: Start::Zero,
             me: Identity {
@@ -91,7 +93,8 @@ impl<T: Function<READS, WRITES> + Send, const READS: usize, const WRITES: usize>
     ghost use Rattle.msg_system.specs.Prelude.{Ran};
     ghost use Rattle.msg_function.specs.Functions.{answered, of_function, read_op, written_ops};
 
-    ghost meaning = { λ s. of_function T.answers s.reads s.writes s.function s.start s.me.writer
+    ghost meaning = { λ s. of_function T.answers s.reads s.writes
+        (record { memory = s.function; refused = s.refused }) s.start s.me.writer
         (cursor_places s.me.cursors)
         (map read_op s.reads ++ written_ops s.writes (answered s.outbox)) };
 
@@ -101,6 +104,11 @@ impl<T: Function<READS, WRITES> + Send, const READS: usize, const WRITES: usize>
 
     fn read_type(&self, op: u32) -> Option<TypeNo> {
         type_at(self.reads.as_slice(), op as usize)
+    }
+
+    fn refused(&self, op: u32, reply: &Reply<T::Value>) -> Option<Refused> {
+        let place = (op as usize).checked_sub(self.reads.as_slice().len())?;
+        self.outbox.refused_at(self.writes.as_slice(), place, reply)
     }
 
     fn begins(&self) -> Start {
@@ -130,9 +138,15 @@ impl<T: Function<READS, WRITES> + Send, const READS: usize, const WRITES: usize>
         self.outbox.clear();
         let inbox = Inbox {
             replies: since(out.as_slice(), before),
+            refused: &self.refused,
         };
         self.function.answer(&inbox, &mut self.outbox)?;
-        self.outbox.write_lists(alloc, self.writes.as_slice(), &mut self.me, &mut lent, out)?;
+        let read = out.len();
+        let writes = self.writes.as_slice();
+        self.outbox
+            .write_lists(alloc, writes, &mut self.me, &mut lent, out)?;
+        let written = since(out.as_slice(), read);
+        self.outbox.note_refused(writes, written, &mut self.refused);
         Ok(lent.into_taken())
     }
 }

@@ -3,15 +3,16 @@ ghost use Rattle.std.specs.Prelude.{◌≡◌, ◌<◌};
 use msg_system::{Reply, brought};
 use msg_world::{Record, Value};
 
-/// What a system is given in a turn: what came of each part that it reads, in the order in which it
-/// was made with them.
+/// What a system is given in a turn: what came of each part that it reads, and which parts that it
+/// writes were refused, each in the order in which it was made with them.
 #[derive(Clone, Copy)]
 pub struct Inbox<'a, V> {
     pub(crate) replies: &'a [Reply<V>],
+    pub(crate) refused: &'a [bool],
 }
 
 impl<'a, V: Value> Inbox<'a, V> {
-    ghost use Rattle.msg_function.specs.Functions.{given, parts};
+    ghost use Rattle.msg_function.specs.Functions.{given, parts, written_parts};
 
     /// The messages of part `k` that it hadn't read yet. There are none if that is a resource.
     pub fn read(&self, k: usize) -> &[Record<V>]
@@ -41,5 +42,14 @@ impl<'a, V: Value> Inbox<'a, V> {
             Some(Reply::Value(value)) => Some(*value),
             _ => None,
         }
+    }
+    /// Whether what was answered in its last turn to part `k`, of those that it writes, was refused
+    /// whole: too few numbers of the type were left, so none of these messages was written. False
+    /// of a resource, and in its first turn.
+    pub fn spent(&self, k: usize) -> bool
+        requires there { k < written_parts self.now }
+        ensures spent { result ≡ (given self.now).spent k }
+    {
+        self.refused[k]
     }
 }

@@ -1,23 +1,36 @@
-// A law: the turn of a function's system is whole. It needs no code.
-ghost use Rattle.std.specs.Prelude.{◌+◌, ◌≤◌, ℕ, List, length};
+// Laws of the turns of a function's system. They need no code.
+ghost use Rattle.std.specs.Prelude.{◌+◌, ◌≤◌, ℕ, List, length, map};
 ghost use Rattle.msg_world.specs.Prelude.{WorldState};
-ghost use Rattle.msg_system.specs.{declared.limits.TheConstants.MAX_OPS, declared.op.Op.Op, declared.start.Start.Start};
-ghost use Rattle.msg_function.specs.{declared.port.Port.Port, Functions.TurnIsWhole, Functions.of_function};
+ghost use Rattle.msg_system.specs.{Prelude.BeginsTurnsWith, declared.limits.TheConstants.MAX_OPS, declared.op.Op.Op, declared.start.Start.Start};
+ghost use Rattle.msg_function.specs.{declared.port.Port.Port, Functions.Kept, Functions.TurnIsWhole, Functions.of_function, Functions.read_op};
 
 use crate::Function;
 
 /// The turn of a function's system is never cut, neither by its access nor by the limit of ops: it
 /// is all that the system reads, and then all that the function answers to that. Then the system is
-/// again one of that function, with the memory that came of that; so no later turn is cut either.
+/// again one of that function, with the memory that came of that, and knows which of its answers
+/// were refused; so no later turn is cut either.
 #[tactic(auto, using(crate::proofs::FunctionTurns::is_whole))]
 pub fn a_functions_turn_is_whole<
     T: Function<READS, WRITES>,
     const READS: usize,
     const WRITES: usize,
 >()
-    ensures law { (reads writes : List Port) (memory : T) (start : Start) (writer : ℕ)
+    ensures law { (reads writes : List Port) (kept : Kept T) (start : Start) (writer : ℕ)
         (places : ℕ → ℕ) (last : List (Op T.Value)) (s : WorldState T.Value.values)
         → length reads + length writes ≤ MAX_OPS
-        → TurnIsWhole T.answers reads writes memory
-        (of_function T.answers reads writes memory start writer places last) s }
+        → TurnIsWhole T.answers reads writes kept
+        (of_function T.answers reads writes kept start writer places last) s }
+{}
+
+/// Each turn of a function's system begins by reading all parts that it reads, whatever it is told.
+/// So it reads all of each type in each frame in which it runs, and what holds of such readers
+/// holds of it (`who_begins_reading_all_reads_all` of `msg_laws`).
+#[tactic(auto, using(crate::proofs::FunctionTurns::reads_first))]
+pub fn a_function_reads_first<T: Function<READS, WRITES>, const READS: usize, const WRITES: usize>()
+    ensures law { (reads writes : List Port) (kept : Kept T) (start : Start) (writer : ℕ)
+        (places : ℕ → ℕ) (last : List (Op T.Value))
+        → length reads + length writes ≤ MAX_OPS
+        → BeginsTurnsWith (map read_op reads)
+        (of_function T.answers reads writes kept start writer places last) }
 {}

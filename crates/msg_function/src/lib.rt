@@ -13,13 +13,14 @@ mod outbox;
 mod port;
 mod ports;
 pub mod ready;
+mod refusals;
 mod turn;
 
 pub use either::Either;
 pub use function::Function;
 pub use function_system::FunctionSystem;
 pub use inbox::Inbox;
-pub use laws::a_functions_turn_is_whole;
+pub use laws::{a_function_reads_first, a_functions_turn_is_whole};
 pub use msg_system::NoMemory;
 pub use never_cut::NeverCut;
 pub use outbox::Outbox;

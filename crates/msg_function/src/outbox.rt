@@ -1,10 +1,12 @@
 ghost use Rattle.std.specs.Prelude.{◌≡◌, ◌<◌, All, IfOk, IsSome, OnOk, length};
 ghost use Rattle.msg_world.specs.Prelude.{writable};
+ghost use Rattle.msg_system.specs.Prelude.{refused_in};
 
 use crate::identity::Identity;
+use crate::refusals::{is_refused, op_count, refused_of};
 use crate::turn::write_list;
 use crate::{NoMemory, Port};
-use msg_system::Reply;
+use msg_system::{Refused, Reply};
 use msg_world::{Lent, Value};
 use std::alloc::Global;
 
@@ -17,7 +19,7 @@ pub struct Outbox<V, const WRITES: usize> {
 }
 
 impl<V: Value, const WRITES: usize> Outbox<V, WRITES> {
-    ghost use Rattle.msg_function.specs.{Functions.answered, Functions.nothing, Functions.part_of, Functions.put, Functions.put_all, Functions.written_ops, inner.Runs.OpsRan};
+    ghost use Rattle.msg_function.specs.{Functions.answered, Functions.nothing, Functions.part_of, Functions.put, Functions.put_all, Functions.refused_parts, Functions.written_ops, inner.Runs.OpsRan};
 
     /// Nothing is answered yet.
     pub(crate) fn new(alloc: Global) -> Result<Outbox<V, WRITES>, NoMemory>
@@ -59,6 +61,44 @@ impl<V: Value, const WRITES: usize> Outbox<V, WRITES> {
             write_list(alloc, ports[k], &mut self.lists[k], me, lent, out)?;
         }
         Ok(())
+    }
+
+    /// Notes of each part whether what was answered to it was refused, by the replies to that.
+    pub(crate) fn note_refused(&self, ports: &[Port], replies: &[Reply<V>], refused: &mut [bool])
+        requires as_many { length ports.now ≡ WRITES }
+        requires one_each { length refused.old ≡ WRITES }
+        ensures noted { refused.new
+            ≡ refused_parts ports.now (answered self.now) replies.now }
+    {
+        let mut written = 0;
+        for k in 0..ports.len() {
+            let values = self.lists[k].as_slice();
+            refused[k] = is_refused(values, replies, written);
+            written += op_count(values);
+        }
+    }
+
+    /// What write number `place` of a turn didn't write, if it was answered so.
+    pub(crate) fn refused_at(
+        &self,
+        ports: &[Port],
+        place: usize,
+        reply: &Reply<V>,
+    ) -> Option<Refused>
+        requires as_many { length ports.now ≡ WRITES }
+        ensures refused { result
+            ≡ refused_in (written_ops ports.now (answered self.now)) place reply.now }
+    {
+        let mut before = place;
+        for k in 0..ports.len() {
+            let values = self.lists[k].as_slice();
+            let count = op_count(values);
+            if before < count {
+                return refused_of(ports[k], values.len() as u64, reply);
+            }
+            before -= count;
+        }
+        None
     }
 
     /// Writes one more message to part `k`. If that is a resource, this is its value; the last one

@@ -10,7 +10,7 @@ use Rattle.msg_frames.proofs.{LawfulOrdersAgree.lawful_forward}
 use Rattle.msg_frames.proofs.BeforeTurns.{begun_within, prepares}
 use Rattle.msg_frames.proofs.ElementsAndPairs.{Cut, cut, pairs_head, pairs_right}
 use Rattle.msg_frames.proofs.HistoriesGrow.{counts_more}
-use Rattle.msg_frames.proofs.ReaderOverRun.{run_follows, runs_are_complete}
+use Rattle.msg_frames.proofs.ReaderOverRun.{run_passes, runs_are_complete}
 use Rattle.msg_frames.proofs.StatesStaySound.{frame_sound, prepared_sound, turn_below}
 use Rattle.msg_frames.proofs.SystemsStay.{frame_keeps}
 use Rattle.msg_frames.proofs.WrittenOnce.{before_writes, run_writes, turns_write, written_further}
@@ -77,7 +77,7 @@ module _ {V : Type 0} {values : Values V} where
         let e = flat_map-Contains numbers_missed (map (λ x. x.entry) ms) n c in
         let x = map-Contains (λ x. x.entry) ms e.0 e.1.0 in
         let goes = All-contains (λ x. GoesOn x.history (u.world.histories t)) ms x.0
-        (run_follows j t (f ∷ fs) s sound below still).passes.earlier x.1.0 in
+        (run_passes j t (f ∷ fs) s sound below still).earlier x.1.0 in
         let true = All-contains (IsTrueEntry (u.world.histories t)) ms x.0
         ((runs_are_complete (f ∷ fs) s sound).served j t below still).true x.1.0 in
         let gone = true.missed n (rw (x.1.1) e.1.1) in

@@ -15,6 +15,8 @@ mod OneTurn
 mod ReadersTakeAll
 mod ReadersStayUpToDate
 mod ProgramsReadAll
+-- Turns that begin by reading all
+pub mod TurnsBegin
 mod WakeUps
 mod BeginsWoken
 mod Latency

@@ -8,7 +8,7 @@ use Rattle.msg_frames.proofs.BatchesSideBySide.{turns_then_more}
 use Rattle.msg_frames.proofs.BeforeTurns.{Prepares, prepares}
 use Rattle.msg_frames.proofs.ElementsAndPairs.{all_middle, pairs_head, pairs_middle, pairs_right}
 use Rattle.msg_frames.proofs.HistoriesGrow.{Grows, goes_further, grown, turns_change}
-use Rattle.msg_frames.proofs.ReaderOverTurns.{Reads, turns_moments, turns_read, turns_skip}
+use Rattle.msg_frames.proofs.ReaderOverTurns.{Reads, turns_own, turns_read, turns_skip}
 use Rattle.msg_frames.proofs.StatesStaySound.{has_one_turn, prepared_sound}
 use Rattle.msg_frames.specs.{Frames.turn_order, Prelude.AfterTurns, Prelude.IsSoundState, Prelude.State, Prelude.after_turn_of, Prelude.after_turns_of, Prelude.before_turns, Prelude.frame, Prelude.logged_turn, Prelude.reader_place, declared.frame.Frame.Frame, declared.log.Turn.Turn}
 
@@ -17,7 +17,7 @@ module _ {V : Type 0} {values : Values V} where
   pub frame_reads : (posts : List (ℕ × V)) (s : State values) → IsSoundState s
       → (order : List ℕ) (i t : ℕ) → t < s.types →
       let b : State values = before_turns posts s in
-      Reads i t b (turns_moments i t order b) (after_turns_of order b).state
+      Reads i t b (turns_own i order b) (after_turns_of order b).state
   frame_reads posts s sound order i t below =
       let b : State values = before_turns posts s in
       let prep : Prepares s b = prepares posts s in
@@ -56,14 +56,14 @@ module _ {V : Type 0} {values : Values V} (f : Frame V) (s : State values) (i : 
       (rw (ap (λ (a : AfterTurns values). a.turns) split) at all)).0
 
   pub member_found : found.members i ≡ begun.members i
-  member_found = (turns_skip i 0 earlier begun (λ at.
+  member_found = (turns_skip i earlier begun (λ at.
       All-contains (λ k. k ≢ i) earlier i (pairs_middle (λ j k. j ≢ k) earlier i later once).0 at refl)).0
 
   pub job_left : ((frame f s).state.members i).job ≡ (after_job (found.members i).job found.world).job
-  job_left = grind (arith, left_is, turns_skip i 0 later (after_turn_of i found) not_later, eqb_tells)
+  job_left = grind (arith, left_is, turns_skip i later (after_turn_of i found) not_later, eqb_tells)
 
   module _ (t : ℕ) (sound : IsSoundState s) (below : t < s.types) where
-    others : Reads i t begun (turns_moments i t earlier begun) found
+    others : Reads i t begun (turns_own i earlier begun) found
     others = frame_reads f.posts s sound earlier i t below
 
     pub others_go_on : GoesOn (begun.world.histories t) (found.world.histories t)

@@ -45,7 +45,7 @@ module _ {V : Type 0} {values : Values V} (program : Program V) (writer : ℕ)
 
 module _ {V : Type 0} {values : Values V} where
   -- who has no conditions isn't skipped, and has none afterwards
-  turns_ran : (i : ℕ) (order : List ℕ) (s : State values) → (s.members i).job.conditions ≡ []
+  pub turns_ran : (i : ℕ) (order : List ℕ) (s : State values) → (s.members i).job.conditions ≡ []
       → All (λ turn. turn.system ≡ i → turn.outcome ≢ Skipped) (after_turns_of order s).turns
       × (((after_turns_of order s).state.members i).job.conditions ≡ [])
   turns_ran i [] s none = (All-nil (λ turn. turn.system ≡ i → turn.outcome ≢ Skipped), none)

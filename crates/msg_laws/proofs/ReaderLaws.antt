@@ -1,5 +1,5 @@
 -- What follows of readers from the laws of frames.
-use Rattle.msg_frames.proofs.{ReaderOverRun.run_follows, ReaderOverRun.runs_are_complete, SystemsStay.joined_is}
+use Rattle.msg_frames.proofs.{ReaderOverRun.run_passes, ReaderOverRun.runs_are_complete, SystemsStay.joined_is}
 use Rattle.msg_order.specs.Prelude.{has_joined}
 use Rattle.msg_frames.specs.{Prelude.State, Prelude.first_state, Prelude.join_flags, Prelude.reader_place, Prelude.totals_from}
 use Rattle.msg_buffer.proofs.{Standing.oldest_and_present, Unread.length-unread}
@@ -11,7 +11,7 @@ use Rattle.std.proofs.lemmas.{Bool.cases_Bool, Bool.Decides.eqb_tells, Bool.Deci
 module _ {V : Type 0} {values : Values V} where
   pub readers_tile : ReadersTile values
   readers_tile frames s sound i t below has =
-      let passes = (run_follows i t frames s sound below has).passes in
+      let passes = run_passes i t frames s sound below has in
       record { tile = passes.tile; gives = passes.gives }
 
   pub backlogs_add_up : BacklogsAddUp values

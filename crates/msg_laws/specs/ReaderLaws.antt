@@ -1,6 +1,6 @@
 -- What holds of readers over every run.
 use Rattle.msg_frames.specs.{declared.backlog.Backlog.Backlog, declared.frame.Frame.Frame, declared.log.Log.Log, declared.place.Place.Place}
-use Rattle.msg_frames.specs.Prelude.{IsBalanced, IsSoundState, State, account_of, backlog_of, entries_in_run, first_state, found_at, frame, join_flags, no_totals, reader_place, replies_of, run, totals_from, with_entries}
+use Rattle.msg_frames.specs.Prelude.{IsBalanced, IsSoundState, State, account_of, backlog_of, entries_in_run, first_state, found_at, frame, join_flags, no_totals, reader_place, refused_in_run, replies_of, run, totals_from, with_entries, with_refused}
 use Rattle.msg_order.specs.Prelude.{has_joined}
 use Rattle.msg_order.specs.declared.rule.Rule.{Rule}
 use Rattle.msg_buffer.specs.Prelude.{count}
@@ -30,7 +30,7 @@ abbrev pub AllAreAnswered : {V : Type 0} → Values V → Type 0
 AllAreAnswered {V} values = (frames : List (Frame V)) (s : State values) → AreAnswered frames s
 
 -- From a first state the account of each reader counts all that its entries tell, from its start
--- on, where the run found it.
+-- on, where the run found it, and all that was refused.
 abbrev pub AccountsBeginAtTheStart : {V : Type 0} → Values V → Type 0
 AccountsBeginAtTheStart {V} values = (systems : List (Meaning V)) (places : List (Place V))
     (rules : List Rule) (types resources : ℕ) (world : WorldState values) (frames : List (Frame V))
@@ -38,7 +38,8 @@ AccountsBeginAtTheStart {V} values = (systems : List (Meaning V)) (places : List
     let u : State values = (run frames s).state in
     (i t : ℕ) → IsSoundState s → t < types → IsTrue (has_joined (join_flags u) i)
     → (u.members i).totals t
-    ≡ with_entries (entries_in_run i t frames s) (totals_from (found_at s u i t))
+    ≡ with_refused (refused_in_run i t frames s)
+    (with_entries (entries_in_run i t frames s) (totals_from (found_at s u i t)))
 
 -- A reader's place is where such a start is, of a type with so many messages.
 abbrev pub IsAtStart : Start → ℕ → ℕ → Type 0

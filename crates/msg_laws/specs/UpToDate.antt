@@ -3,7 +3,7 @@ use Rattle.std.specs.Prelude.{All, Bool, Contains, IsTrue, List, None, [], false
 use Rattle.msg_order.specs.Prelude.{has_joined}
 use Rattle.std.specs.List.{list_any}
 use Rattle.msg_buffer.specs.Prelude.{IsPresent, count, update}
-use Rattle.msg_system.specs.{Prelude.of_program, declared.limits.TheConstants.MAX_OPS, declared.op.Op.Op, declared.op.Op.TheVariants.Forward, declared.op.Op.TheVariants.Read, declared.op.Op.TheVariants.Sum, declared.program.Program.Program}
+use Rattle.msg_system.specs.{Prelude.BeginsTurnsWith, Prelude.of_program, declared.limits.TheConstants.MAX_OPS, declared.op.Op.Op, declared.op.Op.TheVariants.Forward, declared.op.Op.TheVariants.Read, declared.op.Op.TheVariants.Sum, declared.program.Program.Program}
 use Rattle.msg_frames.specs.{Frames.turn_order, declared.frame.Frame.Frame, declared.log.Outcome.TheVariants.Skipped}
 use Rattle.msg_frames.specs.Prelude.{IsSoundState, NoCycle, State, after_turns_of, before_turns, entries_in_run, frame, join_flags, reader_place, run}
 use Rattle.msg_world.specs.Prelude.{Values}
@@ -92,3 +92,13 @@ WhoseProgramReadsAll {V} values = (f : Frame V) (s : State values) (i t : ℕ)
     → length program.ops ≤ MAX_OPS → IsTrue (list_any (reads_all t) program.ops)
     → ReadsAll i t f s × ((later : ℕ → ℕ) × (((frame f s).state.members i).job
     ≡ record { system = of_program program writer later; conditions = [] }))
+
+-- A system that has joined, has no conditions, and each turn of which begins with ops of which one
+-- reads the type without limit, reads all of it in a frame, and its later turns begin so too.
+abbrev pub WhoBeginsReadingAll : {V : Type 0} → Values V → Type 0
+WhoBeginsReadingAll {V} values = (f : Frame V) (s : State values) (i t : ℕ) (ops : List (Op V))
+    → NoCycle s → IsTrue (has_joined (join_flags s) i)
+    → BeginsTurnsWith ops (s.members i).job.system → (s.members i).job.conditions ≡ []
+    → IsTrue (list_any (reads_all t) ops)
+    → ReadsAll i t f s × BeginsTurnsWith ops ((frame f s).state.members i).job.system
+    × (((frame f s).state.members i).job.conditions ≡ [])

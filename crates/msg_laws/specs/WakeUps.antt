@@ -5,7 +5,7 @@ use Rattle.std.specs.List.{list_any}
 use Rattle.msg_buffer.specs.Prelude.{IsPresent, count}
 use Rattle.msg_order.specs.declared.rule.Rule.{Rule}
 use Rattle.msg_world.specs.{Prelude.Values, Prelude.WorldState, declared.part.Part.TheVariants.OfType}
-use Rattle.msg_system.specs.{Prelude.Meaning, Prelude.conditions_of, Prelude.of_program, declared.condition.Probe.TheVariants.OnMessage, declared.limits.TheConstants.MAX_OPS, declared.program.Program.Program, declared.start.Start.TheVariants.Current}
+use Rattle.msg_system.specs.{Prelude.BeginsTurnsWith, Prelude.Meaning, Prelude.conditions_of, Prelude.of_program, declared.condition.Probe.TheVariants.OnMessage, declared.limits.TheConstants.MAX_OPS, declared.op.Op.Op, declared.program.Program.Program, declared.start.Start.TheVariants.Current}
 use Rattle.msg_frames.specs.{Frames.turn_order, Prelude.IsSoundState, Prelude.State, Prelude.after_turns_of, Prelude.before_turns, Prelude.first_state, Prelude.frame, Prelude.join_flags, Prelude.reader_place, Prelude.run, declared.frame.Frame.Frame, declared.log.Outcome.TheVariants.Skipped, declared.place.Place.Place}
 use Rattle.msg_laws.specs.UpToDate.{IsUpToDate, MissesNothing, NothingDrained, reads_all}
 
@@ -86,3 +86,10 @@ WhoseProgramReadsAllWhenWoken {V} values = (frames : List (Frame V)) (s : State 
     → (s.members i).job.system ≡ of_program program writer places
     → length program.ops ≤ MAX_OPS → IsTrue (list_any (reads_all t) program.ops)
     → ReadsAllWhenWoken i t frames s
+
+-- A system each turn of which begins with ops of which one reads the type without limit reads all
+-- when it is woken.
+abbrev pub WhoBeginsReadingAllWhenWoken : {V : Type 0} → Values V → Type 0
+WhoBeginsReadingAllWhenWoken {V} values = (frames : List (Frame V)) (s : State values) (i t : ℕ)
+    (ops : List (Op V)) → BeginsTurnsWith ops (s.members i).job.system
+    → IsTrue (list_any (reads_all t) ops) → ReadsAllWhenWoken i t frames s

@@ -1,5 +1,5 @@
 use crate::Names;
-use msg_frames::{Account, Backlog};
+use msg_frames::{Account, Backlog, WriterAccount};
 use std::fmt;
 
 /// An account with names, and what is left for its reader if that is known:
@@ -39,5 +39,28 @@ impl<'a> fmt::Display for NamedAccount<'a> {
             Some(left) => write!(f, " lost {} unread {}", left.lost, left.unread),
             None => Ok(()),
         }
+    }
+}
+
+/// An account of a writer with names: `tower writes shots: refused 2`.
+#[derive(Clone, Copy, Debug)]
+pub struct NamedWriterAccount<'a> {
+    pub(crate) names: Names<'a>,
+    pub(crate) account: WriterAccount,
+}
+
+impl<'a> fmt::Display for NamedWriterAccount<'a> {
+    fn fmt<W: fmt::Write>(&self, f: &mut fmt::Formatter<W>) -> fmt::Result {
+        let WriterAccount {
+            system,
+            of_type,
+            refused,
+        } = self.account;
+        write!(
+            f,
+            "{} writes {}: refused {refused}",
+            self.names.system(system),
+            self.names.of_type(of_type)
+        )
     }
 }

@@ -8,6 +8,6 @@ mod names;
 mod op;
 mod reply;
 
-pub use account::NamedAccount;
+pub use account::{NamedAccount, NamedWriterAccount};
 pub use log::NamedLog;
 pub use names::Names;

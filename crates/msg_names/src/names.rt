@@ -1,5 +1,5 @@
-use crate::{NamedAccount, NamedLog};
-use msg_frames::{Account, Backlog, Log};
+use crate::{NamedAccount, NamedLog, NamedWriterAccount};
+use msg_frames::{Account, Backlog, Log, WriterAccount};
 use msg_world::{HOST, ResNo, TypeNo};
 use std::fmt;
 
@@ -60,6 +60,14 @@ impl<'a> Names<'a> {
             names: self,
             account,
             left,
+        }
+    }
+
+    /// An account of a writer: what it was refused.
+    pub fn writer_account(self, account: WriterAccount) -> NamedWriterAccount<'a> {
+        NamedWriterAccount {
+            names: self,
+            account,
         }
     }
 

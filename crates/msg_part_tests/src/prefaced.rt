@@ -1,5 +1,5 @@
 //! Scripts, and what is done before each of their runs.
-use msg_system::{Access, NoMemory, Numbered, Reply, Scripted, Start, SystemOf};
+use msg_system::{Access, NoMemory, Numbered, Refused, Reply, Scripted, Start, SystemOf};
 use msg_world::{Counts, Lent, Taken, TypeNo};
 use std::alloc::Global;
 use std::sync::Arc;
@@ -59,6 +59,10 @@ impl SystemOf for Prefaced {
 
     fn read_type(&self, op: u32) -> Option<TypeNo> {
         self.script.read_type(op)
+    }
+
+    fn refused(&self, op: u32, reply: &Reply) -> Option<Refused> {
+        self.script.refused(op, reply)
     }
 
     fn begins(&self) -> Start {

@@ -2,7 +2,7 @@
 use Rattle.std.specs.Prelude.{◌≡◌, ℕ, Bool, true, false, not, ◌&&◌, ◌||◌, IsTrue, Option, Some, None, List, option_and_then, slice_get}
 use Rattle.std.specs.List.{list_any}
 use Rattle.msg_world.specs.{Prelude.HasPart, Prelude.Overlap, declared.part.Part.Part, declared.part.Part.TheVariants.OfType, declared.part.Part.TheVariants.OfResource, Prelude.reads, Prelude.same_part, Prelude.writes, declared.access.Access.Access}
-use Rattle.msg_system.specs.{Programs.op_parts, declared.op.Op.Op, declared.condition.Condition.Condition, declared.condition.Probe.Probe, declared.condition.Probe.TheVariants.OnMessage, declared.condition.Probe.TheVariants.ResourceEquals}
+use Rattle.msg_system.specs.{Programs.op_parts, Programs.refused_by, declared.op.Op.Op, declared.reply.Refused.Refused, declared.reply.Reply.Reply, declared.condition.Condition.Condition, declared.condition.Probe.Probe, declared.condition.Probe.TheVariants.OnMessage, declared.condition.Probe.TheVariants.ResourceEquals}
 
 -- true if there is no part, and else what `holds` says of the part
 abbrev pub is_none_or : (Part → Bool) → Option Part → Bool
@@ -25,6 +25,10 @@ module _ {V : Type 0} where
   -- the type that op k of a program reads; none if there is no such op
   abbrev pub type_read_by : List (Op V) → ℕ → Option ℕ
   type_read_by ops k = option_and_then type_read (slice_get ops k)
+
+  -- what op k of a program didn't write, if it was answered so; none if there is no such op
+  abbrev pub refused_in : List (Op V) → ℕ → Reply V → Option Refused
+  refused_in ops k reply = option_and_then (λ op. refused_by op reply) (slice_get ops k)
 
 -- Which parts are read, and which are written.
 pub record Needs : Type 0 where

@@ -1,11 +1,11 @@
 -- What an op reads and writes, what it does to the places of its system and to the world, what it
 -- answers, and when it asks for memory; and a program, its ops in order.
 use Rattle.std.specs.List.{enumerate_from}
-use Rattle.std.specs.Prelude.{ℕ, ◌+◌, ◌<◌, ◌==◌, IsSome, Option, None, Some, List, [], ◌∷◌, fold, length, map, if◌then◌else◌}
+use Rattle.std.specs.Prelude.{ℕ, ◌+◌, ◌<◌, ◌==◌, Bool, true, false, IsSome, Option, None, Some, List, [], ◌∷◌, fold, length, map, if◌then◌else◌}
 use Rattle.msg_buffer.specs.declared.instance.Written.{Written}
 use Rattle.msg_buffer.specs.Prelude.{History, clear, count, first, given, has_room, message_of, missed, oldest, present, unread, write}
 use Rattle.msg_world.specs.{Prelude.WorldState, Prelude.after_signal, Prelude.by, Prelude.with_history, Prelude.with_value_of, declared.part.Part.TheVariants.OfResource, declared.part.Part.TheVariants.OfType, declared.part.Part.TheVariants.Registry, declared.record.Record.Record, Prelude.Values}
-use Rattle.msg_system.specs.{declared.op.Op.Op, declared.op_parts.OpParts.OpParts, declared.reply.Reply.Reply, declared.reply.Took.Took}
+use Rattle.msg_system.specs.{declared.op.Op.Op, declared.op_parts.OpParts.OpParts, declared.reply.Refused.Refused, declared.reply.Reply.Reply, declared.reply.Took.Took}
 use Rattle.msg_system.specs.declared.op.Op.TheVariants as op
 use Rattle.msg_system.specs.declared.reply.Reply.TheVariants as reply
 
@@ -147,6 +147,20 @@ module _ {V : Type 0} where
   wrote t i (op.Forward a u) (reply.Forwarded taken (Some n)) =
       if u == t then enumerate_from n.first (again_by i taken.items) else []
   wrote t i _ _ = []
+
+  -- The reply tells that messages weren't written: too few numbers of their type were left.
+  abbrev pub is_spent : Reply V → Bool
+  is_spent reply.Spent = true
+  is_spent (reply.Forwarded taken None) = true
+  is_spent _ = false
+
+  -- what an op that was answered so didn't write: of which type, and how many messages
+  abbrev pub refused_by : Op V → Reply V → Option Refused
+  refused_by (op.Write t v) reply.Spent = Some (record { of_type = t; n = 1 })
+  refused_by (op.Batch t vs) reply.Spent = Some (record { of_type = t; n = length vs })
+  refused_by (op.Forward a t) (reply.Forwarded taken None) =
+      Some (record { of_type = t; n = length taken.items })
+  refused_by _ _ = None
 
 -- ---- when an op asks for memory
 

@@ -1,5 +1,5 @@
 -- What a system means, and what its turn is.
-use Rattle.std.specs.Prelude.{All, ◌≡◌, ℕ, zero, suc, ◌≤◌, ◌++◌, Bool, true, false, ◌&&◌, nat_lt, IsTrue, Option, Some, None, option_and_then, option_map, option_to_list, unwrap_or, List, [], ◌∷◌, length, map, slice_get, if◌then◌else◌}
+use Rattle.std.specs.Prelude.{All, ◌≡◌, ℕ, zero, suc, ◌<◌, ◌≤◌, ◌++◌, Bool, true, false, ◌&&◌, nat_lt, IsTrue, Option, Some, None, option_and_then, option_map, option_to_list, unwrap_or, List, [], ◌∷◌, length, map, slice_get, if◌then◌else◌}
 use Rattle.msg_world.specs.{declared.part.Part.TheVariants.OfType, Prelude.WorldState, Prelude.Values}
 use Rattle.msg_system.specs.{declared.limits.TheConstants.MAX_OPS, declared.op.Op.Op, declared.program.Program.Program, declared.reply.Reply.Reply, declared.start.Start.Start}
 use Rattle.msg_system.specs.declared.reply.Reply.TheVariants as reply
@@ -186,3 +186,12 @@ pub record IsWholeTurn {V : Type 0} {values : Values V} (m : Meaning V)
     (s : WorldState values) : Type 0 where
   pub uncut : IsUncut m s (turn m s)
   pub all : map (λ (step : Step values). step.op) (turn m s).steps ≡ m.last
+
+-- ---- turns that begin alike
+
+-- Whatever it is told, each of its turns begins with these ops, which keep to what it needs.
+pub record BeginsTurnsWith {V : Type 0} (ops : List (Op V)) (m : Meaning V) : Type 0 where
+  pub few : length ops ≤ MAX_OPS
+  pub kept : All (λ op. IsTrue (keeps_to m.needs op)) ops
+  pub each : (turns : List (List (Reply V))) (replies : List (Reply V))
+      → length replies < length ops → m.rule turns replies ≡ slice_get ops (length replies)

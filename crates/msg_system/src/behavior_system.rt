@@ -6,7 +6,7 @@ ghost use Rattle.msg_system.specs.{Behaviors.behaves, Needs.needs_of, OpRuns.cur
 use crate::behavior::Behavior;
 use crate::limits::MAX_OPS;
 use crate::one_op::answer;
-use crate::{Access, Cursors, Items, NoMemory, Numbered, Op, Reply, Start, SystemOf};
+use crate::{Access, Cursors, Items, NoMemory, Numbered, Op, Refused, Reply, Start, SystemOf};
 use msg_world::{Counts, Lent, Taken, TypeNo, Value};
 use std::alloc::Global;
 use std::mem::replace;
@@ -138,6 +138,10 @@ impl<B: Behavior + Send> SystemOf for BehaviorSystem<B> {
 
     fn read_type(&self, op: u32) -> Option<TypeNo> {
         self.last.as_slice().get(op as usize)?.read_type()
+    }
+
+    fn refused(&self, op: u32, reply: &Reply<B::Value>) -> Option<Refused> {
+        self.last.as_slice().get(op as usize)?.refused(reply)
     }
 
     fn begins(&self) -> Start {

@@ -42,7 +42,7 @@ pub use numbered::Numbered;
 pub use op::Op;
 pub use program::Program;
 pub use relay::Relay;
-pub use reply::{Reply, Took, brought};
+pub use reply::{Refused, Reply, Took, brought};
 pub use scripted::Scripted;
 pub use start::Start;
 pub use system::{System, SystemOf};

@@ -2,7 +2,7 @@ ghost use Rattle.std.specs.Prelude.{◌≡◌, ◌≢◌, ◌||◌, ◌<◌, ℕ
 ghost use Rattle.msg_world.specs.{declared.part.Part.Part as PartView, declared.part.Part.TheVariants.Registry, Prelude.reads, Prelude.writes};
 
 use crate::op_parts::OpParts;
-use crate::{Access, Cursors, Items, NoMemory, Reply, steps};
+use crate::{Access, Cursors, Items, NoMemory, Refused, Reply, steps};
 use msg_world::{Lent, Part, ResNo, TypeNo, Value};
 use std::alloc::Global;
 
@@ -41,7 +41,7 @@ pub enum Op<V = i64> {
 
 impl<V: Value> Op<V> {
     ghost use Rattle.msg_world.specs.Prelude.{SameLoan};
-    ghost use Rattle.msg_system.specs.{Needs.keeps_to, Needs.needs_of, Needs.op_needs, Needs.type_read, Needs.type_written, Programs.op_parts, OpRuns.MayBeRefused, OpRuns.OpRan, OpRuns.cursor_places, Promises.Covers};
+    ghost use Rattle.msg_system.specs.{Needs.keeps_to, Needs.needs_of, Needs.op_needs, Needs.type_read, Needs.type_written, Programs.op_parts, Programs.refused_by, OpRuns.MayBeRefused, OpRuns.OpRan, OpRuns.cursor_places, Promises.Covers};
 
     /// The part that it reads, and the part that it writes.
     fn parts(&self) -> OpParts
@@ -82,6 +82,21 @@ impl<V: Value> Op<V> {
             Some(Part::OfType(t)) => Some(*t),
             _ => None,
         }
+    }
+
+    /// What it didn't write, if it was answered so.
+    pub fn refused(&self, reply: &Reply<V>) -> Option<Refused>
+        ensures refused { result ≡ refused_by self.now reply.now }
+    {
+        let (of_type, n) = match (self, reply) {
+            (Op::Write(t, _), Reply::Spent) => (*t, 1),
+            (Op::Batch(t, values), Reply::Spent) => (*t, values.as_slice().len() as u64),
+            (Op::Forward(_, t), Reply::Forwarded { took, wrote: None }) => {
+                (*t, took.items.as_slice().len() as u64)
+            }
+            _ => return None,
+        };
+        Some(Refused { of_type, n })
     }
 
     /// Whether it reads and writes no more than this access.

@@ -1,7 +1,7 @@
 ghost use Rattle.std.specs.Prelude.{◌≡◌};
 
 use crate::one_op::take_turn;
-use crate::{Access, Cursors, NoMemory, Numbered, Op, Reply, Start, SystemOf};
+use crate::{Access, Cursors, NoMemory, Numbered, Op, Refused, Reply, Start, SystemOf};
 use msg_world::{Counts, Lent, Taken, TypeNo, Value};
 use std::alloc::Global;
 use std::marker::PhantomData;
@@ -56,6 +56,14 @@ impl<V: Value> SystemOf for Relay<V> {
 
     fn read_type(&self, op: u32) -> Option<TypeNo> {
         if op == 0 { Some(self.from) } else { None }
+    }
+
+    fn refused(&self, op: u32, reply: &Reply<V>) -> Option<Refused> {
+        if op == 0 {
+            Op::Forward(self.from, self.to).refused(reply)
+        } else {
+            None
+        }
     }
 
     fn begins(&self) -> Start {

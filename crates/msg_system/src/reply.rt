@@ -1,10 +1,10 @@
 ghost use Rattle.std.specs.Prelude.{◌≡◌, slice_get};
 ghost use Rattle.std.specs.Option.{option_copied};
-ghost use Rattle.msg_system.specs.Prelude.{brought, is_cut, reply_took};
+ghost use Rattle.msg_system.specs.Prelude.{brought, is_cut, is_spent, reply_took};
 
 use crate::{Items, Op};
 use msg_buffer::Written;
-use msg_world::Record;
+use msg_world::{Record, TypeNo};
 
 /// What a read took: the messages from the number `first` on, and how many it had missed.
 #[derive(Debug, PartialEq, Eq, Drop)]
@@ -12,6 +12,13 @@ pub struct Took<V = i64> {
     pub missed: u64,
     pub first: u64,
     pub items: Items<Record<V>>,
+}
+
+/// What an op didn't write, since too few numbers of the type were left: so many messages.
+#[derive(Clone, Copy, Debug, PartialEq, Eq)]
+pub struct Refused {
+    pub of_type: TypeNo,
+    pub n: u64,
 }
 
 /// What an op answers.
@@ -64,6 +71,14 @@ impl<V> Reply<V> {
         ensures cut { result ≡ is_cut self.now }
     {
         matches!(self, Reply::Outside(_) | Reply::Full(_))
+    }
+
+    /// Whether it tells that messages weren't written, since too few numbers of their type were
+    /// left.
+    pub fn is_spent(&self) -> bool
+        ensures spent { result ≡ is_spent self.now }
+    {
+        matches!(self, Reply::Spent | Reply::Forwarded { wrote: None, .. })
     }
 
     /// What its op took, if that read messages.

@@ -4,7 +4,7 @@ ghost use Rattle.msg_world.specs.Prelude.{SameLoan};
 ghost use Rattle.msg_system.specs.{declared.limits.TheConstants.MAX_OPS, Needs.program_needs, OpRuns.cursor_places, inner.TurnRuns.HasReplies, inner.TurnRuns.ProgramRan, Promises.Covers};
 
 use crate::one_op::answer;
-use crate::{Access, Cursors, NoMemory, Numbered, Op, Program, Reply, Start, SystemOf};
+use crate::{Access, Cursors, NoMemory, Numbered, Op, Program, Refused, Reply, Start, SystemOf};
 use msg_world::{Counts, Lent, Taken, TypeNo, Value};
 use std::alloc::Global;
 
@@ -76,6 +76,12 @@ impl<V: Value> SystemOf for Scripted<V> {
     #[tactic(auto, using(std::proofs::lemmas::Grind::elements))]
     fn read_type(&self, op: u32) -> Option<TypeNo> {
         self.program.ops.as_slice().get(op as usize)?.read_type()
+    }
+
+    #[tactic(auto, using(std::proofs::lemmas::Grind::elements))]
+    fn refused(&self, op: u32, reply: &Reply<V>) -> Option<Refused> {
+        let ops = self.program.ops.as_slice();
+        ops.get(op as usize)?.refused(reply)
     }
 
     fn begins(&self) -> Start {

@@ -1,5 +1,5 @@
 // What every system promises, and every boxed one.
-use crate::{Access, NoMemory, Reply, Start};
+use crate::{Access, NoMemory, Refused, Reply, Start};
 use msg_world::{Counts, Lent, Taken, TypeNo, Value};
 use std::alloc::Global;
 
@@ -24,7 +24,7 @@ pub trait SystemOf: Drop {
 
     ghost use Rattle.std.specs.Prelude.{◌≡◌, IfOk};
     ghost use Rattle.msg_world.specs.Prelude.{SameShape, taken_of};
-    ghost use Rattle.msg_system.specs.{Needs.IsAccessOf, Needs.type_read_by, Promises.Covers, Promises.Ran, Systems.Meaning, Systems.after_start};
+    ghost use Rattle.msg_system.specs.{Needs.IsAccessOf, Needs.refused_in, Needs.type_read_by, Promises.Covers, Promises.Ran, Systems.Meaning, Systems.after_start};
 
     // What it does from now on. Of the calls of this trait only `start` and `run` change it.
     ghost meaning: { Self → Meaning Self.Value };
@@ -37,6 +37,11 @@ pub trait SystemOf: Drop {
     /// them from 0. None if that op reads no type, or there is no such op.
     fn read_type(&self, op: u32) -> Option<TypeNo>
         ensures type_read { result ≡ type_read_by (meaning self.now).last op };
+
+    /// What an op of its last turn didn't write, if it was answered so: too few numbers of the
+    /// type were left. `op` counts as for `read_type`.
+    fn refused(&self, op: u32, reply: &Reply<Self::Value>) -> Option<Refused>
+        ensures refused { result ≡ refused_in (meaning self.now).last op reply.now };
 
     /// Where its cursors start.
     fn begins(&self) -> Start
@@ -68,7 +73,7 @@ pub trait SystemOf: Drop {
 pub trait System: Send + Drop {
     ghost use Rattle.std.specs.Prelude.{◌≡◌, ℤ, IfOk};
     ghost use Rattle.msg_world.specs.Prelude.{SameShape, i64_values, taken_of};
-    ghost use Rattle.msg_system.specs.{Needs.IsAccessOf, Needs.type_read_by, Promises.Covers, Promises.Ran, Systems.Meaning, Systems.after_start};
+    ghost use Rattle.msg_system.specs.{Needs.IsAccessOf, Needs.refused_in, Needs.type_read_by, Promises.Covers, Promises.Ran, Systems.Meaning, Systems.after_start};
 
     // What it does from now on. Of the calls of this trait only `start` and `run` change it.
     ghost meaning: { Self → Meaning ℤ };
@@ -81,6 +86,11 @@ pub trait System: Send + Drop {
     /// them from 0. None if that op reads no type, or there is no such op.
     fn read_type(&self, op: u32) -> Option<TypeNo>
         ensures type_read { result ≡ type_read_by (meaning self.now).last op };
+
+    /// What an op of its last turn didn't write, if it was answered so: too few numbers of the
+    /// type were left. `op` counts as for `read_type`.
+    fn refused(&self, op: u32, reply: &Reply) -> Option<Refused>
+        ensures refused { result ≡ refused_in (meaning self.now).last op reply.now };
 
     /// Where its cursors start.
     fn begins(&self) -> Start
@@ -112,6 +122,10 @@ impl<S: SystemOf<Value = i64> + Send> System for S {
         SystemOf::read_type(self, op)
     }
 
+    fn refused(&self, op: u32, reply: &Reply) -> Option<Refused> {
+        SystemOf::refused(self, op, reply)
+    }
+
     fn begins(&self) -> Start {
         SystemOf::begins(self)
     }
@@ -140,6 +154,10 @@ impl SystemOf for Box<dyn System> {
 
     fn read_type(&self, op: u32) -> Option<TypeNo> {
         (**self).read_type(op)
+    }
+
+    fn refused(&self, op: u32, reply: &Reply) -> Option<Refused> {
+        (**self).refused(op, reply)
     }
 
     fn begins(&self) -> Start {

@@ -1,7 +1,7 @@
 ghost use Rattle.std.specs.Prelude.{◌≡◌};
 
 use crate::one_op::take_turn;
-use crate::{Access, Cursors, NoMemory, Numbered, Op, Reply, Start, SystemOf};
+use crate::{Access, Cursors, NoMemory, Numbered, Op, Refused, Reply, Start, SystemOf};
 use msg_world::{Counts, Lent, ResNo, Taken, TypeNo, Value};
 use std::alloc::Global;
 use std::marker::PhantomData;
@@ -55,6 +55,10 @@ impl<V: Value> SystemOf for Tally<V> {
 
     fn read_type(&self, op: u32) -> Option<TypeNo> {
         if op == 0 { Some(self.from) } else { None }
+    }
+
+    fn refused(&self, _op: u32, _reply: &Reply<V>) -> Option<Refused> {
+        None
     }
 
     fn begins(&self) -> Start {

@@ -1,4 +1,4 @@
-ghost use Rattle.std.specs.Prelude.{◌≡◌, ℕ, ◌+◌, ◌<◌, ◌≤◌, ◌↔◌, [], ◌∷◌, length, slice_index, slice_get, is_some, Some, None, IfOk, IfErr, IfSome, OnOk, OnErr, IsTrue, IsSome, IsSomeAnd, map, if◌then◌else◌};
+ghost use Rattle.std.specs.Prelude.{◌≡◌, ℕ, ◌+◌, ◌<◌, ◌≤◌, ◌↔◌, [], ◌∷◌, length, slice_index, slice_get, is_some, Some, None, IfOk, IfErr, IfSome, OnOk, OnErr, IsTrue, IsSome, IsSomeAnd, map, replicate, if◌then◌else◌};
 ghost use Rattle.std.specs.Option.{option_copied};
 ghost use Rattle.msg_buffer.specs.Prelude.{History, IsSpent, StandsFor, count, empty, message_refused, update, write};
 ghost use Rattle.msg_world.specs.Prelude.{IsApart, IsHome, IsWhole, LendsOut, OfResource, OfType, PartsStand, SameShape, TakesBack, WorldState, WritesTypeOrResource, after_update, by, has_bit, held_world, new_world, slot, with_history};
@@ -169,6 +169,25 @@ impl<V: Value> World<V> {
             marks,
             spares,
         })
+    }
+
+    /// A world that isn't held, with so many message types, each with as many numbers as there are,
+    /// and a resource for each value. A limit takes no memory; at a million messages a second these
+    /// last for half a million years.
+    ///
+    /// ```
+    /// let world = World::unlimited(alloc, 2, &[5])?; // two types, and a resource that is 5
+    /// ```
+    pub fn unlimited(alloc: Global, types: usize, resources: &[V]) -> Result<World<V>, NoMemory>
+        requires types { types ≤ MAX_TYPES }
+        requires resources { length resources.now ≤ MAX_RESOURCES }
+        ensures meaning { IfOk result
+            (λ w. PartsStand w (new_world V.values (replicate types u64.MAX) resources.now)) }
+        ensures whole { IfOk result IsWhole }
+        ensures types { IfOk result (λ w. length w.types ≡ types) }
+        ensures resources { IfOk result (λ w. length w.resources ≡ length resources.now) }
+    {
+        World::new(alloc, &[u64::MAX; MAX_TYPES][..types], resources)
     }
 
     /// A law: a world stands for some state, and has no more types and resources than it may.

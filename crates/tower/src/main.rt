@@ -219,10 +219,16 @@ fn quiet_frames(alloc: Global) -> anyhow::Result<Vec<Frame<Event>>> {
     Ok(frames)
 }
 
-/// Prints what became of each reader's messages, and how many lives are left.
+/// Prints what became of each reader's messages, what was refused of what was written, if something
+/// was, and how many lives are left.
 fn tell<R: Print>(rt: &R, engine: &EngineOf<Part, Event>) -> anyhow::Result<()> {
     for account in &engine.accounts()? {
         println!(rt; "{}", NAMES.account(*account, engine.backlog(account)))?;
+    }
+    for account in &engine.writer_accounts()? {
+        if account.refused > 0 {
+            println!(rt; "{}", NAMES.writer_account(*account))?;
+        }
     }
     if let Some(Event::Lives(left)) = engine.world().and_then(|world| world.resource(lives())) {
         println!(rt; "{left} of {LIVES} lives are left")?;
@@ -235,7 +241,7 @@ fn tell<R: Print>(rt: &R, engine: &EngineOf<Part, Event>) -> anyhow::Result<()> 
 fn main(rt: HostRuntime) -> anyhow::Result<()> {
     let (rt, alloc, workers) = (&rt, rt.alloc(), Workers::new(4).unwrap());
     let frames = quiet_frames(alloc)?;
-    let world = World::new(alloc, &[100; 9], &[Event::Lives(LIVES)])?;
+    let world = World::unlimited(alloc, 9, &[Event::Lives(LIVES)])?;
     let (first, others) = frames.split_at(frames.len() / 2);
     let (mut engine, mut logs) = defend(rt, alloc, lanes(alloc)?, world, first, workers)?;
     go_on(rt, &mut engine, others, workers, &mut logs)?;

@@ -6,10 +6,10 @@ use Rattle.msg_world.specs.{declared.part.Part.Part, Prelude.LendsOut, Prelude.S
 use Rattle.msg_order.specs.Prelude.{access_of}
 use Rattle.msg_system.specs.declared.op.Op.{Op}
 use Rattle.msg_system.specs.Prelude.{Meaning}
-use Rattle.msg_exec.specs.{Jobs.JobView, declared.lender.Lender.Lender, inner.Totals.entries_by, Keeping.capped_totals, Keeping.totals_at, Lender.system_at}
+use Rattle.msg_exec.specs.{Jobs.JobView, declared.lender.Lender.Lender, inner.Totals.totals_by, Keeping.capped_totals, Keeping.totals_at, Lender.system_at}
 use Rattle.msg_frames.specs.declared.log.Outcome.{Outcome}
 use Rattle.msg_frames.specs.declared.totals.Totals.{Totals}
-use Rattle.msg_frames.specs.Prelude.{State, reader_place, with_entries}
+use Rattle.msg_frames.specs.Prelude.{State, reader_place}
 
 -- whether any of these systems writes the part
 abbrev pub any_writes : List Access → List ℕ → Part → Bool
@@ -61,7 +61,7 @@ module _ {V : Type 0} where
       (old new : List Totals) : Type 0 where
     pub as_many : length new ≡ length old
     pub entered : (t : ℕ) (x : Totals) → t < length old → totals_at old t ≡ capped_totals x
-        → totals_at new t ≡ capped_totals (with_entries (entries_by t ops outcome) x)
+        → totals_at new t ≡ capped_totals (totals_by t ops outcome x)
 
 module _ {S V : Type 0} (meaning : S → Meaning V) where
   -- A system comes home from its turn, with what it gives back, and its totals are those after it.

@@ -7,7 +7,8 @@ use std::alloc::Global;
 use std::marker::Model;
 
 /// Reads a type in each turn, keeps what it read, and writes all of it in every turn of so many, in
-/// order. So nothing is lost, and a reader of what it writes has work in these turns alone.
+/// order. So a reader of what it writes has work in these turns alone. What is refused, since too few
+/// numbers are left of the type that it writes, isn't kept: it is counted in its writer's account.
 ///
 /// ```
 /// let slow = FunctionSystem::new(alloc, HoldBack::new(alloc, 10), [Port::Messages(hits)], [Port::Messages(tenth)])?;

@@ -2,8 +2,8 @@ use Rattle.std.proofs.Common.{arith, refl, not, ap}
 use Rattle.msg_exec.proofs.EntriesAreAdded.{entered_there, none_entered}
 use Rattle.msg_exec.proofs.totals.enter_turn.Goals as goal
 
-pub returns-then-tells_of_reader : goal.returns-then-tells_of_reader
-returns-then-tells_of_reader g c = record {
+pub returns-then-any_adds : goal.returns-then-any_adds
+returns-then-any_adds g c = record {
   entered = (
     _,
     refl,
@@ -14,11 +14,11 @@ returns-then-tells_of_reader g c = record {
   );
 }
 
-pub returns-else-tells_of_reader : goal.returns-else-tells_of_reader
-returns-else-tells_of_reader g c =
+pub returns-else-any_adds : goal.returns-else-any_adds
+returns-else-any_adds g c =
     let ops = (g.S.SystemOf.meaning c.args.system.now).last in
     record {
       entered = none_entered ops c.args.outcome.now
-          (λ t. c.tells_of_reader.ensures.none (ap not c.if-tells_of_reader.false) t ops) c.args.all.now.items c.args.number
+          (λ t x. c.any_adds.ensures.none (ap not c.if-any_adds.false) t ops x) c.args.all.now.items c.args.number
           c.requires.there;
     }

@@ -14,15 +14,15 @@ answer-requires g c =
     let long : c.len-before.result ≡ length c.args.out.now.items = search rules in
     let first = rw c.as_slice.ensures.items at c.in_ok-read_ports.ensures.ran in
     let told = parts_told _ _ _ _ _ _ _ first ∙ c.args.self.now.as_many_reads in
-    (omega arith, (rw (c.since.ensures.rest, c.as_slice-2.ensures.value, long) told, c.clear.ensures.nothing))
+    (omega arith, (rw (c.since.ensures.rest, c.as_slice-2.ensures.value, long) told, (search rules, c.clear.ensures.nothing)))
 
 pub write_lists-requires : goal.write_lists-requires
 write_lists-requires g c =
     let same = c.in_ok-read_ports.ensures.ran.same in (
       omega arith,
       (
-        rw c.as_slice-3.ensures.items c.args.self.now.as_many_writes,
-        rw c.as_slice-3.ensures.items (λ i d lt. still_writable _ _ _ same (writable_each _ _ _ c.requires.covers i d lt)),
+        rw c.as_slice-writes.ensures.items c.args.self.now.as_many_writes,
+        rw c.as_slice-writes.ensures.items (λ i d lt. still_writable _ _ _ same (writable_each _ _ _ c.requires.covers i d lt)),
       ),
     )
 
@@ -37,7 +37,16 @@ returns-clause-ran g c =
     let long : c.len-before.result ≡ length c.args.out.now.items = search rules in
     let made = rw (c.since.ensures.rest, c.as_slice-2.ensures.value, long) at c.in_ok-answer.ensures.answers in
     let first = rw c.as_slice.ensures.items at c.in_ok-read_ports.ensures.ran in
-    let second = rw c.as_slice-3.ensures.items at c.in_ok-write_lists.ensures.ran in
+    let second = rw c.as_slice-writes.ensures.items at c.in_ok-write_lists.ensures.ran in
+    let far : c.len-read.result ≡ length c.read_ports.new.out.items = search rules in
+    let noted = rw (
+      c.since-written.ensures.rest,
+      c.as_slice-3.ensures.value,
+      c.as_slice-writes.ensures.items,
+      c.in_ok-write_lists.ensures.stays,
+      far,
+    ) at c.note_refused.ensures.noted in
     rw c.in_ok-write_lists.ensures.stays
-    (function_ran g.T.Function.answers self.reads self.writes (rw (self.as_many_reads, self.as_many_writes) self.few) self.function self.start
-    _ _ _ _ _ _ _ _ _ _ _ _ (answered c.answer.new.outbox) first made second c.into_taken.ensures.taken)
+    (function_ran g.T.Function.answers self.reads self.writes (rw (self.as_many_reads, self.as_many_writes) self.few)
+    (record { memory = self.function; refused = self.refused }) self.start
+    _ _ _ _ _ _ _ _ _ _ _ _ (answered c.answer.new.outbox) _ first made second noted c.into_taken.ensures.taken)

@@ -7,5 +7,5 @@ returns g c =
     let system = c.args.self.now in record {
       law = λ s.
           (is_whole g.T.Function.answers system.reads system.writes (rw (system.as_many_reads, system.as_many_writes) system.few)
-          system.function system.start system.me.writer (cursor_places system.me.cursors) _ s).uncut;
+          (record { memory = system.function; refused = system.refused }) system.start system.me.writer (cursor_places system.me.cursors) _ s).uncut;
     }
