@@ -311,9 +311,9 @@ pub reads_first : {V M : Type 0} (answers : FunctionOf V M) (reads writes : List
     → BeginsTurnsWith (map read_op reads) (of_function answers reads writes kept start w ps last)
 reads_first {V} answers reads writes kept start w ps last few =
     let ops : List (Op V) = map read_op reads in
-    let n : Needs = ports_needs reads writes in
+    let many : length ops ≡ length reads = length-map _ _ in
     record {
-      few = omega (arith, few, length-map (read_op {V = V}) reads);
+      few = omega (arith, few, many);
       kept = λ i d lt.
           let at : slice_get (ops ++ []) i ≡ Some (get_or ops i d) = rw append-nil (slice_get-get_or ops i d lt) in
           grind (arith, all_kept reads writes nothing i (get_or ops i d) (slice_get-front ops (written_ops writes nothing) [] i lt ∙ at));

@@ -26,7 +26,6 @@ pub fn a_functions_turn_is_whole<
 /// Each turn of a function's system begins by reading all parts that it reads, whatever it is told.
 /// So it reads all of each type in each frame in which it runs, and what holds of such readers
 /// holds of it (`who_begins_reading_all_reads_all` of `msg_laws`).
-#[tactic(auto, using(crate::proofs::FunctionTurns::reads_first))]
 pub fn a_function_reads_first<T: Function<READS, WRITES>, const READS: usize, const WRITES: usize>()
     ensures law { (reads writes : List Port) (kept : Kept T) (start : Start) (writer : ℕ)
         (places : ℕ → ℕ) (last : List (Op T.Value))

@@ -16,7 +16,7 @@ mod ReadersTakeAll
 mod ReadersStayUpToDate
 mod ProgramsReadAll
 -- Turns that begin by reading all
-pub mod TurnsBegin
+mod TurnsBegin
 mod WakeUps
 mod BeginsWoken
 mod Latency

@@ -10,7 +10,7 @@ use Rattle.msg_system.specs.{Prelude.AfterProgram, Prelude.BeginsTurnsWith, Prel
 use Rattle.msg_system.proofs.Turns.{next_of_ops}
 use Rattle.msg_frames.proofs.BeforeTurns.{Prepares, comes, prepares, stood, waits}
 use Rattle.msg_frames.proofs.{ReaderOverTurns.one_member, SystemsStay.no_cycle_stays}
-use Rattle.msg_frames.specs.{Frames.turn_order, Prelude.State, Prelude.after_turn_of, Prelude.after_turns_of, Prelude.before_turns, Prelude.frame, Prelude.join_flags, declared.frame.Frame.Frame, declared.log.Outcome.TheVariants.Skipped}
+use Rattle.msg_frames.specs.{Frames.turn_order, Prelude.State, Prelude.after_turn_of, Prelude.after_turns_of, Prelude.before_turns, Prelude.frame, Prelude.join_flags, Prelude.logged_turn, declared.frame.Frame.Frame, declared.log.Outcome.TheVariants.Skipped, declared.log.Turn.Turn}
 use Rattle.msg_laws.proofs.{OneTurn.in_log, ProgramsReadAll.has_turn, ProgramsReadAll.turns_ran}
 use Rattle.msg_laws.specs.Prelude.{ReadsAllWhenWoken, WhoBeginsReadingAll, WhoBeginsReadingAllWhenWoken, reads_all}
 
@@ -20,14 +20,14 @@ use Rattle.msg_laws.specs.Prelude.{ReadsAllWhenWoken, WhoBeginsReadingAll, WhoBe
 asked_first : {V : Type 0} (test : Op V → Bool) (ops : List (Op V)) (rs : List (Reply V)) (next : List (Reply V) → Option (Op V))
     → length ops ≤ length rs → ((replies : List (Reply V)) → length replies < length ops → next replies ≡ slice_get ops (length replies))
     → IsTrue (list_any test ops) → IsTrue (list_any test (ops_answered next rs))
-asked_first test [] rs next many asks some = absurd some
+asked_first test [] rs next many asks some = absurd (false≢true some)
 asked_first test (o ∷ ops) [] next many asks some = absurd (omega (arith, many))
 asked_first test (o ∷ ops) (r ∷ rs) next many asks some =
     let first : next [] ≡ Some o = asks [] (omega arith) in
     let rest = asked_first test ops rs (λ replies. next (r ∷ replies)) (omega (arith, many)) (λ replies lt. asks (r ∷ replies) (omega (arith, lt))) in
     rw first (grind (arith, cases_Bool, rest, some))
 
-module _ {V : Type 0} {values : Values V} (ops : List (Op V)) (m : Meaning V) (begins : BeginsTurnsWith ops m) where
+module _ {V : Type 0} (ops : List (Op V)) (m : Meaning V) (begins : BeginsTurnsWith ops m) where
   kept_at : (k : ℕ) (op : Op V) → slice_get ops k ≡ Some op → IsTrue (keeps_to m.needs op)
   kept_at k op is =
       subst (λ o. IsTrue (keeps_to m.needs o)) (get_or_from_slice_get ops k op op is) (begins.kept k op (slice_get_within ops k op is))
@@ -36,55 +36,59 @@ module _ {V : Type 0} {values : Values V} (ops : List (Op V)) (m : Meaning V) (b
   asks replies lt =
       rw (begins.each [] replies lt) (next_of_ops m.needs ops (length replies) begins.few (λ op is. grind (arith, cases_Bool, kept_at (length replies) op is)))
 
-  module _ (w : WorldState values) where
-    no_shorter : (o : Option (Op V)) (far : AfterProgram values) → length far.replies ≤ length (one_more o m.writer far).replies
-    no_shorter None far = omega arith
-    no_shorter (Some op) far = omega (arith, length-append far.replies ((after_op op m.writer far.places far.world).reply ∷ []))
+module _ {V : Type 0} {values : Values V} (ops : List (Op V)) (m : Meaning V) (begins : BeginsTurnsWith ops m) (w : WorldState values) where
+  no_shorter : (o : Option (Op V)) (far : AfterProgram values) → length far.replies ≤ length (one_more o m.writer far).replies
+  no_shorter None far = omega arith
+  no_shorter (Some op) far = omega (arith, length-append far.replies ((after_op op m.writer far.places far.world).reply ∷ []))
 
-    one_longer : (o : Option (Op V)) (op : Op V) (far : AfterProgram values) → o ≡ Some op
-        → suc (length far.replies) ≤ length (one_more o m.writer far).replies
-    one_longer o op far is = rw is (omega (arith, length-append far.replies ((after_op op m.writer far.places far.world).reply ∷ [])))
+  one_longer : (o : Option (Op V)) (op : Op V) (far : AfterProgram values) → o ≡ Some op
+      → suc (length far.replies) ≤ length (one_more o m.writer far).replies
+  one_longer o op far is = rw is (omega (arith, length-append far.replies ((after_op op m.writer far.places far.world).reply ∷ [])))
 
-    so_long : (n : ℕ) → n ≤ length ops → n ≤ length (after_at_most n (next_op m) m.writer m.places w).replies
-    so_long zero le = omega arith
-    so_long (suc n) le =
-        let far : AfterProgram values = after_at_most n (next_op m) m.writer m.places w in
-        let had : n ≤ length far.replies = so_long n (omega (arith, le)) in
-        elim (cases_lt (length far.replies) (length ops)) [
-          | inl lt ↦ elim (slice_get_cases ops (length far.replies)).1 [
-            | inl found ↦ omega (arith, had, one_longer (next_op m far.replies) found.0 far (asks far.replies lt ∙ found.2))
-            | inr past ↦ absurd (omega (arith, lt, past.0))
-          ]
-          | inr ge ↦ omega (arith, le, ge, no_shorter (next_op m far.replies) far)
+  so_long : (n : ℕ) → n ≤ length ops → n ≤ length (after_at_most n (next_op m) m.writer m.places w).replies
+  so_long zero le = omega arith
+  so_long (suc n) le =
+      let far : AfterProgram values = after_at_most n (next_op m) m.writer m.places w in
+      let had : n ≤ length far.replies = so_long n (omega (arith, le)) in
+      elim (cases_lt (length far.replies) (length ops)) [
+        | inl lt ↦ elim (slice_get_cases ops (length far.replies)).1 [
+          | inl found ↦ omega (arith, had, one_longer (next_op m far.replies) found.0 far (asks ops m begins far.replies lt ∙ found.2))
+          | inr past ↦ absurd (omega (arith, lt, past.0))
         ]
+        | inr ge ↦ omega (arith, le, ge, no_shorter (next_op m far.replies) far)
+      ]
 
-    all_long : (n : ℕ) → length ops ≤ n → length ops ≤ length (after_at_most n (next_op m) m.writer m.places w).replies
-    all_long zero le = omega (arith, le)
-    all_long (suc n) le = elim (cases_lt n (length ops)) [
-      | inl lt ↦ omega (arith, lt, le, so_long (suc n) (omega (arith, lt)))
-      | inr ge ↦
-          let far : AfterProgram values = after_at_most n (next_op m) m.writer m.places w in
-          omega (arith, all_long n ge, no_shorter (next_op m far.replies) far)
-    ]
+  all_long : (n : ℕ) → length ops ≤ n → length ops ≤ length (after_at_most n (next_op m) m.writer m.places w).replies
+  all_long zero le = omega (arith, le)
+  all_long (suc n) le = elim (cases_lt n (length ops)) [
+    | inl lt ↦ omega (arith, lt, le, so_long (suc n) (omega (arith, lt)))
+    | inr ge ↦
+        let far : AfterProgram values = after_at_most n (next_op m) m.writer m.places w in
+        omega (arith, all_long n ge, no_shorter (next_op m far.replies) far)
+  ]
 
-    pub turn_reads : (test : Op V → Bool) → IsTrue (list_any test ops) → IsTrue (list_any test (ops_answered (next_op m) (turn m w).replies))
-    unfolding turn
-    turn_reads test some =
-        let far : AfterProgram values = after_at_most MAX_OPS (next_op m) m.writer m.places w in
-        let long : length ops ≤ length far.replies = all_long MAX_OPS begins.few in
-        asked_first test ops _ (next_op m)
-        (omega (arith, long, length-append far.replies (cut_after (m.rule []) far.replies))) asks some
+  pub turn_reads : (test : Op V → Bool) → IsTrue (list_any test ops) → IsTrue (list_any test (ops_answered (next_op m) (turn m w).replies))
+  unfolding turn
+  turn_reads test some =
+      let far : AfterProgram values = after_at_most MAX_OPS (next_op m) m.writer m.places w in
+      let long : length ops ≤ length far.replies = all_long MAX_OPS begins.few in
+      asked_first test ops _ (next_op m)
+      (omega (arith, long, length-append far.replies (cut_after (m.rule []) far.replies))) (asks ops m begins) some
 
 -- ---- turns of a frame
 
+module _ {V : Type 0} where
+  abbrev Begins : List (Op V) → Job V → Type 0
+  Begins ops j = BeginsTurnsWith ops j.system
+
+  abbrev SkippedIf : ℕ → Turn V → Type 0
+  SkippedIf i turn = turn.system ≡ i → turn.outcome ≡ Skipped
+
+  abbrev HasAsked : (Op V → Bool) → Job V → Type 0
+  HasAsked test j = IsTrue (list_any test j.system.last)
+
 module _ {V : Type 0} {values : Values V} (ops : List (Op V)) (test : Op V → Bool) (some : IsTrue (list_any test ops)) where
-  abbrev Begins : Job V → Type 0
-  Begins j = BeginsTurnsWith ops j.system
-
-  abbrev HasAsked : Job V → Type 0
-  HasAsked j = IsTrue (list_any test j.system.last)
-
-  job_begins : (j : Job V) (w : WorldState values) → Begins j → Begins (after_job j w).job
+  job_begins : (j : Job V) (w : WorldState values) → Begins ops j → Begins ops (after_job j w).job
   job_begins j w begins = elim (cases_Bool (all_hold j.conditions w)) [
     | inl ran ↦ rw ran (record {
       few = begins.few;
@@ -94,35 +98,35 @@ module _ {V : Type 0} {values : Values V} (ops : List (Op V)) (test : Op V → B
     | inr skipped ↦ rw skipped begins
   ]
 
-  job_asks : (j : Job V) (w : WorldState values) → Begins j → IsTrue (all_hold j.conditions w) → HasAsked (after_job j w).job
+  job_asks : (j : Job V) (w : WorldState values) → Begins ops j → IsTrue (all_hold j.conditions w) → HasAsked test (after_job j w).job
   job_asks j w begins ran = rw ran (turn_reads ops j.system begins w test some)
 
-  job_keeps : (j : Job V) (w : WorldState values) → Begins j → HasAsked j → HasAsked (after_job j w).job
+  job_keeps : (j : Job V) (w : WorldState values) → Begins ops j → HasAsked test j → HasAsked test (after_job j w).job
   job_keeps j w begins had = elim (cases_Bool (all_hold j.conditions w)) [
     | inl ran ↦ job_asks j w begins ran
     | inr skipped ↦ rw skipped had
   ]
 
   module _ (i : ℕ) where
-    turn_begins : (j : ℕ) (s : State values) → Begins (s.members i).job → Begins ((after_turn_of j s).members i).job
+    turn_begins : (j : ℕ) (s : State values) → Begins ops (s.members i).job → Begins ops ((after_turn_of j s).members i).job
     turn_begins j s begins =
-        one_member (λ m. Begins m.job) j i s (λ e. job_begins (s.members i).job s.world begins) (λ ne. begins)
+        one_member (λ m. Begins ops m.job) j i s (λ e. job_begins (s.members i).job s.world begins) (λ ne. begins)
 
-    turns_begin : (order : List ℕ) (s : State values) → Begins (s.members i).job → Begins ((after_turns_of order s).state.members i).job
+    turns_begin : (order : List ℕ) (s : State values) → Begins ops (s.members i).job → Begins ops ((after_turns_of order s).state.members i).job
     turns_begin [] s begins = begins
     turns_begin (j ∷ js) s begins = turns_begin js (after_turn_of j s) (turn_begins j s begins)
 
-    turns_keep_asked : (order : List ℕ) (s : State values) → Begins (s.members i).job → HasAsked (s.members i).job
-        → HasAsked ((after_turns_of order s).state.members i).job
+    turns_keep_asked : (order : List ℕ) (s : State values) → Begins ops (s.members i).job → HasAsked test (s.members i).job
+        → HasAsked test ((after_turns_of order s).state.members i).job
     turns_keep_asked [] s begins had = had
     turns_keep_asked (j ∷ js) s begins had =
         turns_keep_asked js (after_turn_of j s) (turn_begins j s begins)
-        (one_member (λ m. HasAsked m.job) j i s (λ e. job_keeps (s.members i).job s.world begins had) (λ ne. had))
+        (one_member (λ m. HasAsked test m.job) j i s (λ e. job_keeps (s.members i).job s.world begins had) (λ ne. had))
 
     -- it was skipped in all of these turns, or it has asked
-    skipped_or_asked : (order : List ℕ) (s : State values) → Begins (s.members i).job
+    skipped_or_asked : (order : List ℕ) (s : State values) → Begins ops (s.members i).job
         → All (λ turn. turn.system ≡ i → turn.outcome ≡ Skipped) (after_turns_of order s).turns
-        ⊎ HasAsked ((after_turns_of order s).state.members i).job
+        ⊎ HasAsked test ((after_turns_of order s).state.members i).job
     skipped_or_asked [] s begins = inl (All-nil (λ turn. turn.system ≡ i → turn.outcome ≡ Skipped))
     skipped_or_asked (j ∷ js) s begins =
         let next : State values = after_turn_of j s in
@@ -131,32 +135,32 @@ module _ {V : Type 0} {values : Values V} (ops : List (Op V)) (test : Op V → B
           | inl e ↦ elim (cases_Bool (all_hold (s.members i).job.conditions s.world)) [
             | inl ran ↦
                 inr (turns_keep_asked js next (turn_begins j s begins)
-                (one_member (λ m. HasAsked m.job) j i s (λ same. job_asks (s.members i).job s.world begins ran) (λ ne. absurd (ne (sym e)))))
+                (one_member (λ m. HasAsked test m.job) j i s (λ same. job_asks (s.members i).job s.world begins ran) (λ ne. absurd (ne (sym e)))))
             | inr skipped ↦ elim rest [
-              | inl all ↦ inl (All-cons _ _ _ (λ same. grind (arith, e, skipped, cases_Bool)) all)
+              | inl all ↦ inl (All-cons (SkippedIf i) (logged_turn s j) (after_turns_of js next).turns (λ same. grind (arith, e, skipped, cases_Bool)) all)
               | inr asked ↦ inr asked
             ]
           ]
           | inr ne ↦ elim rest [
-            | inl all ↦ inl (All-cons _ _ _ (λ same. absurd (ne same)) all)
+            | inl all ↦ inl (All-cons (SkippedIf i) (logged_turn s j) (after_turns_of js next).turns (λ same. absurd (ne same)) all)
             | inr asked ↦ inr asked
           ]
         ]
 
-    begun_so : (f : Frame V) (s : State values) → Begins (s.members i).job → Begins ((before_turns f.posts s).members i).job
+    begun_so : (f : Frame V) (s : State values) → Begins ops (s.members i).job → Begins ops ((before_turns f.posts s).members i).job
     begun_so f s begins = elim ((prepares f.posts s).arrival i) [
       | stood was now same ↦ rw same begins
       | comes was now new ↦ rw new (record { few = begins.few; kept = begins.kept; each = begins.each })
       | waits was now same ↦ rw same begins
     ]
 
-    frame_begins : (f : Frame V) (s : State values) → Begins (s.members i).job → Begins ((frame f s).state.members i).job
+    frame_begins : (f : Frame V) (s : State values) → Begins ops (s.members i).job → Begins ops ((frame f s).state.members i).job
     frame_begins f s begins =
         let b : State values = before_turns f.posts s in
         turns_begin (turn_order b) b (begun_so f s begins)
 
-    frame_asks : (f : Frame V) (s : State values) → Begins (s.members i).job
-        → All (λ turn. turn.system ≡ i → turn.outcome ≡ Skipped) (frame f s).log.turns ⊎ HasAsked ((frame f s).state.members i).job
+    frame_asks : (f : Frame V) (s : State values) → Begins ops (s.members i).job
+        → All (λ turn. turn.system ≡ i → turn.outcome ≡ Skipped) (frame f s).log.turns ⊎ HasAsked test ((frame f s).state.members i).job
     frame_asks f s begins =
         let b : State values = before_turns f.posts s in
         skipped_or_asked (turn_order b) b (begun_so f s begins)

@@ -82,7 +82,6 @@ pub fn what_is_written_is_read_in_time<V: Value>()
 /// A system each turn of which begins with ops of which one reads a type without limit does so if it
 /// runs; if it has joined and has no conditions, in each frame. Programs begin so, and so do
 /// functions, which read all their parts first (`a_function_reads_first` of `msg_function`).
-#[tactic(auto, using(crate::proofs::TurnsBegin::begins_reading_all, crate::proofs::TurnsBegin::begins_when_woken))]
 pub fn who_begins_reading_all_reads_all<V: Value>()
     ensures law { Spec.WhoBeginsReadingAll V.values }
     ensures woken { Spec.WhoBeginsReadingAllWhenWoken V.values }
