@@ -4,7 +4,7 @@ ghost use Rattle.msg_world.specs.Prelude.{IsLoanOf};
 ghost use Rattle.msg_system.specs.Prelude.{IsAccessOf};
 ghost use Rattle.msg_exec.specs.Jobs.{HasTakenTurn, outcome_if, guarded_needs};
 
-use crate::{Items, NoMemory, Outcome};
+use crate::{NoMemory, Outcome};
 use msg_system::{Guard, Reply, SystemOf};
 use msg_world::{Access, Lent, Taken, Value, World};
 use std::alloc::Global;
@@ -15,17 +15,6 @@ use std::marker::Model;
 pub struct GuardedSystem<S, V = i64> {
     pub system: S,
     pub guards: Vec<Guard<V>>,
-}
-
-/// What came of a turn: whether the system ran, and its replies.
-pub(crate) fn outcome_if<V: Value>(ran: bool, replies: Vec<Reply<V>>) -> Outcome<V>
-    ensures outcome { result ≡ outcome_if ran replies.items }
-{
-    if ran {
-        Outcome::Ran(Items::from_vec(replies))
-    } else {
-        Outcome::Skipped
-    }
 }
 
 /// Takes the turn of a system on parts that were lent to it: asks its conditions, and runs it if

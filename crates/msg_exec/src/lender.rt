@@ -3,7 +3,7 @@ ghost use Rattle.std.specs.Prelude.{◌≡◌, ◌<◌, ◌∷◌, [], IfOk, OnO
 ghost use Rattle.msg_frames.specs.Prelude.{State};
 ghost use Rattle.msg_exec.specs.{Prelude.LenderStands, inner.Batches.HasTurned};
 
-use crate::job::{GuardedSystem, Job, JobContents, outcome_if, take_turn};
+use crate::job::{GuardedSystem, Job, JobContents, take_turn};
 use crate::spares::Spares;
 use crate::totals::enter_turn;
 use crate::{NoMemory, Outcome, Totals, Turn};
@@ -107,7 +107,7 @@ pub(crate) fn run_turn<V: Value, S: SystemOf<Value = V>>(
     let world = &lender.world;
     let (taken, ran) = take_turn(alloc, guarded, world, access, taken, &mut replies)?;
     lender.world.take_back(taken);
-    let outcome = outcome_if(ran, replies);
+    let outcome = spares.outcome_if(ran, replies);
     enter_turn(&guarded.system, i, &mut lender.totals, &outcome);
     turns.push(Turn {
         system: number,

@@ -1,13 +1,13 @@
 // The jobs of a batch, side by side on one world.
-ghost use Rattle.std.specs.Prelude.{◌≤◌, All, IfOk, OnOk, length, min};
+ghost use Rattle.std.specs.Prelude.{◌≡◌, ◌≤◌, All, IfOk, OnOk, length, min};
 ghost use Rattle.std.specs.List.{AllZip};
-ghost use Rattle.msg_exec.specs.{Jobs.IsResult, Jobs.MayRun, inner.Batches.AreResults, inner.Batches.IsWithWorld};
+ghost use Rattle.msg_exec.specs.{Jobs.IsResult, Jobs.MayRun, Jobs.outcome_if, inner.Batches.AreResults, inner.Batches.IsWithWorld};
 ghost use Rattle.msg_workers.specs.Prelude.{EachMay, PassedGate};
 
-use crate::job::{Job, outcome_if, take_turn};
-use crate::{Gate, NoMemory, Runs, Workers};
+use crate::job::{Job, take_turn};
+use crate::{Gate, Items, NoMemory, Outcome, Runs, Workers};
 use msg_board::Work;
-use msg_system::SystemOf;
+use msg_system::{Reply, SystemOf};
 use msg_workers::{PlaceStatistics, run_jobs};
 use msg_world::{MAX_SYSTEMS, Taken, Value, World};
 use std::alloc::Global;
@@ -45,6 +45,18 @@ impl<'a, V: Value + Send + Sync, S: SystemOf<Value = V> + Send> Work for Batch<'
     ghost lawful = { λ j r. IsResult V.values S.meaning j.world.now j.job r };
 }
 
+/// What came of a turn: whether the system ran, and its replies. If it didn't run, their list is
+/// left.
+fn outcome_if<V: Value>(ran: bool, replies: Vec<Reply<V>>, left: &mut Vec<Reply<V>>) -> Outcome<V>
+    ensures outcome { result ≡ outcome_if ran replies.items }
+{
+    if ran {
+        return Outcome::Ran(Items::from_vec(replies));
+    }
+    *left = replies;
+    Outcome::Skipped
+}
+
 impl<'a, V: Value + Send + Sync, S: SystemOf<Value = V> + Send> Runs for Batch<'a, S, V> {
     ghost may = { λ j. MayRun S.meaning j.world.now j.job };
 
@@ -71,7 +83,9 @@ impl<'a, V: Value + Send + Sync, S: SystemOf<Value = V> + Send> Runs for Batch<'
             &mut replies,
         )?;
         contents.taken = taken;
-        contents.outcome = outcome_if(ran, replies);
+        let mut left = Vec::new(alloc);
+        contents.outcome = outcome_if(ran, replies, &mut left);
+        contents.replies = left;
         Ok(Job { guarded, contents })
     }
 }

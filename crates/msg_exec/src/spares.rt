@@ -1,9 +1,10 @@
 // Memory kept from one frame for the next. No reply depends on it.
 ghost use Rattle.std.specs.Prelude.{◌≡◌, [], IfOk};
+ghost use Rattle.msg_exec.specs.Jobs.{outcome_if};
 
 use crate::job::JobContents;
 use crate::size::work_estimate;
-use crate::{Log, NoMemory, Outcome, Turn};
+use crate::{Items, Log, NoMemory, Outcome, Turn};
 use msg_system::Reply;
 use msg_workers::FrameStatistics;
 use msg_world::{Access, MAX_SYSTEMS, Taken, Value, World};
@@ -76,20 +77,35 @@ impl<V: Value> Spares<V> {
         }
     }
 
-    /// What goes with a system to its turn, with an empty list of replies.
+    /// What came of a turn in place: whether the system ran, and its replies. If it didn't run, their
+    /// list is kept.
+    pub(crate) fn outcome_if(&mut self, ran: bool, replies: Vec<Reply<V>>) -> Outcome<V>
+        ensures outcome { result ≡ outcome_if ran replies.items }
+    {
+        if ran {
+            Outcome::Ran(Items::from_vec(replies))
+        } else {
+            self.keep_list(replies);
+            Outcome::Skipped
+        }
+    }
+
+    /// What goes with a system to its turn, with an empty list of replies: the one that came home
+    /// with it, if its last system didn't run.
     pub(crate) fn contents(&mut self, alloc: Global) -> Result<Box<JobContents<V>>, NoMemory>
         ensures empty { IfOk result (λ contents. contents.value.replies.items ≡ []) }
     {
-        let replies = self.replies(alloc);
         if let Some(mut contents) = self.contents.pop() {
-            contents.replies = replies;
+            if contents.replies.capacity() == 0 || !contents.replies.is_empty() {
+                contents.replies = self.replies(alloc);
+            }
             return Ok(contents);
         }
         let contents = JobContents {
             number: 0,
             access: Access::none(),
             taken: Taken::none(),
-            replies,
+            replies: self.replies(alloc),
             outcome: Outcome::Skipped,
         };
         Ok(Box::new(alloc, contents)?)
@@ -132,7 +148,12 @@ impl<V: Value> Spares<V> {
         while let Some(reply) = replies.pop() {
             keep_list_of(reply, world);
         }
-        if self.replies.len() < MAX_SPARES {
+        self.keep_list(replies);
+    }
+
+    /// Keeps a list of replies, if it has memory and there is room for it.
+    fn keep_list(&mut self, replies: Vec<Reply<V>>) {
+        if replies.capacity() > 0 && self.replies.len() < MAX_SPARES {
             let _kept = self.replies.push(replies);
         }
     }
