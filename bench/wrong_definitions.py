@@ -5,12 +5,9 @@ whether the proof of the function beside it is refused.
   wrong_definitions.py [WORD..]     those whose name has one of the words, or all
 
 A wrong definition is a block of lines. The first is its name. `law CRATE FUNCTION` names a law whose proof it breaks.
-`code CRATE FUNCTION` names a function whose body isn't what it says: only the code tells it from the right one.
-`example NAME` names a file of examples/answered: a program that is proved by the wrong definition prints something else
-than NAME.json.stdout. That is only listed here; `.ci/examples` gives the file to the program that is proved by the
-right one. Then come `file:`, `old:` and `new:`, as in a crate's must-fail edits, but with the path below crates/. The
-crates have to be proved in this clone (`rt all check`). A line tells what came of each, and the last line counts:
-`N passed, M failed`.
+`code CRATE FUNCTION` names a function whose body isn't what it says: only the code tells it from the right one. Then
+come `file:`, `old:` and `new:`, as in a crate's must-fail edits, but with the path below crates/. The crates have to be
+proved in this clone (`rt all check`). A line tells what came of each, and the last line counts: `N passed, M failed`.
 """
 import os
 import shutil
@@ -63,15 +60,9 @@ def main():
     words = sys.argv[1:]
     passed = failed = 0
     for name, words_of, changes in blocks(ROOT / "bench/wrong_definitions.txt"):
-        how, *where = words_of.split()
+        how, crate, function = words_of.split()
         if words and not any(word in name for word in words):
             continue
-        if how == "example":
-            there = (ROOT / "examples/answered" / f"{where[0]}.json.stdout").is_file()
-            failed += not there
-            print(f"{name}: {'not tried' if there else 'NOT THERE'}: the example {where[0]} tells it", flush=True)
-            continue
-        crate, function = where
         refused, said = tried(crate, function, changes)
         passed, failed = passed + refused, failed + (not refused)
         told = f"refused by the {how}" if refused else "NOT REFUSED by the " + how

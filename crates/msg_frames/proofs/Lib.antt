@@ -22,3 +22,5 @@ pub mod FirstStatesAreSound
 pub mod WrittenOnce
 pub mod ReaderOverRun
 pub mod ReplaysTellTheSame
+-- ---- worked runs
+pub mod WorkedRuns

@@ -11,3 +11,4 @@ pub mod Soundness
 pub mod Laws
 pub mod Accounts
 pub mod Logs
+pub mod WorkedRuns

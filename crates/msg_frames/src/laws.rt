@@ -1,6 +1,7 @@
 //! Laws: facts that hold of all systems' turns, of frames and of runs. Calling one makes its fact
 //! available to the caller's proof; it does nothing at run time.
 ghost use Rattle.msg_frames.specs.Prelude.{BatchesRunSideBySide, FirstIsSound, FrameStaysSound, FramesAgreeInLawfulOrders, ReplaysTellTheSame, RunStaysSound, RunsAreComplete};
+ghost use Rattle.msg_frames.specs.WorkedRuns.{AsksBothEachTime, JoinsBeforePosts};
 
 use msg_world::Value;
 
@@ -41,4 +42,11 @@ pub fn runs_are_complete<V: Value>()
 #[tactic(auto, using(crate::proofs::ReplaysTellTheSame::replays_tell))]
 pub fn replays_tell_the_same<V: Value>()
     ensures law { ReplaysTellTheSame V.values }
+{}
+
+/// What two frames come to for a reader that waits for messages of two types, and for one that
+/// joins late and starts at the count: worked out by hand.
+pub fn worked_runs()
+    ensures asks { AsksBothEachTime }
+    ensures joins { JoinsBeforePosts }
 {}
