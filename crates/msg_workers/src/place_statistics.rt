@@ -1,5 +1,5 @@
 // Whether workers have paid, and how many to start at once.
-ghost use Rattle.std.specs.Prelude.{◌≡◌, ◌+◌, ◌-◌, ◌*◌, ◌/◌, ◌<◌, ◌↔◌, ◌&&◌, ◌||◌, IsTrue, if◌then◌else◌, max, min, nat_le, nat_lt, not};
+ghost use Rattle.std.specs.Prelude.{◌≡◌, ◌+◌, ◌-◌, ◌*◌, ◌/◌, ◌<◌, ◌≤◌, ◌↔◌, ◌&&◌, ◌||◌, IsTrue, if◌then◌else◌, max, min, nat_le, nat_lt, not};
 
 /// At most so many batches run in place between two tries.
 const LONGEST_PAUSE: u32 = 256;
@@ -144,6 +144,8 @@ impl PlaceStatistics {
         } }
         ensures many { 2 < workers → self.new.many
             ≡ (nat_lt own jobs && nat_le jobs (4 * (jobs - own))) }
+        ensures many_of_two { workers ≤ 2 → self.new.many
+            ≡ nat_le (max (jobs * 3 / 8) 1) (jobs - own) }
     {
         let others = jobs.saturating_sub(own);
         let is_short = own > jobs / 2 || came < self.at_once.div_ceil(2);
@@ -151,7 +153,7 @@ impl PlaceStatistics {
         let least = if workers > 2 {
             jobs.div_ceil(4)
         } else {
-            jobs.saturating_mul(3) / 8
+            (u64::from(jobs) * 3 / 8) as u32
         };
         self.jobs = jobs;
         self.others = others;
