@@ -5,11 +5,13 @@
 //! `frame_bench KIND FRAMES [WORKERS]`, where KIND says what each system does in its turn: `idle`
 //! nothing, `skipped` has a condition that doesn't hold, `get` gets a resource, `len` asks for a
 //! length, `write` writes a message, `batch` writes 1,024, `read` reads two by a script, `limited`
-//! reads one of two, `decide` reads two by a behavior, and `function` by a function. Of `boxed` each
-//! system is in a box, and half of them read by a script and half by a behavior. In the first frame
-//! alone, and skipped in the others, `large` reads 4,096 at once, and `many` reads 64, each by an op
-//! of its own. Of `replayed` each system does nothing, and each frame is run after it was replayed.
-//! On one worker, or on that many.
+//! reads one of two, `decide` reads two by a behavior, and `function` reads two and writes one by a
+//! function. `forward` forwards two, `sum` adds two to a resource, and of `drain` each system drains
+//! a type of its own, to one of which two were posted. Of `half` each two are one of `skipped` and
+//! one of `get`. Of `boxed` each system is in a box, and half of them read by a script and half by a
+//! behavior. In the first frame alone, and skipped in the others, `large` reads 4,096 at once, and
+//! `many` reads 64, each by an op of its own. Of `replayed` each system does nothing, and each frame
+//! is run after it was replayed. On one worker, or on that many.
 #![tactic(auto)]
 
 ghost use Rattle.std.specs.Prelude.{◌≤◌, IfOk, length};
@@ -86,6 +88,9 @@ fn ops_of(
         "batch" => ops.push(batch(alloc, own)?)?,
         "read" | "large" => ops.push(Op::Read(shared, None))?,
         "limited" => ops.push(Op::Read(shared, Some(1)))?,
+        "forward" => ops.push(Op::Forward(shared, own))?,
+        "sum" => ops.push(Op::Sum(shared, r))?,
+        "drain" => ops.push(Op::Drain(own))?,
         "many" => {
             for _ in 0..MAX_OPS {
                 ops.push(Op::Read(shared, Some(1)))?;
@@ -99,7 +104,9 @@ fn ops_of(
 /// How many messages the host posts in the first frame of this kind, and in each later one.
 fn posts_of(kind: &str) -> (u32, u32) {
     match kind {
-        "read" | "limited" | "decide" | "function" | "boxed" => (2, 2),
+        "read" | "limited" | "decide" | "function" | "boxed" | "forward" | "sum" | "drain" => {
+            (2, 2)
+        }
         "large" => (4_096, 0),
         "many" => (64, 0),
         _ => (0, 0),
@@ -178,14 +185,21 @@ fn readers(alloc: Global, from: TypeNo) -> anyhow::Result<EngineBuilder<Behavior
     Ok(systems)
 }
 
+/// The type that system `t` writes, of those that all read the first: its own, but for system 0.
+fn other_type(t: u32) -> Option<TypeNo> {
+    TypeNo::new(t.max(1))
+}
+
 /// Systems that are one function.
 fn hearers(
     alloc: Global,
     from: TypeNo,
-) -> anyhow::Result<EngineBuilder<FunctionSystem<Hearing, 1, 0>>> {
+) -> anyhow::Result<EngineBuilder<FunctionSystem<Hearing, 1, 1>>> {
     let mut systems = EngineBuilder::new(alloc);
-    for _ in 0..SYSTEMS {
-        let hearer = FunctionSystem::new(alloc, Hearing { heard: 0 }, [Port::Messages(from)], [])?;
+    for t in 0..SYSTEMS {
+        let to = other_type(t).context("a type")?;
+        let (from, to) = (Port::Messages(from), Port::Messages(to));
+        let hearer = FunctionSystem::new(alloc, Hearing { heard: 0 }, [from], [to])?;
         systems.add_system(hearer, Vec::new(alloc), 1)?;
     }
     Ok(systems)
@@ -224,6 +238,15 @@ fn add_script(
     Ok(())
 }
 
+/// The kind of script `t`, of those of this kind.
+fn kind_of(kind: &str, t: u32) -> &str {
+    match (kind, t % 2) {
+        ("half", 0) => "skipped",
+        ("half", _) => "get",
+        _ => kind,
+    }
+}
+
 /// Scripts of this kind, each with a type of its own.
 fn scripts(
     alloc: Global,
@@ -233,8 +256,12 @@ fn scripts(
 ) -> anyhow::Result<EngineBuilder<Scripted>> {
     let mut systems = EngineBuilder::new(alloc);
     for t in 0..SYSTEMS {
-        let own = TypeNo::new(t).context("a type")?;
-        add_script(&mut systems, alloc, kind, own, shared, r)?;
+        let own = match kind {
+            "forward" => other_type(t),
+            _ => TypeNo::new(t),
+        };
+        let own = own.context("a type")?;
+        add_script(&mut systems, alloc, kind_of(kind, t), own, shared, r)?;
     }
     Ok(systems)
 }
