@@ -1,26 +1,20 @@
--- The accesses of the systems of a scenario, and the plan that they make.
-use Rattle.std.proofs.Common.{◌≡◌, ℕ, zero, suc, ◌+◌, ◌<◌, false, List, [], ◌∷◌, ◌++◌, length, map, nat_le, get_or, take, refl, subst, sym, ap, ◌∙◌, IsTrue, All, slice_index_or, arith, ℤ, max}
-use Rattle.std.specs.List.{concat, enumerate_from}
-use Rattle.std.proofs.lemmas.{Bool.false≢true, List.take_more, List.length-map, List.Elements.All-tail, List.FromFn.fill_by_all, List.FromFn.length-enumerate_from, Nat.Bits.bit_at-zero, Simd.map-map, Slice.Zip.AllZip-long}
-use Rattle.std.proofs.lemmas.List.{map-id}
+-- The accesses of the systems of a scenario, and what their order comes of.
+use Rattle.std.proofs.Common.{◌≡◌, ℕ, zero, suc, ◌+◌, ◌<◌, false, List, [], ◌∷◌, ◌++◌, length, map, get_or, take, refl, subst, sym, ap, ◌∙◌, IsTrue, All, slice_index_or, arith, ℤ}
+use Rattle.std.specs.List.{enumerate_from, range_with_len}
+use Rattle.std.proofs.lemmas.{Bool.false≢true, List.take_more, List.length-map, List.map-id, List.Elements.All-tail, List.FromFn.fill_by_all, List.FromFn.length-enumerate_from, Nat.Bits.bit_at-zero, Simd.map-map, Slice.Zip.AllZip-long}
 use Rattle.msg_world.specs.{declared.part.Part.Part, declared.part.Part.TheVariants.OfResource, declared.part.Part.TheVariants.OfType, declared.part.Part.TheVariants.Registry, Prelude.HasPart, Prelude.no_access, Prelude.i64_values}
 use Rattle.msg_world.specs.declared.access.Access.{Access}
 use Rattle.msg_system.specs.Prelude.{IsAccessOf, Meaning, Needs, needs_any, new_asked, new_system, with_conditions}
-use Rattle.msg_order.specs.Prelude.{IsPlanOf, access_of, plan_of}
-use Rattle.msg_order.proofs.PlanViews.{plan_paths}
-use Rattle.msg_frames.specs.Prelude.{AreAccessesOf, SameSystems, State, UsesParts, before_joining, join_flags, member_needs, default_system, default_place, waiting_member}
+use Rattle.msg_order.specs.Prelude.{access_of}
+use Rattle.msg_frames.specs.Prelude.{AreAccessesOf, SameSystems, State, UsesParts, before_joining, member_needs, default_system, default_place, waiting_member}
 use Rattle.msg_frames.specs.Prelude.{SameMember}
 use Rattle.msg_frames.specs.Frames.{Member}
 use Rattle.msg_frames.specs.declared.place.Place.{Place}
-use Rattle.msg_frames.specs.Frames.{settled_order}
-use Rattle.msg_frames.proofs.{Functions.order_among, Functions.plan_is, SystemsStay.joining_on_keeps}
+use Rattle.msg_frames.proofs.SystemsStay.{joining_on_keeps}
 use Rattle.msg_reading.specs.Prelude.{IsRunnable, first_world, meanings_of, places_of, state_of}
 use Rattle.msg_reading.specs.{declared.scenario.Scenario.Scenario, declared.scenario.SystemSpec.SystemSpec}
 use Rattle.msg_world.specs.declared.limits.TheConstants.{MAX_RESOURCES, MAX_TYPES}
-use Rattle.msg_advice.specs.Order.{batches_in, precedes, state_in}
-use Rattle.msg_advice.specs.inner.Planned.{IsPlanned}
-use Rattle.msg_advice.specs.inner.Tables.{AreAccesses, joined_by, spec_needs}
-use Rattle.msg_advice.specs.declared.planned.Planned.TheInside.{Inside}
+use Rattle.msg_advice.specs.inner.Tables.{AreAccesses, spec_needs}
 
 -- ---- accesses
 
@@ -73,19 +67,15 @@ within_from P n (x ∷ xs) each (suc i) p needed =
     within_from P (n + 1) xs
     (All-tail (λ (y : SystemSpec). (q : Part) → IsTrue (needs_any (spec_needs y) q) → P q) x xs each) i p needed
 
--- ---- who has joined
+-- ---- when they join
 
-flags_from : (k : ℕ) (xs : List SystemSpec) (i : ℕ) → i < length xs
-    → get_or (joined_by xs k) i false ≡ nat_le (slice_index_or (map (λ x. x.place) xs) i default_place).join k
-flags_from k [] i lt = absurd (omega arith)
-flags_from k (x ∷ xs) zero lt = refl
-flags_from k (x ∷ xs) (suc i) lt = flags_from k xs i (omega (arith, lt))
+joins_from : (xs : List SystemSpec) (i : ℕ) → i < length xs
+    → get_or (map (λ x. x.place.join) xs) i 0 ≡ (slice_index_or (map (λ x. x.place) xs) i default_place).join
+joins_from [] i lt = absurd (omega arith)
+joins_from (x ∷ xs) zero lt = refl
+joins_from (x ∷ xs) (suc i) lt = joins_from xs i (omega (arith, lt))
 
--- ---- the plan
-
--- what system i reads and writes, its conditions too
-unfoldable needs_in : Scenario → ℕ → Needs
-needs_in s i = member_needs ((state_of s).members i)
+-- ---- what they are arranged as
 
 needs_stay : (m n : Member ℤ) → SameMember m n → member_needs n ≡ member_needs m
 needs_stay m n same = grind arith
@@ -104,54 +94,32 @@ module _ (s : Scenario) where
   joined : SameSystems early (state_of s)
   joined = joining_on_keeps 1 early
 
-  needs_are : (i : ℕ) → needs_in s i ≡ needs_from 0 s.systems i
-  unfolding needs_in
+  needs_are : (i : ℕ) → member_needs ((state_of s).members i) ≡ needs_from 0 s.systems i
   needs_are i =
       needs_stay (early.members i) ((state_of s).members i) (joined.members i)
       ∙ waiting_needs (slice_index_or (meanings_of s) i default_system) (slice_index_or (places_of s) i default_place)
 
-  access_is : (bs : List Access) → AreAccesses s.systems bs → (i : ℕ) → IsAccessOf (needs_in s i) (access_of bs i)
-  access_is bs are i = rw (needs_are i) (access_from 0 s.systems bs are i)
-
   as_many : length (meanings_of s) ≡ length s.systems
   as_many = length-map (enumerate_from 0 s.systems) (λ x. new_system x.1.program x.0) ∙ length-enumerate_from 0 s.systems
 
-  module _ (k : ℕ) (some : 0 < k) (runnable : IsRunnable s) where
-    few_parts : UsesParts (state_in s k)
-    unfolding needs_in
-    few_parts i lt p needed =
-        within_from (HasPart MAX_TYPES MAX_RESOURCES) 0 s.systems
-        (λ j x l q n. elim q as (λ r. HasPart (length s.types) (length s.resources) r → HasPart MAX_TYPES MAX_RESOURCES r) [
-          | OfType t ↦ λ below. omega (arith, below, runnable.few_types)
-          | OfResource r ↦ λ below. omega (arith, below, runnable.few_resources)
-          | Registry ↦ λ below. tt
-        ] ((runnable.systems j x l).fits q n)) i p (subst (λ n. IsTrue (needs_any n p)) (needs_are i) needed)
+  pub few_parts : IsRunnable s → UsesParts (state_of s)
+  few_parts runnable i lt p needed =
+      within_from (HasPart MAX_TYPES MAX_RESOURCES) 0 s.systems
+      (λ j x l q n. elim q as (λ r. HasPart (length s.types) (length s.resources) r → HasPart MAX_TYPES MAX_RESOURCES r) [
+        | OfType t ↦ λ below. omega (arith, below, runnable.few_types)
+        | OfResource r ↦ λ below. omega (arith, below, runnable.few_resources)
+        | Registry ↦ λ below. tt
+      ] ((runnable.systems j x l).fits q n)) i p (subst (λ n. IsTrue (needs_any n p)) (needs_are i) needed)
 
-    flags : joined_by s.systems k ≡ join_flags (state_in s k)
-    flags =
-        let u = state_in s k in
-        fill_by_all (λ i. nat_le (u.members i).join (max 1 u.frames)) (joined_by s.systems k) (length (meanings_of s)) false
-        (length-map s.systems (λ x. nat_le x.place.join k) ∙ sym as_many)
-        (λ i lt. flags_from k s.systems i (omega (arith, as_many, lt)) ∙ grind (arith, joined.members i))
+  pub joins_are : map (λ x. x.place.join) s.systems
+      ≡ map (λ i. ((state_of s).members i).join) (range_with_len 0 (state_of s).systems)
+  joins_are =
+      fill_by_all (λ i. ((state_of s).members i).join) (map (λ x. x.place.join) s.systems) (length (meanings_of s)) 0
+      (length-map s.systems (λ x. x.place.join) ∙ sym as_many)
+      (λ i lt. joins_from s.systems i (omega (arith, as_many, lt)) ∙ grind (arith, joined.members i))
 
-    accesses_are : (bs : List Access) → AreAccesses s.systems bs → AreAccessesOf (state_in s k) bs
-    unfolding needs_in
-    accesses_are bs are = record {
-      each = AllZip-long _ s.systems bs are ∙ sym as_many;
-      of_needs = λ i lt. access_is bs are i;
-    }
-
-    pub is_planned : (p : Inside) → p.scenario.now ≡ s → p.frame ≡ k → AreAccesses s.systems p.accesses.items
-        → IsPlanOf p.accesses.items s.rules (joined_by s.systems k) p.plan → p.turns.items ≡ concat p.plan.batches
-        → IsPlanned p
-    unfolding precedes batches_in
-    is_planned p scenario frame are plan turns =
-        let t : State i64_values = state_in s k in
-        let bs : List Access = p.accesses.items in
-        let is : p.plan ≡ plan_of (settled_order t) (join_flags t) =
-        plan_is t bs p.plan few_parts (accesses_are bs are) (rw flags at plan) in
-        record {
-          paths = rw (scenario, frame, is) (plan_paths (settled_order t) (join_flags t) (order_among t));
-          batches = rw (scenario, frame, is) refl;
-          turns = rw (scenario, frame, turns, is) refl;
-        }
+  pub accesses_are : (bs : List Access) → AreAccesses s.systems bs → AreAccessesOf (state_of s) bs
+  accesses_are bs are = record {
+    each = AllZip-long _ s.systems bs are ∙ sym as_many;
+    of_needs = λ i lt. rw (needs_are i) (access_from 0 s.systems bs are i);
+  }

@@ -1,19 +1,17 @@
 // The text of batches, and of the longest chain through them.
-use crate::names::system_name;
-use crate::planned::Planned;
 use crate::put::Form;
-use msg_reading::Scenario;
+use crate::subject::{Subject, Told};
 use msg_world::NoMemory;
 
 /// Systems, each with a space in front.
 fn add_members(
     text: &mut String,
-    scenario: &Scenario,
+    subject: &Subject,
     form: Form,
     systems: &[u32],
 ) -> Result<(), NoMemory> {
     for system in systems {
-        let name = system_name(scenario, *system);
+        let name = subject.system(*system);
         match form {
             Form::Lines => write!(text, " {name}")?,
             Form::Dot => write!(text, " \"{name}\";")?,
@@ -23,17 +21,13 @@ fn add_members(
 }
 
 /// Each batch, counted from 1. For Graphviz its systems stand side by side.
-pub(crate) fn add_batches(
-    text: &mut String,
-    planned: &Planned,
-    form: Form,
-) -> Result<(), NoMemory> {
-    for (b, batch) in planned.batches().iter().enumerate() {
+pub(crate) fn add_batches(text: &mut String, told: &Told, form: Form) -> Result<(), NoMemory> {
+    for (b, batch) in told.planned.batches().iter().enumerate() {
         match form {
             Form::Lines => write!(text, "batch {}:", b as u64 + 1)?,
             Form::Dot => text.push_str("  { rank=same;")?,
         }
-        add_members(text, planned.scenario(), form, batch)?;
+        add_members(text, &told.subject, form, batch)?;
         text.push_str(match form {
             Form::Lines => "\n",
             Form::Dot => " }\n",
@@ -43,9 +37,9 @@ pub(crate) fn add_batches(
 }
 
 /// The line of the longest chain, and how many systems it has.
-pub(crate) fn add_chain(text: &mut String, planned: &Planned) -> Result<(), NoMemory> {
-    let chain = planned.chain(*text.allocator())?;
+pub(crate) fn add_chain(text: &mut String, told: &Told) -> Result<(), NoMemory> {
+    let chain = told.planned.chain(*text.allocator())?;
     text.push_str("longest chain:")?;
-    add_members(text, planned.scenario(), Form::Lines, &chain)?;
+    add_members(text, &told.subject, Form::Lines, &chain)?;
     writeln!(text, " ({})", chain.len())
 }

@@ -1,15 +1,15 @@
 // The text that tells why each system is before the next: a rule says so, or one of them writes a
 // part of the world that the other reads or writes.
-use crate::names::{resource_name, resources_of, system_name, type_name, types_of};
-use crate::planned::Planned;
 use crate::put::Form;
-use msg_reading::Scenario;
+use crate::subject::{Subject, Told};
+use msg_names::Name;
+use msg_order::Rule;
 use msg_world::{Access, NoMemory, Part};
 use std::alloc::Global;
 
-/// The first rule that puts a system before another, by its place in the file.
-pub(crate) fn rule_between(scenario: &Scenario, earlier: u32, later: u32) -> Option<usize> {
-    let mut rules = scenario.rules.as_slice().iter();
+/// The first rule that puts a system before another, by its place among all.
+pub(crate) fn rule_between(rules: &[Rule], earlier: u32, later: u32) -> Option<usize> {
+    let mut rules = rules.iter();
     rules.position(|rule| rule.earlier == earlier && rule.later == later)
 }
 
@@ -26,74 +26,74 @@ fn collide(writing: &Access, other: &Access, part: Part) -> bool {
     }
 }
 
-/// The parts of a scenario's world.
-fn parts_of(alloc: Global, scenario: &Scenario) -> Result<Vec<Part>, NoMemory> {
+/// The parts of the world.
+fn parts_of(alloc: Global, subject: &Subject) -> Result<Vec<Part>, NoMemory> {
     let mut parts = Vec::new(alloc);
-    for t in types_of(alloc, scenario)?.as_slice() {
+    for t in subject.types(alloc)?.as_slice() {
         parts.push(Part::OfType(*t))?;
     }
-    for r in resources_of(alloc, scenario)?.as_slice() {
+    for r in subject.resources(alloc)?.as_slice() {
         parts.push(Part::OfResource(*r))?;
     }
     parts.push(Part::Registry)?;
     Ok(parts)
 }
 
-fn add_part(text: &mut String, scenario: &Scenario, part: Part) -> Result<(), NoMemory> {
-    match part {
-        Part::OfType(t) => write!(text, "type {}", type_name(scenario, t)),
-        Part::OfResource(r) => write!(text, "resource {}", resource_name(scenario, r)),
-        Part::Registry => text.push_str("registry"),
+/// A part, by what it is and its name.
+pub(crate) fn add_part(text: &mut String, subject: &Subject, part: Part) -> Result<(), NoMemory> {
+    let (kind, name) = match part {
+        Part::OfType(t) => ("type ", subject.of_type(t)),
+        Part::OfResource(r) => ("resource ", subject.resource(r)),
+        Part::Registry => return text.push_str("registry"),
+    };
+    if let Name::Given(_) = name {
+        text.push_str(kind)?;
     }
+    write!(text, "{name}")
 }
 
 /// The causes for which system `i` is before system `j`, with `, ` between two.
-fn add_causes(text: &mut String, planned: &Planned, i: u32, j: u32) -> Result<(), NoMemory> {
-    let scenario = planned.scenario();
+fn add_causes(text: &mut String, told: &Told, i: u32, j: u32) -> Result<(), NoMemory> {
+    let Told { planned, subject } = told;
     let (a, b) = (planned.access(i), planned.access(j));
     let start = text.len();
-    if rule_between(scenario, i, j).is_some() {
+    if rule_between(subject.rules(), i, j).is_some() {
         text.push_str("rule")?;
     }
-    for part in parts_of(*text.allocator(), scenario)?.as_slice() {
+    for part in parts_of(*text.allocator(), subject)?.as_slice() {
         if collide(&a, &b, *part) || collide(&b, &a, *part) {
             if text.len() > start {
                 text.push_str(", ")?;
             }
-            add_part(text, scenario, *part)?;
+            add_part(text, subject, *part)?;
         }
     }
     Ok(())
 }
 
 /// For Graphviz an arrow, dashed if no rule is one of its causes.
-fn add_edge(
-    text: &mut String,
-    planned: &Planned,
-    form: Form,
-    i: u32,
-    j: u32,
-) -> Result<(), NoMemory> {
-    let scenario = planned.scenario();
-    let (earlier, later) = (system_name(scenario, i), system_name(scenario, j));
+fn add_edge(text: &mut String, told: &Told, form: Form, i: u32, j: u32) -> Result<(), NoMemory> {
+    let subject = &told.subject;
+    let (earlier, later) = (subject.system(i), subject.system(j));
     match form {
         Form::Lines => write!(text, "{earlier} before {later}: ")?,
         Form::Dot => write!(text, "  \"{earlier}\" -> \"{later}\" [label=\"")?,
     }
-    add_causes(text, planned, i, j)?;
+    add_causes(text, told, i, j)?;
     text.push_str(match form {
         Form::Lines => "\n",
-        Form::Dot if rule_between(scenario, i, j).is_some() => "\"];\n",
+        Form::Dot if rule_between(subject.rules(), i, j).is_some() => "\"];\n",
         Form::Dot => "\", style=dashed];\n",
     })
 }
 
 /// Adds each system that is before another with none between them.
-pub(crate) fn add_edges(text: &mut String, planned: &Planned, form: Form) -> Result<(), NoMemory> {
+pub(crate) fn add_edges(text: &mut String, told: &Told, form: Form) -> Result<(), NoMemory> {
+    let planned = told.planned;
     for i in planned.turns() {
         for j in planned.turns() {
             if planned.is_next(*i, *j) {
-                add_edge(text, planned, form, *i, *j)?;
+                add_edge(text, told, form, *i, *j)?;
             }
         }
     }

@@ -1,12 +1,14 @@
-// The plan of one frame of a scenario, with what each system reads and writes.
-ghost use Rattle.std.specs.Prelude.{◌≡◌, ◌<◌, ◌&&◌, IfOk, find, length, map};
+// The plan of one frame, with what each system reads and writes.
+ghost use Rattle.std.specs.Prelude.{◌≡◌, ◌<◌, ◌&&◌, IfOk, find, map};
 ghost use Rattle.std.specs.List.{concat, list_any};
 ghost use Rattle.msg_system.specs.Prelude.{IsAccessOf};
-ghost use Rattle.msg_order.specs.Prelude.{IsPlanOf};
-ghost use Rattle.msg_reading.specs.Prelude.{IsRunnable};
-ghost use Rattle.msg_advice.specs.Prelude.{batches_in, chain, is_next, link, precedes, turns_in};
-ghost use Rattle.msg_advice.specs.inner.Tables.{AreAccesses, joined_by, spec_needs};
+ghost use Rattle.msg_order.specs.Prelude.{PlanView};
+ghost use Rattle.msg_frames.specs.Prelude.{IsArrangementOf, IsOrderly};
+ghost use Rattle.msg_reading.specs.Prelude.{IsRunnable, state_of};
+ghost use Rattle.msg_advice.specs.Prelude.{IsPlanFor, chain, is_next, link, plan_in, precedes, turns_in};
+ghost use Rattle.msg_advice.specs.inner.Tables.{AreAccesses, spec_needs};
 
+use msg_frames::Arrangement;
 use msg_order::Plan;
 use msg_reading::{Scenario, SystemSpec};
 use msg_system::job_access;
@@ -14,8 +16,8 @@ use msg_world::{Access, NoMemory};
 use std::alloc::Global;
 use std::marker::Model;
 
-/// In which order the systems of a scenario take their turns in one frame. Nothing is run for it.
-/// Contracts see it as the scenario and the number of the frame.
+/// In which order the systems of a scenario, or of an engine, take their turns in one frame.
+/// Nothing is run for it.
 ///
 /// ```
 /// let planned = plan_frame(alloc, &scenario, 1)?;
@@ -24,24 +26,18 @@ use std::marker::Model;
 /// }
 /// ```
 #[derive(Drop)]
-pub struct Planned<'a> {
-    scenario: &'a Scenario,
-    frame: u32,
+pub struct Planned {
     accesses: Vec<Access>,
     plan: Plan,
     turns: Vec<u32>,
 }
 
-impl<'a> Model for Planned<'a> {
-    ghost use Rattle.msg_advice.specs.Order.{FrameOf};
+impl Model for Planned {
+    ghost Value = { PlanView };
 
-    ghost Value = { FrameOf };
+    ghost view = { λ p. p.plan };
 
-    ghost use Rattle.msg_advice.specs.inner.Planned.{IsPlanned, frame_of};
-
-    ghost view = { frame_of };
-
-    ghost invariant = { IsPlanned };
+    ghost invariant = { λ p. p.turns.items ≡ turns_in p.plan };
 }
 
 fn access_of(system: &SystemSpec) -> Access
@@ -71,20 +67,25 @@ fn joins_of(alloc: Global, systems: &[SystemSpec]) -> Result<Vec<u32>, NoMemory>
     Ok(joins)
 }
 
-/// The plan of a frame, if the systems have these accesses.
-fn plan_of(
-    alloc: Global,
-    scenario: &Scenario,
-    accesses: &[Access],
-    frame: u32,
-) -> Result<Plan, NoMemory>
+/// What the order of the systems of a scenario comes of.
+fn arrangement_of<'a>(
+    scenario: &'a Scenario,
+    accesses: &'a [Access],
+    joins: &'a [u32],
+) -> Arrangement<'a>
     requires runnable { IsRunnable scenario.now }
-    requires one_each { length accesses.now ≡ length scenario.now.systems }
-    ensures plan { IfOk result (IsPlanOf accesses.now scenario.now.rules
-        (joined_by scenario.now.systems frame)) }
+    requires accesses { AreAccesses scenario.now.systems accesses.now }
+    requires joins { joins.now ≡ map (λ x. x.place.join) scenario.now.systems }
+    ensures arranged { IsArrangementOf (state_of scenario.now) result }
+    ensures orderly { IsOrderly result }
 {
-    let joins = joins_of(alloc, scenario.systems.as_slice())?;
-    Plan::of_frame(alloc, accesses, scenario.rules.as_slice(), &joins, frame)
+    Arrangement {
+        accesses,
+        joins,
+        rules: scenario.rules.as_slice(),
+        types: scenario.types.as_slice().len() as u32,
+        resources: scenario.resources.as_slice().len() as u32,
+    }
 }
 
 /// The systems batch by batch.
@@ -98,79 +99,77 @@ fn turns_of(alloc: Global, plan: &Plan) -> Result<Vec<u32>, NoMemory>
     Ok(turns)
 }
 
-/// The plan of a frame of a scenario, from frame 1 on. One past the last of the file has the plan
-/// that it would have.
-pub fn plan_frame<'a>(
+/// The plan of a frame of what is arranged so. What an engine tells (`EngineOf::arrangement`) has
+/// the plan of its frames (`laws::arrangements_tell_plans`).
+pub fn plan_arrangement(
     alloc: Global,
-    scenario: &'a Scenario,
+    arrangement: &Arrangement,
     frame: u32,
-) -> Result<Planned<'a>, NoMemory>
-    requires runnable { IsRunnable scenario.now }
-    requires some { 0 < frame }
-    ensures scenario { IfOk result (λ planned. planned.scenario ≡ scenario.now) }
-    ensures frame { IfOk result (λ planned. planned.number ≡ frame) }
+) -> Result<Planned, NoMemory>
+    requires orderly { IsOrderly arrangement.now }
+    ensures plan { IfOk result (IsPlanFor arrangement.now frame) }
 {
-    let accesses = accesses_of(alloc, scenario.systems.as_slice())?;
-    let plan = plan_of(alloc, scenario, &accesses, frame)?;
+    let Arrangement {
+        accesses,
+        joins,
+        rules,
+        ..
+    } = *arrangement;
+    let plan = Plan::of_frame(alloc, accesses, rules, joins, frame)?;
     let turns = turns_of(alloc, &plan)?;
+    let accesses = Vec::from_slice(alloc, accesses)?;
     Ok(Planned {
-        scenario,
-        frame,
         accesses,
         plan,
         turns,
     })
 }
 
-impl<'a> Planned<'a> {
-    /// The scenario.
-    pub fn scenario(&self) -> &'a Scenario
-        ensures scenario { result.now ≡ self.now.scenario }
-    {
-        self.scenario
-    }
+/// The plan of a frame of a scenario, from frame 1 on. One past the last of the file has the plan
+/// that it would have.
+pub fn plan_frame(alloc: Global, scenario: &Scenario, frame: u32) -> Result<Planned, NoMemory>
+    requires runnable { IsRunnable scenario.now }
+    requires some { 0 < frame }
+    ensures plan { IfOk result (λ planned. planned ≡ plan_in (state_of scenario.now) frame) }
+{
+    let accesses = accesses_of(alloc, scenario.systems.as_slice())?;
+    let joins = joins_of(alloc, scenario.systems.as_slice())?;
+    plan_arrangement(alloc, &arrangement_of(scenario, &accesses, &joins), frame)
+}
 
-    /// The number of the frame.
-    pub fn frame(&self) -> u32
-        ensures frame { result ≡ self.now.number }
-    {
-        self.frame
-    }
-
+impl Planned {
     /// The systems that have joined batch by batch.
     pub fn batches(&self) -> &[Vec<u32>]
         ensures batches { map (λ batch. batch.items) result.now
-            ≡ batches_in self.now.scenario self.now.number }
+            ≡ self.now.batches }
     {
         self.plan.batches()
     }
 
     /// The same systems in the order of their turns.
     pub fn turns(&self) -> &[u32]
-        ensures turns { result.now ≡ turns_in self.now.scenario self.now.number }
+        ensures turns { result.now ≡ turns_in self.now }
     {
         &self.turns
     }
 
     /// Whether system `i` has to run before system `j`.
     pub fn precedes(&self, i: u32, j: u32) -> bool
-        ensures precedes { result ≡ precedes self.now.scenario self.now.number i j }
+        ensures precedes { result ≡ precedes self.now i j }
     {
         self.plan.precedes(i, j)
     }
 
     /// Whether system `i` has to run before system `j`, and no other stands between them.
     pub fn is_next(&self, i: u32, j: u32) -> bool
-        ensures next { result ≡ is_next self.now.scenario self.now.number i j }
+        ensures next { result ≡ is_next self.now i j }
     {
         self.precedes(i, j) && !self.has_between(i, j)
     }
 
     fn has_between(&self, i: u32, j: u32) -> bool
         ensures between { result ≡ list_any
-            (λ b. precedes self.now.scenario self.now.number i b
-            && precedes self.now.scenario self.now.number b j)
-            (turns_in self.now.scenario self.now.number) }
+            (λ b. precedes self.now i b && precedes self.now b j) (turns_in self.now) }
     {
         let mut turns = self.turns().iter();
         turns.any(|b| self.precedes(i, *b) && self.precedes(*b, j))
@@ -179,9 +178,7 @@ impl<'a> Planned<'a> {
     /// A system of each batch, each of which has to run before the next: as many as the longest
     /// chain has.
     pub fn chain(&self, alloc: Global) -> Result<Vec<u32>, NoMemory>
-        ensures chain { IfOk result (λ v. v.items
-            ≡ chain self.now.scenario self.now.number
-            (batches_in self.now.scenario self.now.number)) }
+        ensures chain { IfOk result (λ v. v.items ≡ chain self.now self.now.batches) }
     {
         self.chain_through(alloc, self.batches())
     }
@@ -189,8 +186,7 @@ impl<'a> Planned<'a> {
     /// The chain through these batches.
     fn chain_through(&self, alloc: Global, batches: &[Vec<u32>]) -> Result<Vec<u32>, NoMemory>
         ensures chain { IfOk result (λ v. v.items
-            ≡ chain self.now.scenario self.now.number
-            (map (λ batch. batch.items) batches.now)) }
+            ≡ chain self.now (map (λ batch. batch.items) batches.now)) }
     {
         let [batch, later @ ..] = batches else {
             return Ok(Vec::new(alloc));
@@ -204,7 +200,7 @@ impl<'a> Planned<'a> {
 
     /// The first system of a batch that has to run before the first of a chain.
     fn link(&self, batch: &[u32], chain: &[u32]) -> Option<u32>
-        ensures link { result ≡ link self.now.scenario self.now.number batch.now chain.now }
+        ensures link { result ≡ link self.now batch.now chain.now }
     {
         match chain {
             [next, ..] => self.first_before(batch, *next),
@@ -214,8 +210,7 @@ impl<'a> Planned<'a> {
 
     /// The first system of a batch that has to run before another.
     fn first_before(&self, batch: &[u32], system: u32) -> Option<u32>
-        ensures first { result
-            ≡ find (λ i. precedes self.now.scenario self.now.number i system) batch.now }
+        ensures first { result ≡ find (λ i. precedes self.now i system) batch.now }
     {
         match batch {
             [i, ..] if self.precedes(*i, system) => Some(*i),

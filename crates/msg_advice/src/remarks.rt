@@ -36,7 +36,7 @@ fn add_by_plan(text: &mut String, scenario: &Scenario) -> Result<(), NoMemory>
     requires runnable { IsRunnable scenario.now }
 {
     let planned = plan_frame(*text.allocator(), scenario, LAST_JOIN)?;
-    let added = add_parts(text, &planned);
+    let added = add_parts(text, &planned, scenario);
     drop(planned);
     added
 }

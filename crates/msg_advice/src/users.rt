@@ -1,19 +1,20 @@
 // The text that tells who writes and who reads each type.
-use crate::names::{system_name, type_name, types_of};
-use crate::planned::Planned;
-use crate::uses::{Use, late_for, uses};
-use msg_world::{NoMemory, TypeNo};
+use crate::edges::add_part;
+use crate::subject::Told;
+use crate::uses::{Use, late_for};
+use msg_world::{NoMemory, Part, TypeNo};
 
 /// The systems that write, or read, a type, with `, ` between two.
-fn add_users(text: &mut String, planned: &Planned, how: Use, t: TypeNo) -> Result<(), NoMemory> {
+fn add_users(text: &mut String, told: &Told, how: Use, t: TypeNo) -> Result<(), NoMemory> {
+    let Told { planned, subject } = told;
     let start = text.len();
     for system in planned.turns() {
-        if uses(planned.scenario(), how, t, *system) {
+        if subject.uses(how, t, *system) {
             if text.len() > start {
                 text.push_str(", ")?;
             }
-            text.push_str(system_name(planned.scenario(), *system))?;
-            if how == Use::Read && late_for(planned, *system, t).is_some() {
+            write!(text, "{}", subject.system(*system))?;
+            if how == Use::Read && late_for(told, *system, t).is_some() {
                 text.push_str(" (a frame late)")?;
             }
         }
@@ -25,14 +26,14 @@ fn add_users(text: &mut String, planned: &Planned, how: Use, t: TypeNo) -> Resul
 }
 
 /// A line for each type.
-pub(crate) fn add_types(text: &mut String, planned: &Planned) -> Result<(), NoMemory> {
-    let types = types_of(*text.allocator(), planned.scenario())?;
+pub(crate) fn add_types(text: &mut String, told: &Told) -> Result<(), NoMemory> {
+    let types = told.subject.types(*text.allocator())?;
     for t in types.as_slice() {
-        let name = type_name(planned.scenario(), *t);
-        write!(text, "type {name}: written by ")?;
-        add_users(text, planned, Use::Write, *t)?;
+        add_part(text, &told.subject, Part::OfType(*t))?;
+        text.push_str(": written by ")?;
+        add_users(text, told, Use::Write, *t)?;
         text.push_str("; read by ")?;
-        add_users(text, planned, Use::Read, *t)?;
+        add_users(text, told, Use::Read, *t)?;
         text.push_str("\n")?;
     }
     Ok(())

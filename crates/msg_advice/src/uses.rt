@@ -1,5 +1,5 @@
 // Who writes messages of a type, and who is given some.
-use crate::planned::Planned;
+use crate::subject::Told;
 use msg_reading::Scenario;
 use msg_system::{Condition, Op, Probe};
 use msg_world::TypeNo;
@@ -41,13 +41,11 @@ pub(crate) fn uses(scenario: &Scenario, how: Use, t: TypeNo, system: u32) -> boo
 
 /// The first system that writes a type and that another has to run before, which reads it: that is
 /// given its messages a frame late.
-pub(crate) fn late_for(planned: &Planned, system: u32, t: TypeNo) -> Option<u32> {
-    let scenario = planned.scenario();
-    if !uses(scenario, Use::Read, t, system) {
+pub(crate) fn late_for(told: &Told, system: u32, t: TypeNo) -> Option<u32> {
+    let Told { planned, subject } = told;
+    if !subject.uses(Use::Read, t, system) {
         return None;
     }
     let mut turns = planned.turns().iter().copied();
-    turns.find(|writer| {
-        uses(scenario, Use::Write, t, *writer) && planned.precedes(system, *writer)
-    })
+    turns.find(|writer| subject.uses(Use::Write, t, *writer) && planned.precedes(system, *writer))
 }

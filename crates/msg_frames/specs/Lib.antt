@@ -1,5 +1,6 @@
 pub mod Entries
 pub mod Frames
+pub mod Arranged
 pub mod FirstState
 pub mod Prelude
 pub mod Replays

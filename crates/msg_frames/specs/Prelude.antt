@@ -1,5 +1,6 @@
 -- Hands on the definitions cited elsewhere. The declared types serve this crate's proofs alone.
 pub use Rattle.msg_frames.specs.Accounts.{AddsUp, account_of, accounts_of, accounts_of_system, backlog_of, is_reader, is_writer, writer_account_of, writer_accounts_of, writer_accounts_of_system}
+pub use Rattle.msg_frames.specs.Arranged.{IsArrangementOf, IsOrderly}
 pub use Rattle.msg_frames.specs.CompleteRun.{IsCompleteRun, IsServed, IsTrueEntry, entries_in_run, message_numbered, refused_in_run}
 pub use Rattle.msg_frames.specs.Entries.{ReadEntry, entries_at, entry_for, entry_of, entry_of_read, no_totals, numbers_cleared, numbers_given, numbers_missed, numbers_passed, entry_numbers, refused_at, refused_for, totals_from, with_entries, with_refused, with_steps}
 pub use Rattle.msg_frames.specs.FirstState.{IsNew, first_state, new_job, default_system, default_place, before_joining, waiting_member}

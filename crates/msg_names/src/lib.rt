@@ -10,4 +10,4 @@ mod reply;
 
 pub use account::{NamedAccount, NamedWriterAccount};
 pub use log::NamedLog;
-pub use names::Names;
+pub use names::{Name, Names};

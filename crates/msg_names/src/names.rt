@@ -21,29 +21,29 @@ pub struct Names<'a> {
     pub resources: &'a [&'a str],
 }
 
-/// A name, or what it would be of and its number.
+/// What a system, a type or a resource is called.
 #[derive(Clone, Copy)]
-pub(crate) struct Name<'a> {
-    kind: &'static str,
-    name: Option<&'a str>,
-    number: u32,
+pub enum Name<'a> {
+    /// By the name that it was given.
+    Given(&'a str),
+    /// By what it is and its number.
+    Numbered(&'static str, u32),
 }
 
 impl<'a> Name<'a> {
     fn of(kind: &'static str, names: &'a [&'a str], number: u32) -> Name<'a> {
-        Name {
-            kind,
-            name: names.get(number as usize).copied(),
-            number,
+        match names.get(number as usize) {
+            Some(name) => Name::Given(name),
+            None => Name::Numbered(kind, number),
         }
     }
 }
 
 impl<'a> fmt::Display for Name<'a> {
     fn fmt<W: fmt::Write>(&self, f: &mut fmt::Formatter<W>) -> fmt::Result {
-        match self.name {
-            Some(name) => f.write_str(name),
-            None => write!(f, "{} {}", self.kind, self.number),
+        match self {
+            Name::Given(name) => f.write_str(name),
+            Name::Numbered(kind, number) => write!(f, "{kind} {number}"),
         }
     }
 }
@@ -71,27 +71,27 @@ impl<'a> Names<'a> {
         }
     }
 
-    pub(crate) fn system(self, number: u32) -> Name<'a> {
+    /// What a system is called.
+    pub fn system(self, number: u32) -> Name<'a> {
         Name::of("system", self.systems, number)
     }
 
     /// Who wrote a message: a system, or the host.
     pub(crate) fn writer(self, number: u32) -> Name<'a> {
         if number == HOST {
-            return Name {
-                kind: "host",
-                name: Some("host"),
-                number,
-            };
+            Name::Given("host")
+        } else {
+            self.system(number)
         }
-        self.system(number)
     }
 
-    pub(crate) fn of_type(self, t: TypeNo) -> Name<'a> {
+    /// What a type is called.
+    pub fn of_type(self, t: TypeNo) -> Name<'a> {
         Name::of("type", self.types, t.number())
     }
 
-    pub(crate) fn resource(self, r: ResNo) -> Name<'a> {
+    /// What a resource is called.
+    pub fn resource(self, r: ResNo) -> Name<'a> {
         Name::of("resource", self.resources, r.number())
     }
 }

@@ -1,5 +1,6 @@
 // What an engine tells, with names, and its plan beside that of the scenario that it was made of.
 ghost use Rattle.std.specs.Prelude.{◌<◌};
+ghost use Rattle.msg_frames.specs.Prelude.{IsOrderly};
 ghost use Rattle.msg_reading.specs.Prelude.{IsRunnable};
 ghost use Rattle.msg_exec.specs.Prelude.{IsEngine};
 ghost use Rattle.msg_world.specs.Prelude.{i64_values};
@@ -7,12 +8,12 @@ ghost use Rattle.msg_world.specs.Prelude.{i64_values};
 use crate::equal::{Have, expect_eq, expect_text};
 use crate::scenario_files::accepted;
 use crate::sparing::{sparing_engine, workers};
-use msg_exec::{EngineOf, Frame, NoGate};
+use msg_exec::{Arrangement, EngineOf, Frame, NoGate};
 use msg_names::Names;
 use msg_part_tests::prefaced::Prefaced;
-use msg_scenario::{Form, MemorySink, Scenario, put_plan, scenario_of_engine};
+use msg_scenario::{Form, MemorySink, Scenario, put_engine_plan, put_plan};
 use msg_system::SystemOf;
-use msg_world::TypeNo;
+use msg_world::{Access, TypeNo};
 use std::process::Abort;
 use std::thread::Threads;
 
@@ -33,22 +34,77 @@ const NO_NAMES: Names<'static> = Names {
     resources: &[],
 };
 
-/// The plans of a frame of both scenarios have the same text.
+/// An engine of two systems, of which the first uses all 129 parts that a world may have.
+const CROWDED: Arrangement<'static> = Arrangement {
+    accesses: &[
+        Access {
+            read_types: u64::MAX,
+            write_types: 0,
+            read_res: 0,
+            write_res: u64::MAX,
+            registry: true,
+        },
+        Access {
+            read_types: 0,
+            write_types: 1,
+            read_res: 0,
+            write_res: 0,
+            registry: false,
+        },
+    ],
+    joins: &[1, 1],
+    rules: &[],
+    types: 64,
+    resources: 64,
+};
+
+const LANE: Names<'static> = Names {
+    systems: &["early 0", "tower 0"],
+    types: &["walks 0"],
+    resources: &["lives"],
+};
+
+/// The plan of a frame of an engine.
+fn plan_of(
+    rt: &(impl Abort + AllocGlobal),
+    arrangement: &Arrangement,
+    names: &Names,
+    frame: u32,
+) -> MemorySink
+    requires orderly { IsOrderly arrangement.now }
+{
+    let mut text = MemorySink::new();
+    put_engine_plan(
+        rt.alloc(),
+        arrangement,
+        names,
+        frame,
+        Form::Lines,
+        &mut text,
+    )
+    .have(rt);
+    text
+}
+
+/// An engine and the scenario that it was made of have one plan of a frame.
 fn expect_same_plans(
     rt: &(impl Abort + AllocGlobal),
     scenario: &Scenario,
-    other: &Scenario,
+    arrangement: &Arrangement,
     frame: u32,
 )
     requires runnable { IsRunnable scenario.now }
-    requires other_runnable { IsRunnable other.now }
+    requires orderly { IsOrderly arrangement.now }
     requires some { 0 < frame }
 {
-    let (mut text, mut want) = (MemorySink::new(), MemorySink::new());
+    let mut want = MemorySink::new();
     put_plan(rt.alloc(), scenario, frame, Form::Lines, &mut want).have(rt);
-    put_plan(rt.alloc(), other, frame, Form::Lines, &mut text).have(rt);
-    expect_eq(rt, text.bytes(), want.bytes());
-    assert!(rt; !text.bytes().is_empty());
+    expect_eq(
+        rt,
+        plan_of(rt, arrangement, &NAMES, frame).bytes(),
+        want.bytes(),
+    );
+    assert!(rt; !want.bytes().is_empty());
 }
 
 #[test]
@@ -57,16 +113,26 @@ fn an_engine_has_the_plan_of_its_scenario(rt: HostRuntime) {
     let scenario = accepted(rt, SCENARIO);
     let engine = sparing_engine(rt.alloc(), &scenario, 0).have(rt);
     let arrangement = engine.arrangement().have(rt);
-    let like = scenario_of_engine(rt.alloc(), &arrangement, &NAMES).have(rt);
-    expect_same_plans(rt, &scenario, &like, 1);
-    expect_same_plans(rt, &scenario, &like, 2);
+    expect_same_plans(rt, &scenario, &arrangement, 1);
+    expect_same_plans(rt, &scenario, &arrangement, 2);
     // What has no name is told by its number.
-    let like = scenario_of_engine(rt.alloc(), &arrangement, &NO_NAMES).have(rt);
-    let mut text = MemorySink::new();
-    put_plan(rt.alloc(), &like, 1, Form::Lines, &mut text).have(rt);
-    let want = "frame 1\nbatch 1: system_0\nbatch 2: system_3\nbatch 3: system_1\n";
+    let want = "frame 1\nbatch 1: system 0\nbatch 2: system 3\nbatch 3: system 1\n";
+    let text = plan_of(rt, &arrangement, &NO_NAMES, 1);
     assert!(rt; text.bytes().starts_with(want.as_bytes()));
     drop(engine);
+}
+
+#[test]
+fn a_system_may_use_all_parts_and_have_spaces_in_its_name(rt: HostRuntime) {
+    const PLAN: &str = "\
+        frame 1\n\
+        batch 1: early 0\n\
+        batch 2: tower 0\n\
+        early 0 before tower 0: type walks 0\n\
+        type walks 0: written by tower 0; read by early 0 (a frame late)\n\
+        type 1: written by no system; read by early 0\n";
+    let text = plan_of(&rt, &CROWDED, &LANE, 1);
+    assert!(rt; text.bytes().starts_with(PLAN.as_bytes()));
 }
 
 /// What the next frame with a post and the account of the last reader tell, with these names.

@@ -18,8 +18,8 @@ pub use building::{engine_of, systems_of};
 pub use check_fault::CheckFault;
 pub use checking::check_bytes;
 pub use msg_advice::{
-    Clash, Form, Planned, clash_of, fault_lines, plan_frame, put_plan, scenario_of_engine,
-    shortest_cycle, unfit_lines,
+    Clash, Form, Planned, clash_of, fault_lines, plan_arrangement, plan_frame, put_engine_plan,
+    put_plan, shortest_cycle, unfit_lines,
 };
 pub use msg_calls::{Call, Calls, check_calls, read_calls, run_calls};
 pub use msg_json::{

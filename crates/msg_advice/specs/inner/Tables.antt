@@ -1,5 +1,5 @@
 -- What the private functions that make a plan have of it. No public contract cites these.
-use Rattle.std.specs.Prelude.{ℕ, Bool, List, map, nat_le}
+use Rattle.std.specs.Prelude.{List}
 use Rattle.std.specs.List.{AllZip}
 use Rattle.msg_world.specs.declared.access.Access.{Access}
 use Rattle.msg_system.specs.Prelude.{IsAccessOf, Needs, job_needs}
@@ -12,7 +12,3 @@ spec_needs x = job_needs x.program.ops x.place.conditions
 -- these are the accesses of the systems, one each
 abbrev pub AreAccesses : List SystemSpec → List Access → Type 0
 AreAccesses systems accesses = AllZip (λ x a. IsAccessOf (spec_needs x) a) systems accesses
-
--- of each system, whether it has joined by frame k
-abbrev pub joined_by : List SystemSpec → ℕ → List Bool
-joined_by systems k = map (λ x. nat_le x.place.join k) systems

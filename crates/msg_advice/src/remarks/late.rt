@@ -3,8 +3,9 @@ ghost use Rattle.std.specs.Prelude.{◌<◌};
 ghost use Rattle.msg_reading.specs.Prelude.{IsRunnable};
 
 use crate::edges::rule_between;
-use crate::names::{system_name, type_name, types_of};
+use crate::names::{system_name, type_name};
 use crate::planned::{Planned, plan_frame};
+use crate::subject::{Subject, Told};
 use crate::uses::late_for;
 use msg_frames::LAST_JOIN;
 use msg_reading::Scenario;
@@ -15,7 +16,7 @@ use msg_world::{NoMemory, TypeNo};
 pub(super) fn add_late(text: &mut String, scenario: &Scenario) -> Result<(), NoMemory>
     requires runnable { IsRunnable scenario.now }
 {
-    let types = types_of(*text.allocator(), scenario)?;
+    let types = Subject::Scenario(scenario).types(*text.allocator())?;
     let mut told = Vec::new(*text.allocator());
     for frame in 0..LAST_JOIN {
         if is_new_order(scenario, frame + 1) {
@@ -44,7 +45,7 @@ fn add_late_in(
     requires some { 0 < frame }
 {
     let planned = plan_frame(*text.allocator(), scenario, frame)?;
-    let added = add_late_by(text, &planned, types, told);
+    let added = add_late_by(text, &planned, scenario, types, told);
     drop(planned);
     added
 }
@@ -52,16 +53,19 @@ fn add_late_in(
 fn add_late_by(
     text: &mut String,
     planned: &Planned,
+    scenario: &Scenario,
     types: &[TypeNo],
     told: &mut Vec<(u32, TypeNo)>,
 ) -> Result<(), NoMemory> {
+    let subject = Subject::Scenario(scenario);
+    let plan = Told { planned, subject };
     for system in planned.turns() {
         for t in types {
             let is_told = told.contains(&(*system, *t));
-            if let Some(writer) = late_for(planned, *system, *t)
+            if let Some(writer) = late_for(&plan, *system, *t)
                 && !is_told
             {
-                add_line(text, planned.scenario(), *system, *t, writer)?;
+                add_line(text, scenario, *system, *t, writer)?;
                 told.push((*system, *t))?;
             }
         }
@@ -80,7 +84,7 @@ fn add_line(
     let after = system_name(scenario, writer);
     write!(text, "remark: {name} reads {of_type} a frame late")?;
     write!(text, ", since it runs before {after}")?;
-    if let Some(place) = rule_between(scenario, system, writer) {
+    if let Some(place) = rule_between(scenario.rules.as_slice(), system, writer) {
         write!(text, " (rules[{place}])")?;
     }
     text.push_str("\n")

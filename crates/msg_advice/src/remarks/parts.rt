@@ -1,23 +1,29 @@
 // Types that are used in one way alone, or that the posts of the file alone fill past their limit,
 // and resources that nothing uses.
-use crate::names::{resource_name, resources_of, type_name, types_of};
+use crate::names::{resource_name, type_name};
 use crate::planned::Planned;
+use crate::subject::Subject;
 use crate::uses::{Use, uses};
 use msg_reading::Scenario;
 use msg_world::{NoMemory, ResNo, TypeNo};
 
-pub(super) fn add_parts(text: &mut String, planned: &Planned) -> Result<(), NoMemory> {
-    let types = types_of(*text.allocator(), planned.scenario())?;
-    add_one_sided(text, planned, &types, Use::Read)?;
-    add_one_sided(text, planned, &types, Use::Write)?;
-    add_crowded(text, planned.scenario(), &types)?;
-    add_unused(text, planned)
+pub(super) fn add_parts(
+    text: &mut String,
+    planned: &Planned,
+    scenario: &Scenario,
+) -> Result<(), NoMemory> {
+    let types = Subject::Scenario(scenario).types(*text.allocator())?;
+    add_one_sided(text, planned, scenario, &types, Use::Read)?;
+    add_one_sided(text, planned, scenario, &types, Use::Write)?;
+    add_crowded(text, scenario, &types)?;
+    add_unused(text, planned, scenario)
 }
 
 /// Remarks on types that are used so, and never in the other way.
 fn add_one_sided(
     text: &mut String,
     planned: &Planned,
+    scenario: &Scenario,
     types: &[TypeNo],
     how: Use,
 ) -> Result<(), NoMemory> {
@@ -26,8 +32,8 @@ fn add_one_sided(
         Use::Write => (Use::Read, "written and never read"),
     };
     for t in types {
-        if is_used(planned, how, *t) && !is_used(planned, other, *t) {
-            let name = type_name(planned.scenario(), *t);
+        if is_used(planned, scenario, how, *t) && !is_used(planned, scenario, other, *t) {
+            let name = type_name(scenario, *t);
             writeln!(text, "remark: {name} is {is}")?;
         }
     }
@@ -35,8 +41,7 @@ fn add_one_sided(
 }
 
 /// Whether a system uses the type so, or the host posts to it.
-fn is_used(planned: &Planned, how: Use, t: TypeNo) -> bool {
-    let scenario = planned.scenario();
+fn is_used(planned: &Planned, scenario: &Scenario, how: Use, t: TypeNo) -> bool {
     let mut turns = planned.turns().iter();
     turns.any(|system| uses(scenario, how, t, *system))
         || how == Use::Write && posts_to(scenario, t) > 0
@@ -64,11 +69,11 @@ fn add_crowded(text: &mut String, scenario: &Scenario, types: &[TypeNo]) -> Resu
     Ok(())
 }
 
-fn add_unused(text: &mut String, planned: &Planned) -> Result<(), NoMemory> {
-    let resources = resources_of(*text.allocator(), planned.scenario())?;
+fn add_unused(text: &mut String, planned: &Planned, scenario: &Scenario) -> Result<(), NoMemory> {
+    let resources = Subject::Scenario(scenario).resources(*text.allocator())?;
     for r in resources.as_slice() {
         if !is_needed(planned, *r) {
-            let name = resource_name(planned.scenario(), *r);
+            let name = resource_name(scenario, *r);
             writeln!(text, "remark: {name} is used by no system")?;
         }
     }

@@ -1,6 +1,7 @@
 // Held updates that nobody signals, and signals that nothing waits for; systems that join after the
 // last frame; and those that may skip a turn, and so miss messages of what they read.
-use crate::names::{type_name, types_of};
+use crate::names::type_name;
+use crate::subject::Subject;
 use crate::uses::{Use, asks_for, op_uses};
 use msg_reading::{Scenario, SystemSpec};
 use msg_system::{Condition, Op};
@@ -45,7 +46,7 @@ pub(super) fn add_skipped(text: &mut String, scenario: &Scenario) -> Result<(), 
     if is_never_updated(scenario) {
         return Ok(());
     }
-    let types = types_of(*text.allocator(), scenario)?;
+    let types = Subject::Scenario(scenario).types(*text.allocator())?;
     for system in scenario.systems.as_slice() {
         for t in types.as_slice() {
             if let Some(how) = may_miss(system, *t) {
