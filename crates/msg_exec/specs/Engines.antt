@@ -1,5 +1,5 @@
 -- When an engine stands for a state, and what its calls do.
-use Rattle.std.specs.Prelude.{◌≡◌, ◌⊎◌, ℕ, ◌<◌, ◌≤◌, [], ◌∷◌, ◌++◌, All, List, length, take, Option, option_map, IsNone, IsSomeAnd, IfSome}
+use Rattle.std.specs.Prelude.{◌≡◌, ◌⊎◌, ℕ, ◌<◌, [], ◌∷◌, ◌++◌, All, List, length, take, Option, option_map, IsNone, IsSomeAnd, IfSome}
 use Rattle.std.specs.List.{AllZip}
 use Rattle.msg_world.specs.Prelude.{Parts, Values}
 use Rattle.msg_system.specs.Prelude.{Meaning}
@@ -72,7 +72,7 @@ module _ {S V : Type 0} {values : Values V} (meaning : S → Meaning V) where
   pub record HasRunSome (frames : List (Frame V)) (s : State values) (before after : List (Log V))
       (e : EngineOf S V) : Type 0 where
     pub ran : ℕ
-    pub few : ran ≤ length frames
+    pub few : ran < length frames
     pub appended : after ≡ before ++ (run (take ran frames) s).logs
     pub counted : frame_number e ≡ frame_count (run (take ran frames) s).state
     pub spoiled : IsSpoiled e

@@ -27,7 +27,8 @@ pub trait Host {
     ghost use Rattle.msg_frames.specs.{declared.frame.Frame.Frame as FrameView, declared.log.Log.Log as LogView};
 
     // What is known of a call: the host before it, the log it was told, what it gave, and the host
-    // after it. By default that is nothing.
+    // after it. By default that is nothing, and then the clauses of `run_loop` tell of such a host
+    // no more than that it gave some frames.
     ghost gives: { Self → Option (LogView Self.Value) → Option (FrameView Self.Value) → Self
         → Type 0 } = { λ old last frame new. ⊤ };
 
