@@ -55,6 +55,11 @@ pub three_pieces : (old a b c one two new : List ℕ) → one ≡ old ++ a → t
     → new ≡ old ++ (a ++ (b ++ c))
 three_pieces old a b c one two new first second third = grind (arith, append_assoc)
 
+-- five
+pub five_pieces : (old a b c d e one two three four new : List ℕ) → one ≡ old ++ a → two ≡ one ++ b → three ≡ two ++ c
+    → four ≡ three ++ d → new ≡ four ++ e → new ≡ old ++ (a ++ b ++ c ++ d ++ e)
+five_pieces old a b c d e one two three four new first second third fourth fifth = grind (arith, append_assoc)
+
 -- a line that ends in two objects, each between two pieces
 pub line_pieces : (old a n h b t c d r e one two three new : List ℕ) → one ≡ old ++ (a ++ n) → two ≡ one ++ h
     → three ≡ two ++ (b ++ t ++ c ++ d ++ r ++ c) → new ≡ three ++ e

@@ -7,7 +7,7 @@ use Rattle.msg_world.specs.{Prelude.WorldState, Prelude.i64_values, declared.rec
 use Rattle.msg_system.specs.{declared.op.Op.Op, declared.reply.Took.Took, declared.reply.Reply.Reply}
 use Rattle.msg_system.specs.declared.op.Op.TheVariants as op
 use Rattle.msg_system.specs.declared.reply.Reply.TheVariants as reply
-use Rattle.msg_frames.specs.{Prelude.State, Prelude.backlog_of, declared.account.Account.Account, declared.backlog.Backlog.Backlog, declared.frame.Frame.Frame, declared.log.Log.Log, declared.log.Turn.Turn}
+use Rattle.msg_frames.specs.{Prelude.State, Prelude.backlog_of, declared.account.Account.Account, declared.backlog.Backlog.Backlog, declared.frame.Frame.Frame, declared.log.Log.Log, declared.log.Turn.Turn, declared.writer_account.WriterAccount.WriterAccount}
 use Rattle.msg_frames.specs.declared.log.Outcome.{Outcome}
 use Rattle.msg_frames.specs.declared.log.Outcome.TheVariants.{Ran, Skipped}
 use Rattle.msg_json.specs.Prelude.{Text}
@@ -15,7 +15,7 @@ use Rattle.msg_json.specs.{Faults.reason_refusal, declared.fault.Fault.Fault, de
 use Rattle.msg_json.specs.declared.refusal.Refusal.TheVariants as refusal
 use Rattle.msg_reading.specs.Prelude.{resource_name, system_name, type_name, writer_name}
 use Rattle.msg_reading.specs.{declared.scenario.Scenario.Scenario, declared.scenario.SystemSpec.SystemSpec}
-use Rattle.msg_log_json.specs.LogJson.{account_json, answer_json, comma_before, frame_line, happened_json, items_json, kept_json, list_item, listed, message_json, numbered, numbers_json, of_resource, of_type, op_json, outcome_json, past_json, post_json, reader_json, readers_line, reply_json, resource_json, resources_json, rest_json, standing_json, took_json, turn_json, type_json, types_json, value_json, wrote_json}
+use Rattle.msg_log_json.specs.LogJson.{account_json, answer_json, comma_before, frame_line, happened_json, items_json, kept_json, list_item, listed, message_json, numbered, numbers_json, of_resource, of_type, op_json, outcome_json, past_json, post_json, reader_json, readers_line, reply_json, resource_json, resources_json, rest_json, standing_json, took_json, turn_json, type_json, types_json, value_json, writer_json, wrote_json}
 use Rattle.msg_log_json.specs.RefusedJson.{IsPlain, not_json_line, number_step, place_json, refused_head, refused_line, too_long_line}
 
 -- a byte isn't the line feed
@@ -264,11 +264,20 @@ module _ (s : Scenario) (names : HasCleanNames s) where
       (join told (types_json s w) (join head (happened_json s f log) (simp number) (happened f log)) (types w)) (resources w) in
       lead (told ++ types_json s w ++ resources_json s w) (codes "}\n") all (codes "}", refl, refl)
 
-  pub readers_are_line : (accounts : List Account) (now : State i64_values) → IsLine (readers_line s accounts now)
-  readers_are_line accounts now =
+  writer : (a : WriterAccount) → Clean (writer_json s a)
+  unfolding writer_json
+  writer a = simp (list_all-append is_other, of_a_system, of_a_type, number)
+
+  pub readers_are_line : (accounts : List Account) (writers : List WriterAccount) (now : State i64_values)
+      → IsLine (readers_line s accounts writers now)
+  readers_are_line accounts writers now =
       let told = listed (account_json s now) accounts in
-      let all = join (codes "{\"readers\":[") told refl (list_clean (account_json s now) accounts (account now)) in
-      lead (codes "{\"readers\":[" ++ told) (codes "]}\n") all (codes "]}", refl, refl)
+      let wrote = listed (writer_json s) writers in
+      let head = codes "{\"readers\":[" in
+      let between = codes "],\"writers\":[" in
+      let read = join head told refl (list_clean (account_json s now) accounts (account now)) in
+      let all = join (head ++ told ++ between) wrote (join (head ++ told) between read refl) (list_clean (writer_json s) writers writer) in
+      lead (head ++ told ++ between ++ wrote) (codes "]}\n") all (codes "]}", refl, refl)
 
 -- ---- refusals
 

@@ -7,7 +7,7 @@ use Rattle.msg_world.specs.{Prelude.WorldState, Prelude.i64_values, declared.rec
 use Rattle.msg_system.specs.{declared.op.Op.Op, declared.reply.Took.Took, declared.reply.Reply.Reply}
 use Rattle.msg_system.specs.declared.op.Op.TheVariants as op
 use Rattle.msg_system.specs.declared.reply.Reply.TheVariants as reply
-use Rattle.msg_frames.specs.{Prelude.State, Prelude.backlog_of, declared.account.Account.Account, declared.backlog.Backlog.Backlog, declared.frame.Frame.Frame, declared.log.Log.Log, declared.log.Turn.Turn}
+use Rattle.msg_frames.specs.{Prelude.State, Prelude.backlog_of, declared.account.Account.Account, declared.backlog.Backlog.Backlog, declared.frame.Frame.Frame, declared.log.Log.Log, declared.log.Turn.Turn, declared.writer_account.WriterAccount.WriterAccount}
 use Rattle.msg_frames.specs.declared.log.Outcome.{Outcome}
 use Rattle.msg_frames.specs.declared.log.Outcome.TheVariants.{Ran, Skipped}
 use Rattle.msg_json.specs.Prelude.{Text}
@@ -224,7 +224,14 @@ abbrev pub account_json : Scenario → State i64_values → Account → Text
 account_json s now a =
     reader_json s a ++ standing_json a a.start ++ rest_json (length s.types) now a ++ codes "}"
 
--- the line of the readers
-abbrev pub readers_line : Scenario → List Account → State i64_values → Text
-readers_line s accounts now =
-    codes "{\"readers\":[" ++ listed (account_json s now) accounts ++ codes "]}\n"
+-- what a system that writes a type was refused of it
+unfoldable pub writer_json : Scenario → WriterAccount → Text
+writer_json s a =
+    codes "{\"system\":\"" ++ system_name s a.system ++ codes "\",\"type\":\""
+    ++ type_name s a.of_type ++ codes "\",\"refused\":" ++ decimal a.refused ++ codes "}"
+
+-- the line of the readers, and of the writers
+abbrev pub readers_line : Scenario → List Account → List WriterAccount → State i64_values → Text
+readers_line s accounts writers now =
+    codes "{\"readers\":[" ++ listed (account_json s now) accounts ++ codes "],\"writers\":["
+    ++ listed (writer_json s) writers ++ codes "]}\n"

@@ -1,35 +1,73 @@
-// The line of the readers.
+// The line of the readers and of the writers.
 ghost use Rattle.std.specs.Prelude.{◌≡◌, ◌++◌, OnOk, codes, length};
 ghost use Rattle.msg_frames.specs.Prelude.{State};
 ghost use Rattle.msg_world.specs.Prelude.{IsWhole, PartsStand, i64_values, slot};
 ghost use Rattle.msg_world.specs.declared.part.Part.TheVariants.{OfType};
 ghost use Rattle.msg_log_json.specs.Prelude as Spec;
+ghost use Rattle.msg_log_json.specs.Prelude.{listed};
 ghost use Rattle.msg_log_json.specs.inner.KeptJson.{account_kept, accounts_kept, past_kept};
 
 use crate::list::add_comma;
 use msg_buffer::NoMemory;
-use msg_frames::Account;
+use msg_frames::{Account, WriterAccount};
 use msg_json::numerals::add_count;
 use msg_reading::Scenario;
 use msg_reading::names::{add_system_name, add_type};
 use msg_world::{TypeNo, World};
 
-/// The line of the readers, with what each type of the world has for them.
+/// The line of the readers, with what each type of the world has for them, and of the writers.
 pub fn add_readers_line(
     text: &mut Vec<u8>,
     scenario: &Scenario,
     accounts: &[Account],
+    writers: &[WriterAccount],
     world: &World,
 ) -> Result<(), NoMemory>
     requires whole { IsWhole world.now }
     requires types { length world.now.types ≡ length scenario.now.types }
     ensures appends { OnOk result
         ((now : State i64_values) → PartsStand world.now now.world
-        → text.new.items ≡ text.old.items ++ Spec.readers_line scenario.now accounts.now now) }
+        → text.new.items ≡ text.old.items
+        ++ Spec.readers_line scenario.now accounts.now writers.now now) }
 {
     text.extend_from_slice(b"{\"readers\":[")?;
     add_accounts(text, scenario, accounts, world)?;
+    text.extend_from_slice(b"],\"writers\":[")?;
+    add_writers(text, scenario, writers)?;
     text.extend_from_slice(b"]}\n")
+}
+
+fn add_writers(
+    text: &mut Vec<u8>,
+    scenario: &Scenario,
+    writers: &[WriterAccount],
+) -> Result<(), NoMemory>
+    ensures appends { OnOk result (text.new.items
+        ≡ text.old.items ++ listed (Spec.writer_json scenario.now) writers.now) }
+{
+    for (k, writer) in writers.iter().enumerate() {
+        add_comma(text, k)?;
+        add_writer(text, scenario, writer)?;
+    }
+    Ok(())
+}
+
+/// What a writer was refused.
+#[tactic(auto, unfolding(crate::specs::LogJson::writer_json))]
+fn add_writer(
+    text: &mut Vec<u8>,
+    scenario: &Scenario,
+    writer: &WriterAccount,
+) -> Result<(), NoMemory>
+    ensures appends { OnOk result
+        (text.new.items ≡ text.old.items ++ Spec.writer_json scenario.now writer.now) }
+{
+    text.extend_from_slice(b"{\"system\":\"")?;
+    add_system_name(text, scenario, writer.system)?;
+    text.extend_from_slice(b"\",\"type\":\"")?;
+    add_type(text, scenario, writer.of_type)?;
+    add_count(text, b"\",\"refused\":", writer.refused)?;
+    text.extend_from_slice(b"}")
 }
 
 fn add_accounts(

@@ -1,10 +1,10 @@
 -- Frames after those of the file: as lines, or in the file.
 use Rattle.std.proofs.Common.{◌≡◌, ℕ, ℤ, List, [], ◌∷◌, ◌++◌, map, refl, ap, ◌∙◌, append_assoc}
 use Rattle.std.proofs.lemmas.List.{map-append}
-use Rattle.msg_frames.specs.Prelude.{State, accounts_of, frame}
-use Rattle.msg_frames.specs.{declared.account.Account.Account, declared.log.Log.Log}
+use Rattle.msg_frames.specs.Prelude.{State, accounts_of, frame, writer_accounts_of}
+use Rattle.msg_frames.specs.{declared.account.Account.Account, declared.log.Log.Log, declared.writer_account.WriterAccount.WriterAccount}
 use Rattle.msg_frames.specs.declared.frame.Frame.{Frame}
-use Rattle.msg_log_json.specs.Prelude.{frame_line, happened_json, numbered, of_resource, of_type, reader_json, readers_line}
+use Rattle.msg_log_json.specs.Prelude.{frame_line, happened_json, numbered, of_resource, of_type, reader_json, readers_line, writer_json}
 use Rattle.msg_reading.specs.Prelude.{state_of}
 use Rattle.msg_reading.specs.declared.scenario.Scenario.{Scenario}
 use Rattle.msg_serve.specs.Prelude.{Request, ServesAsRunsTell, after_request, answer_of, texts_of, number_of, own_requests, with_frames}
@@ -19,17 +19,17 @@ module _ (s : Scenario) (more : List (Frame ℤ)) where
   unfolding happened_json numbered of_resource of_type
   same_frame_line number f log w = refl
 
-  same_readers_line : (accounts : List Account) (now : State i64_values)
-      → readers_line (with_frames s more) accounts now ≡ readers_line s accounts now
-  unfolding numbered reader_json
-  same_readers_line accounts now = refl
+  same_readers_line : (accounts : List Account) (writers : List WriterAccount) (now : State i64_values)
+      → readers_line (with_frames s more) accounts writers now ≡ readers_line s accounts writers now
+  unfolding numbered reader_json writer_json
+  same_readers_line accounts writers now = refl
 
   -- nor does an answer
   same_answer : (request : Request) (now : State i64_values)
       → answer_of (with_frames s more) request now ≡ answer_of s request now
   same_answer (run f) now =
       let done = frame f now in same_frame_line (number_of done.state) f done.log done.state.world
-  same_answer readers now = same_readers_line (accounts_of now) now
+  same_answer readers now = same_readers_line (accounts_of now) (writer_accounts_of now) now
   same_answer (refused text) now = refl
 
   same_answers : (requests : List Request) (now : State i64_values)

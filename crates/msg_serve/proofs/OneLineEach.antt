@@ -2,7 +2,7 @@
 use Rattle.std.proofs.Common.{◌≡◌, ℕ, suc, ◌==◌, not, IsTrue, true, inl, inr, List, [], ◌∷◌, ◌++◌, length, refl, ap, ◌∙◌, arith, append_assoc, eqb-true}
 use Rattle.std.specs.List.{AllZip, list_all}
 use Rattle.std.proofs.lemmas.{Bool.and_from, Bool.cases_Bool, Bool.false≢true, List.Elements.All-weaker}
-use Rattle.msg_frames.specs.Prelude.{State, accounts_of, frame}
+use Rattle.msg_frames.specs.Prelude.{State, accounts_of, writer_accounts_of, frame}
 use Rattle.msg_world.specs.Prelude.{i64_values}
 use Rattle.msg_json.specs.Prelude.{Text}
 use Rattle.msg_reading.specs.Prelude.{is_name, is_name_character}
@@ -61,7 +61,7 @@ answer_is_line : (s : Scenario) → HasCleanNames s → (line : Text) (request :
     → AsksFor s line request → IsLine (answer_of s request now)
 answer_is_line s names line (run f) now asks =
     let done = frame f now in frame_is_line s names (number_of done.state) f done.log done.state.world
-answer_is_line s names line readers now asks = readers_are_line s names (accounts_of now) now
+answer_is_line s names line readers now asks = readers_are_line s names (accounts_of now) (writer_accounts_of now) now
 answer_is_line s names line (refused text) now asks = refusal s line text asks
 
 lines_each : (s : Scenario) → HasCleanNames s → (lines : List Text) (requests : List Request) (now : State i64_values)

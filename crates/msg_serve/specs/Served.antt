@@ -2,7 +2,7 @@
 use Rattle.std.specs.Prelude.{◌≡◌, ◌≢◌, ◌⊎◌, ℕ, ◌-◌, ◌^◌, ◌≤◌, min, All, IsTrue, List, [], ◌∷◌, ◌++◌, Option, Some, length, map, ℤ}
 use Rattle.std.specs.List.{AllZip}
 use Rattle.std.specs.Io.KnownBytes.{Appends}
-use Rattle.msg_frames.specs.Prelude.{IsCompleteRun, State, accounts_of, frame, run as run_of}
+use Rattle.msg_frames.specs.Prelude.{IsCompleteRun, State, accounts_of, writer_accounts_of, frame, run as run_of}
 use Rattle.msg_frames.specs.declared.frame.Frame.{Frame}
 use Rattle.msg_log_json.specs.Prelude.{frame_line, readers_line}
 use Rattle.msg_reading.specs.Prelude.{is_name, state_of}
@@ -39,7 +39,7 @@ after_requests (request ∷ requests) now = after_requests requests (after_reque
 abbrev pub answer_of : Scenario → Request → State i64_values → Text
 answer_of s (run f) now =
     let done = frame f now in frame_line s (number_of done.state) f done.log done.state.world
-answer_of s readers now = readers_line s (accounts_of now) now
+answer_of s readers now = readers_line s (accounts_of now) (writer_accounts_of now) now
 answer_of s (refused text) now = text
 
 -- the texts that answer requests one after another

@@ -114,6 +114,10 @@ pub fn tell_readers<X: SystemOf<Value = i64>>(server: &mut Server<X>) -> Result<
         Ok(accounts) => accounts,
         Err(fault) => return Err(ReportFault::Run(fault)),
     };
+    let writers = match server.engine.writer_accounts() {
+        Ok(writers) => writers,
+        Err(fault) => return Err(ReportFault::Run(fault)),
+    };
     let Some(world) = server.engine.world() else {
         unreachable!()
     };
@@ -121,6 +125,7 @@ pub fn tell_readers<X: SystemOf<Value = i64>>(server: &mut Server<X>) -> Result<
         &mut server.text,
         server.scenario,
         accounts.as_slice(),
+        writers.as_slice(),
         world,
     )?)
 }
