@@ -15,7 +15,7 @@ use Rattle.msg_json.specs.{Faults.reason_refusal, declared.fault.Fault.Fault, de
 use Rattle.msg_json.specs.declared.refusal.Refusal.TheVariants as refusal
 use Rattle.msg_reading.specs.Prelude.{resource_name, system_name, type_name, writer_name}
 use Rattle.msg_reading.specs.{declared.scenario.Scenario.Scenario, declared.scenario.SystemSpec.SystemSpec}
-use Rattle.msg_log_json.specs.LogJson.{account_json, answer_json, comma_before, frame_line, happened_json, items_json, kept_json, list_item, listed, message_json, numbered, numbers_json, of_resource, of_type, op_json, outcome_json, past_json, post_json, reader_json, readers_line, reply_json, resource_json, resources_json, rest_json, standing_json, took_json, turn_json, type_json, types_json, value_json, writer_json, wrote_json}
+use Rattle.msg_log_json.specs.LogJson.{account_json, answer_json, comma_before, frame_line, happened_json, items_json, kept_json, list_item, listed, message_json, numbered, numbers_json, of_resource, of_type, op_json, outcome_json, past_json, post_json, readers_line, reply_json, resource_json, resources_json, rest_json, standing_json, took_json, turn_json, type_json, types_json, use_json, value_json, writer_json, wrote_json}
 use Rattle.msg_log_json.specs.RefusedJson.{IsPlain, not_json_line, number_step, place_json, refused_head, refused_line, too_long_line}
 
 -- a byte isn't the line feed
@@ -247,12 +247,12 @@ module _ (s : Scenario) (names : HasCleanNames s) where
     | inr e ↦ rw e refl
   ]
 
-  reader : (a : Account) → Clean (reader_json s a)
-  unfolding reader_json
-  reader a = simp (list_all-append is_other, of_a_system, of_a_type)
+  used : (i t : ℕ) → Clean (use_json s i t)
+  unfolding use_json
+  used i t = simp (list_all-append is_other, of_a_system, of_a_type)
 
   account : (now : State i64_values) (a : Account) → Clean (account_json s now a)
-  account now a = simp (list_all-append is_other, reader, standing, rest)
+  account now a = simp (list_all-append is_other, used, standing, rest)
 
   -- ---- their lines
 
@@ -265,8 +265,7 @@ module _ (s : Scenario) (names : HasCleanNames s) where
       lead (told ++ types_json s w ++ resources_json s w) (codes "}\n") all (codes "}", refl, refl)
 
   writer : (a : WriterAccount) → Clean (writer_json s a)
-  unfolding writer_json
-  writer a = simp (list_all-append is_other, of_a_system, of_a_type, number)
+  writer a = simp (list_all-append is_other, used, number)
 
   pub readers_are_line : (accounts : List Account) (writers : List WriterAccount) (now : State i64_values)
       → IsLine (readers_line s accounts writers now)

@@ -213,22 +213,21 @@ rest_json types now a =
     if nat_lt a.of_type types
     then past_json (backlog_of now a) (count (now.world.histories a.of_type)) else []
 
--- which reader it is
-unfoldable pub reader_json : Scenario → Account → Text
-reader_json s a =
-    codes "{\"system\":\"" ++ system_name s a.system ++ codes "\",\"type\":\""
-    ++ type_name s a.of_type ++ codes "\""
+-- a system, and a type that it reads or writes
+unfoldable pub use_json : Scenario → ℕ → ℕ → Text
+use_json s i t =
+    codes "{\"system\":\"" ++ system_name s i ++ codes "\",\"type\":\"" ++ type_name s t
+    ++ codes "\""
 
 -- a reader
 abbrev pub account_json : Scenario → State i64_values → Account → Text
 account_json s now a =
-    reader_json s a ++ standing_json a a.start ++ rest_json (length s.types) now a ++ codes "}"
+    use_json s a.system a.of_type ++ standing_json a a.start ++ rest_json (length s.types) now a ++ codes "}"
 
 -- what a system that writes a type was refused of it
-unfoldable pub writer_json : Scenario → WriterAccount → Text
+abbrev pub writer_json : Scenario → WriterAccount → Text
 writer_json s a =
-    codes "{\"system\":\"" ++ system_name s a.system ++ codes "\",\"type\":\""
-    ++ type_name s a.of_type ++ codes "\",\"refused\":" ++ decimal a.refused ++ codes "}"
+    use_json s a.system a.of_type ++ (codes ",\"refused\":" ++ decimal a.refused) ++ codes "}"
 
 -- the line of the readers, and of the writers
 abbrev pub readers_line : Scenario → List Account → List WriterAccount → State i64_values → Text

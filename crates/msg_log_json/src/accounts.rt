@@ -53,7 +53,6 @@ fn add_writers(
 }
 
 /// What a writer was refused.
-#[tactic(auto, unfolding(crate::specs::LogJson::writer_json))]
 fn add_writer(
     text: &mut Vec<u8>,
     scenario: &Scenario,
@@ -62,11 +61,8 @@ fn add_writer(
     ensures appends { OnOk result
         (text.new.items ≡ text.old.items ++ Spec.writer_json scenario.now writer.now) }
 {
-    text.extend_from_slice(b"{\"system\":\"")?;
-    add_system_name(text, scenario, writer.system)?;
-    text.extend_from_slice(b"\",\"type\":\"")?;
-    add_type(text, scenario, writer.of_type)?;
-    add_count(text, b"\",\"refused\":", writer.refused)?;
+    add_use(text, scenario, writer.system, writer.of_type)?;
+    add_count(text, b",\"refused\":", writer.refused)?;
     text.extend_from_slice(b"}")
 }
 
@@ -95,22 +91,27 @@ fn add_account(
     ensures appends { OnOk result (text.new.items
         ≡ text.old.items ++ account_kept scenario.now world.now account.now) }
 {
-    add_reader(text, scenario, account)?;
+    add_use(text, scenario, account.system, account.of_type)?;
     add_standing(text, account)?;
     add_past(text, account.of_type, account.place, world)?;
     text.extend_from_slice(b"}")
 }
 
-/// Which reader it is.
-#[tactic(auto, unfolding(crate::specs::LogJson::reader_json))]
-fn add_reader(text: &mut Vec<u8>, scenario: &Scenario, account: &Account) -> Result<(), NoMemory>
+/// A system, and a type that it reads or writes.
+#[tactic(auto, unfolding(crate::specs::LogJson::use_json))]
+fn add_use(
+    text: &mut Vec<u8>,
+    scenario: &Scenario,
+    system: u32,
+    of_type: TypeNo,
+) -> Result<(), NoMemory>
     ensures appends { OnOk result
-        (text.new.items ≡ text.old.items ++ Spec.reader_json scenario.now account.now) }
+        (text.new.items ≡ text.old.items ++ Spec.use_json scenario.now system of_type) }
 {
     text.extend_from_slice(b"{\"system\":\"")?;
-    add_system_name(text, scenario, account.system)?;
+    add_system_name(text, scenario, system)?;
     text.extend_from_slice(b"\",\"type\":\"")?;
-    add_type(text, scenario, account.of_type)?;
+    add_type(text, scenario, of_type)?;
     text.extend_from_slice(b"\"")
 }
 

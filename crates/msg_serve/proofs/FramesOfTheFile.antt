@@ -4,7 +4,7 @@ use Rattle.std.proofs.lemmas.List.{map-append}
 use Rattle.msg_frames.specs.Prelude.{State, accounts_of, frame, writer_accounts_of}
 use Rattle.msg_frames.specs.{declared.account.Account.Account, declared.log.Log.Log, declared.writer_account.WriterAccount.WriterAccount}
 use Rattle.msg_frames.specs.declared.frame.Frame.{Frame}
-use Rattle.msg_log_json.specs.Prelude.{frame_line, happened_json, numbered, of_resource, of_type, reader_json, readers_line, writer_json}
+use Rattle.msg_log_json.specs.Prelude.{frame_line, happened_json, numbered, of_resource, of_type, readers_line, use_json}
 use Rattle.msg_reading.specs.Prelude.{state_of}
 use Rattle.msg_reading.specs.declared.scenario.Scenario.{Scenario}
 use Rattle.msg_serve.specs.Prelude.{Request, ServesAsRunsTell, after_request, answer_of, texts_of, number_of, own_requests, with_frames}
@@ -21,7 +21,7 @@ module _ (s : Scenario) (more : List (Frame ℤ)) where
 
   same_readers_line : (accounts : List Account) (writers : List WriterAccount) (now : State i64_values)
       → readers_line (with_frames s more) accounts writers now ≡ readers_line s accounts writers now
-  unfolding numbered reader_json writer_json
+  unfolding numbered use_json
   same_readers_line accounts writers now = refl
 
   -- nor does an answer

@@ -5,7 +5,7 @@ use Rattle.msg_frames.specs.declared.account.Account.{Account}
 use Rattle.msg_world.specs.{Prelude.Parts, Prelude.slot, declared.part.Part.TheVariants.OfResource, declared.part.Part.TheVariants.OfType, declared.record.Record.Record}
 use Rattle.msg_reading.specs.declared.scenario.Scenario.{Scenario}
 use Rattle.msg_json.specs.Prelude.{Text}
-use Rattle.msg_log_json.specs.LogJson.{kept_json, listed, numbered, past_json, reader_json, resource_json, standing_json}
+use Rattle.msg_log_json.specs.LogJson.{kept_json, listed, numbered, past_json, resource_json, standing_json, use_json}
 
 -- a type by its name, by what is kept of it
 abbrev pub type_kept : Text → Option (Kept (Record ℤ)) → Text
@@ -38,7 +38,7 @@ past_kept (Some k) place =
 -- a reader
 abbrev pub account_kept : Scenario → Parts ℤ → Account → Text
 account_kept s world a =
-    reader_json s a ++ standing_json a a.start
+    use_json s a.system a.of_type ++ standing_json a a.start
     ++ past_kept (slot (OfType a.of_type) world) a.place ++ codes "}"
 
 -- all readers
