@@ -10,3 +10,5 @@ pub mod Uses
 pub mod FunctionTurns
 -- What is put into an answer
 pub mod Putting
+-- What a function is given
+pub mod GivenWorld

@@ -1,7 +1,8 @@
 -- What a function is given and answers, and what its system does.
-use Rattle.std.specs.Prelude.{All, ◌≡◌, false, ℕ, suc, ◌==◌, ◌-◌, ◌++◌, Bool, not, ◌&&◌, List, [], ◌∷◌, Option, Some, None, drop, fold, length, map, nat_lt, option_map, option_to_list, replicate, slice_get, slice_index_or, take, if◌then◌else◌}
+use Rattle.std.specs.Prelude.{All, ◌≡◌, ◌≢◌, false, ℕ, suc, ◌<◌, ◌==◌, ◌-◌, ◌++◌, Bool, not, ◌&&◌, List, [], ◌∷◌, Option, Some, None, drop, fold, length, map, nat_lt, option_map, option_to_list, replicate, slice_get, slice_index_or, take, if◌then◌else◌}
 use Rattle.std.specs.List.{list_any, range_with_len}
 use Rattle.std.specs.Option.{option_map_or}
+use Rattle.msg_buffer.specs.Prelude.{message_of, missed, unread}
 use Rattle.msg_world.specs.declared.part.Part.{Part}
 use Rattle.msg_world.specs.declared.part.Part.TheVariants.{OfType, OfResource}
 use Rattle.msg_world.specs.declared.record.Record.{Record}
@@ -224,3 +225,21 @@ pub record TurnIsWhole {V M : Type 0} {values : Values V} (answers : FunctionOf 
       (kept_of answers reads writes (made_on answers reads writes kept m s) (turn m s).replies)
       m.start m.writer (turn m s).places (ops_on answers reads writes kept m s)
   pub uncut : TellsOfNoCut m s
+
+-- ---- what it is given of a world
+
+-- port k is the first of the ports that is this one
+abbrev pub IsFirstAt : List Port → ℕ → Port → Type 0
+IsFirstAt ports k port =
+    (slice_get ports k ≡ Some port) × ((j : ℕ) → j < k → slice_get ports j ≢ Some port)
+
+-- It is given the world as its turn finds it: of a type the messages that it hasn't read yet and that
+-- are still kept, and how many were dropped before it could read them; of a resource the value.
+pub record IsGivenTheWorld {V : Type 0} {values : Values V} (reads : List Port) (m : Meaning V)
+    (s : WorldState values) (given : Given V) : Type 0 where
+  pub messages : (k t : ℕ) → IsFirstAt reads k (Messages t)
+      → given.messages k ≡ map message_of (unread (s.histories t) (m.places t))
+  pub missed : (k t : ℕ) → IsFirstAt reads k (Messages t)
+      → given.missed k ≡ missed (s.histories t) (m.places t)
+  pub value : (k r : ℕ) → slice_get reads k ≡ Some (Resource r)
+      → given.value k ≡ Some (s.resources r)

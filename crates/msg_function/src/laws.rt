@@ -1,10 +1,11 @@
 // Laws of the turns of a function's system. They need no code.
-ghost use Rattle.std.specs.Prelude.{◌+◌, ◌≤◌, ℕ, List, length, map};
+ghost use Rattle.std.specs.Prelude.{◌+◌, ◌≤◌, ℕ, Bool, List, length, map};
 ghost use Rattle.msg_world.specs.Prelude.{WorldState};
-ghost use Rattle.msg_system.specs.{Prelude.BeginsTurnsWith, declared.limits.TheConstants.MAX_OPS, declared.op.Op.Op, declared.start.Start.Start};
-ghost use Rattle.msg_function.specs.{declared.port.Port.Port, Functions.Kept, Functions.TurnIsWhole, Functions.of_function, Functions.read_op};
+ghost use Rattle.msg_system.specs.{Prelude.BeginsTurnsWith, Prelude.Meaning, Prelude.after_program, declared.limits.TheConstants.MAX_OPS, declared.op.Op.Op, declared.start.Start.Start};
+ghost use Rattle.msg_function.specs.{declared.port.Port.Port, Functions.IsGivenTheWorld, Functions.Kept, Functions.TurnIsWhole, Functions.given_by, Functions.of_function, Functions.read_op};
 
 use crate::Function;
+use msg_world::Value;
 
 /// The turn of a function's system is never cut, neither by its access nor by the limit of ops: it
 /// is all that the system reads, and then all that the function answers to that. Then the system is
@@ -32,4 +33,14 @@ pub fn a_function_reads_first<T: Function<READS, WRITES>, const READS: usize, co
         → length reads + length writes ≤ MAX_OPS
         → BeginsTurnsWith (map read_op reads)
         (of_function T.answers reads writes kept start writer places last) }
+{}
+
+/// A function is given its world as its turn finds it: its answer is made of what `given_by` makes of
+/// the replies to what it reads, and that is the world's. If two of its ports are one type, only the
+/// first is given the messages.
+pub fn a_function_is_given_its_world<V: Value>()
+    ensures law { (reads : List Port) (refused : List Bool) (m : Meaning V)
+        (s : WorldState V.values)
+        → IsGivenTheWorld reads m s
+        (given_by refused (after_program (map read_op reads) m.writer m.places s).replies) }
 {}
