@@ -51,26 +51,44 @@ fn starts_in_a_world_with_a_message(rt: HostRuntime) {
     drop(engine);
 }
 
-/// Why no engine is made of a script of these ops that is to run before itself, over one type.
-fn expect_none_before_itself(rt: &(impl Abort + AllocGlobal), ops: Vec<Op>, why: &str) {
+/// Why no engine is made of so many scripts without ops and then one of these ops, which is to run
+/// before itself, over one type.
+fn expect_none_before_itself(
+    rt: &(impl Abort + AllocGlobal),
+    number: u32,
+    ops: Vec<Op>,
+    why: &str,
+) {
     let mut systems = EngineBuilder::new(rt.alloc());
+    for _number in 0..number {
+        let script = scripted(rt, Vec::new(rt.alloc()), Start::Zero);
+        add(rt, &mut systems, script, Vec::new(rt.alloc()), 1);
+    }
     let script = scripted(rt, ops, Start::Zero);
     add(rt, &mut systems, script, Vec::new(rt.alloc()), 1);
-    systems.add_rule(Rule::before(0, 0)).expect(rt, "a rule");
+    let rule = Rule::before(number, number);
+    systems.add_rule(rule).expect(rt, "a rule");
     let world = World::new(rt.alloc(), &[10], &[]).expect(rt, "a world");
     let refused = systems.build(world).err();
     expect_text(rt, &refused.expect(rt, why), why);
+}
+
+/// A script that reads and writes the only type.
+fn expect_clash(rt: &(impl Abort + AllocGlobal), number: u32, why: &str) {
+    let ops = vec![in rt.alloc(); Op::Forward(type_no(0), type_no(0))];
+    expect_none_before_itself(rt, number, ops.expect(rt, "ops"), why);
 }
 
 /// A script that reads and writes the only type, and one without ops.
 #[test]
 fn a_script_before_itself(rt: HostRuntime) {
     let rt = &rt;
-    let ops = vec![in rt.alloc(); Op::Forward(type_no(0), type_no(0))];
-    let why = "system 0 reads and writes one type or resource";
-    expect_none_before_itself(rt, ops.expect(rt, "ops"), why);
+    expect_clash(rt, 0, "system 0 reads and writes one type or resource");
+    expect_clash(rt, 1, "system 1 reads and writes one type or resource");
     let why = "the rules go round in a circle through system 0";
-    expect_none_before_itself(rt, Vec::new(rt.alloc()), why);
+    expect_none_before_itself(rt, 0, Vec::new(rt.alloc()), why);
+    let why = "the rules go round in a circle through system 2";
+    expect_none_before_itself(rt, 2, Vec::new(rt.alloc()), why);
 }
 
 #[test]

@@ -1,8 +1,11 @@
-// How often a system that decides is asked.
+// How often code of a caller's is asked: a system that decides, and a test of values.
 use crate::equal::expect_eq;
 use crate::making::{add, engine_over, run_frame};
 use crate::prefaced::shared_number;
 use msg_exec::{EngineBuilder, NoGate};
+use msg_function::FunctionSystem;
+use msg_function::Port::Messages;
+use msg_function::ready::{Filter, Test};
 use msg_part_tests::numbers::type_no;
 use msg_system::{Access, Behavior, BehaviorSystem, NoMemory, Op, Reply, Start};
 use msg_world::TypeNo;
@@ -96,4 +99,49 @@ fn they_are_asked_once_for_each_op(rt: HostRuntime) {
             expect_asked(&rt, *writes, *asks, number);
         }
     }
+}
+
+/// Lets numbers above 9 pass, and counts how often it is asked.
+#[derive(Drop)]
+struct AskedTest {
+    asked: Arc<AtomicU64>,
+}
+
+impl Test for AskedTest {
+    type Value = i64;
+
+    ghost use Rattle.std.specs.Prelude.{int_lt, pos};
+
+    ghost passes = { λ t value. int_lt (pos 9) value };
+
+    fn passes(&self, value: i64) -> bool {
+        self.asked.fetch_add(1, Ordering::SeqCst);
+        value > 9
+    }
+}
+
+/// Whether it passes or not, a test is asked of each value once.
+#[test]
+fn a_test_is_asked_once_for_each_value(rt: HostRuntime) {
+    let rt = &rt;
+    let asked = shared_number(rt, rt.alloc());
+    let test = AskedTest {
+        asked: Arc::try_clone(&asked).expect(rt, "a count"),
+    };
+    let (from, to) = (Messages(type_no(0)), Messages(type_no(1)));
+    let filter = FunctionSystem::new(rt.alloc(), Filter { test }, [from], [to]);
+    let mut systems = EngineBuilder::new(rt.alloc());
+    add(
+        rt,
+        &mut systems,
+        filter.expect(rt, "a filter"),
+        Vec::new(rt.alloc()),
+        1,
+    );
+    let mut engine = engine_over(rt, rt.alloc(), systems, &[10, 10], &[]);
+    drop(run_frame(rt, &mut engine, &[5, 12, 30], 1, &NoGate));
+    drop(engine);
+    let found = asked.load(Ordering::SeqCst);
+    drop(asked);
+    expect_eq(rt, found, 3);
 }

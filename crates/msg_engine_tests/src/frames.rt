@@ -1,14 +1,18 @@
-// On which threads the jobs of a batch run, and when the gate is called.
+// On which threads the jobs of a batch run, when the gate is called, and that a job may be skipped.
 ghost use Rattle.msg_exec.specs.Prelude.{IsEngine};
 ghost use Rattle.msg_world.specs.Prelude.{i64_values};
 
 use crate::equal::expect_eq;
-use crate::making::run_frame;
+use crate::expecting::{Told, expect_frames};
+use crate::making::{add, engine_over, reader, run_frame};
 use crate::prefaced::{add_counts, prefaced_readers, shared_number};
-use msg_exec::{EngineOf, Gate};
+use msg_exec::{EngineBuilder, EngineOf, Gate};
 use msg_part_tests::meeting::Meeting;
+use msg_part_tests::numbers::type_no;
 use msg_part_tests::prefaced::Prefaced;
-use msg_system::SystemOf;
+use msg_system::{Condition, Probe, Scripted, Start, SystemOf};
+use std::alloc::Global;
+use std::panic::Expect;
 use std::process::Abort;
 use std::sync::atomic::{AtomicU64, Ordering};
 use std::thread::Threads;
@@ -127,5 +131,37 @@ fn expect_row<R: Threads + Clock + Sync + Abort + AllocGlobal>(rt: &R, row: Row)
 fn readers_run_side_by_side(rt: HostRuntime) {
     for row in ROWS {
         expect_row(&rt, *row);
+    }
+}
+
+/// Two readers of the first type, of which the first runs if messages of the second came.
+fn one_that_waits(rt: &impl Abort, alloc: Global) -> EngineOf<Scripted>
+    ensures engine { IsEngine i64_values ⟦<Scripted as SystemOf>⟧.meaning result }
+{
+    let mut systems = EngineBuilder::new(alloc);
+    let probe = Probe::OnMessage(type_no(1));
+    let conditions = vec![in alloc; Condition { nots: 0, probe }].expect(rt, "a condition");
+    let waits = reader(rt, alloc, Start::Zero);
+    add(rt, &mut systems, waits, conditions, 1);
+    let reads = reader(rt, alloc, Start::Zero);
+    add(rt, &mut systems, reads, Vec::new(alloc), 1);
+    engine_over(rt, alloc, systems, &[10, 10], &[])
+}
+
+/// The first batch in its place goes over workers, and one of its systems is skipped.
+#[test]
+fn a_job_may_be_skipped(rt: HostRuntime) {
+    const FRAMES: &[Told<'static>] = &[
+        (
+            &[5],
+            " wrote 1 from 0[0 was skipped][1 read from 0: host=5]",
+        ),
+        (
+            &[6],
+            " wrote 1 from 1[0 was skipped][1 read from 1: host=6]",
+        ),
+    ];
+    for number in [1, 2, 64] {
+        expect_frames(&rt, one_that_waits(&rt, rt.alloc()), number, FRAMES);
     }
 }

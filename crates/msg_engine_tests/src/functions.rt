@@ -34,7 +34,7 @@ impl Test for Large {
 }
 
 /// A system of one of the functions that are there already.
-type Ready = Either<
+pub type Ready = Either<
     Either<FunctionSystem<Filter<Large>, 1, 1>, FunctionSystem<HoldBack, 1, 1>>,
     Either<FunctionSystem<Count, 1, 1>, FunctionSystem<Sum, 1, 1>>,
 >;
@@ -61,13 +61,13 @@ fn add_ready(rt: &impl Abort, alloc: Global, systems: &mut EngineBuilder<Ready>)
     add(rt, systems, sum, Vec::new(alloc), 1);
 }
 
-/// An engine of one of each.
-fn ready(rt: &impl Abort, alloc: Global) -> EngineOf<Ready>
+/// An engine of one of each, over three types of this limit and two resources.
+pub fn ready(rt: &impl Abort, alloc: Global, limit: u64) -> EngineOf<Ready>
     ensures engine { IsEngine i64_values ⟦<Ready as SystemOf>⟧.meaning result }
 {
     let mut systems = EngineBuilder::new(alloc);
     add_ready(rt, alloc, &mut systems);
-    engine_over(rt, alloc, systems, &[10, 10, 10], &[0, 0])
+    engine_over(rt, alloc, systems, &[limit; 3], &[0, 0])
 }
 
 #[test]
@@ -87,7 +87,7 @@ fn functions_that_are_there_already(rt: HostRuntime) {
         ),
     ];
     for number in [1, 2] {
-        expect_frames(&rt, ready(&rt, rt.alloc()), number, FRAMES);
+        expect_frames(&rt, ready(&rt, rt.alloc(), 10), number, FRAMES);
     }
 }
 

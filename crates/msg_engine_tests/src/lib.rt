@@ -21,6 +21,8 @@ mod frames;
 #[cfg(test)]
 mod functions;
 #[cfg(test)]
+mod late;
+#[cfg(test)]
 mod limits;
 #[cfg(test)]
 mod loops;

@@ -155,10 +155,13 @@ fn a_host_is_told_the_turns_in_their_order(rt: HostRuntime) {
     }
 }
 
-/// Waits in its turn until all that are awaited have begun theirs, and does nothing else.
+/// In each of its turns it waits until all that are awaited there have begun theirs, and does nothing
+/// else.
 #[derive(Drop)]
 struct Waiter<'a, 'c, C> {
-    meeting: &'a Meeting<'c, C>,
+    meetings: &'a [Meeting<'c, C>; 2],
+    /// How many turns it took.
+    turns: usize,
 }
 
 impl<C: Clock + Sync> Behavior for Waiter<'_, '_, C> {
@@ -175,25 +178,29 @@ impl<C: Clock + Sync> Behavior for Waiter<'_, '_, C> {
     ghost remembered = { λ memory replies. memory };
 
     fn next(&self, _alloc: Global, _replies: &[Reply]) -> Result<Option<Op>, NoMemory> {
-        self.meeting.come();
-        self.meeting.wait();
+        let meetings = self.meetings;
+        if let Some(meeting) = meetings.get(self.turns) {
+            meeting.come();
+            meeting.wait();
+        }
         Ok(None)
     }
 
     fn remember(&mut self, _alloc: Global, _replies: &[Reply]) -> Result<(), NoMemory> {
+        self.turns = self.turns.saturating_add(1);
         Ok(())
     }
 }
 
-/// What a loop of one frame comes to on two workers.
-fn end_of_one<R: Threads + Sync + Abort, S: SystemOf<Value = i64> + Send>(
+/// What a loop of two frames comes to on two workers.
+fn end_of_two<R: Threads + Sync + Abort, S: SystemOf<Value = i64> + Send>(
     rt: &R,
     mut engine: EngineOf<S>,
 ) -> Result<(), LoopFault>
     requires engine { IsEngine i64_values S.meaning engine }
 {
     let mut host = Giver {
-        frames: 1,
+        frames: 2,
         then: Then::Ends,
     };
     let ended = engine.run_loop(rt, &mut host, 9, workers(rt, 2));
@@ -201,20 +208,29 @@ fn end_of_one<R: Threads + Sync + Abort, S: SystemOf<Value = i64> + Send>(
     ended
 }
 
-/// Two systems, each of which waits until the other has begun too, come to their ends in a loop on
-/// two workers.
+/// Two systems, each of which waits in each frame until the other has begun too, come to their ends
+/// in a loop on two workers. That the other worker ran one of the two jobs of the first frame is
+/// why the second goes over workers too.
 fn expect_both_begin<R: Threads + Clock + Sync + Abort + AllocGlobal>(rt: &R) {
-    let meeting = Meeting::new(rt, 2);
+    let meetings = [Meeting::new(rt, 2), Meeting::new(rt, 2)];
     let mut systems = EngineBuilder::new(rt.alloc());
     for _system in 0..2 {
-        let waiter = Waiter { meeting: &meeting };
+        let waiter = Waiter {
+            meetings: &meetings,
+            turns: 0,
+        };
         let system = BehaviorSystem::new(rt.alloc(), waiter, Access::none(), Start::Zero, 0);
         add(rt, &mut systems, system, Vec::new(rt.alloc()), 1);
     }
     let engine = engine_over(rt, rt.alloc(), systems, &[], &[]);
-    let ended = end_of_one(rt, engine);
-    let found = (ended, meeting.came(), meeting.missed());
-    expect_eq(rt, found, (Ok(()), 2, 0));
+    let ended = end_of_two(rt, engine);
+    for meeting in &meetings {
+        expect_eq(
+            rt,
+            (ended, meeting.came(), meeting.missed()),
+            (Ok(()), 2, 0),
+        );
+    }
 }
 
 #[test]

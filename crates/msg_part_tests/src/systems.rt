@@ -112,3 +112,22 @@ fn a_relay_runs_twice(rt: HostRuntime) {
     expect_eq(rt, messages.get(MessageId(0)).copied(), Some(record));
     drop(world);
 }
+
+const SUMMED: &str = "[Summed { took: Took { missed: 0, first: 0, items: Items { items: [\
+     Record { writer: 256, value: 1 }, Record { writer: 256, value: -5 }] } }, \
+     value: 9223372036854775802 }]";
+
+/// A tally adds the values one by one, each sum within the range of `i64`.
+#[test]
+fn a_tally_at_the_end_of_its_range(rt: HostRuntime) {
+    let rt = &rt;
+    let (t, r) = (type_no(0), res_no(0));
+    let mut world = World::new(rt.alloc(), &[10], &[9_223_372_036_854_775_807]).have(rt);
+    let mut tally = Tally::new(t, r, Start::Zero, 0);
+    let mut replies = Vec::new(rt.alloc());
+    post_all(rt, &mut world, t, &[1, -5]);
+    run_once(rt, rt.alloc(), &mut world, &mut tally, &mut replies);
+    expect_replies(rt, replies, SUMMED);
+    expect_eq(rt, world.resource(r), Some(9_223_372_036_854_775_802));
+    drop(world);
+}
