@@ -1,4 +1,4 @@
--- The command line: `msgrun`, `msgrun buffer FILE`, `msgrun run FILE --workers N --json`,
+-- The command line: `msgrun`, `msgrun buffer FILE`, `msgrun run FILE --workers N --json --losses`,
 -- `msgrun check FILE`, `msgrun plan FILE --frame K --dot`, or `msgrun serve FILE --workers N`.
 use Rattle.std.specs.Prelude.{Some, List, [], ◌∷◌, String, codes, map, string_bytes, true}
 use Rattle.std.specs.declared.alloc.Global.{Global}
@@ -25,11 +25,11 @@ flag_rule name = record (new_rule name) { long = Some name; action = Some SetTru
 abbrev pub file_app : Text → App
 file_app name = with_rule (new_app name) file_rule
 
--- run FILE --workers N --json
+-- run FILE --workers N --json --losses
 abbrev pub run_app : App
 run_app =
-    with_rule (with_rule (file_app (codes "run")) (flag_rule (codes "json")))
-    (number_rule (codes "workers"))
+    with_rule (with_rule (with_rule (file_app (codes "run")) (flag_rule (codes "json")))
+    (flag_rule (codes "losses"))) (number_rule (codes "workers"))
 
 -- serve FILE --workers N
 abbrev pub serve_app : App

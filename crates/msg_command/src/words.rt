@@ -11,26 +11,19 @@ pub use parse::parse_words;
 pub enum Action {
     /// Answer the calls file of this name, or if there is none that of standard input.
     Buffer(Option<String>),
-    /// Run the scenario file of this name on 1 to 64 workers, and tell it as a report or as JSON.
-    Run {
-        file: String,
-        workers: u32,
-        json: bool,
-    },
+    /// Run the scenario file of this name on 1 to 64 workers, and report.
+    Run { file: String, workers: u32 },
+    /// The same, and tell what each reader lost.
+    RunWithLosses { file: String, workers: u32 },
+    /// The same, and tell it as lines of JSON.
+    RunAsJson { file: String, workers: u32 },
     /// Run the scenario file of this name on 1 to 64 workers, and go on with the frames that are
     /// lines of standard input.
-    Serve {
-        file: String,
-        workers: u32,
-    },
+    Serve { file: String, workers: u32 },
     /// Check the scenario file or calls file of this name.
     Check(String),
     /// Tell the plan of a frame of the scenario file of this name, for Graphviz or as lines.
-    Plan {
-        file: String,
-        frame: u32,
-        dot: bool,
-    },
+    Plan { file: String, frame: u32, dot: bool },
 }
 
 /// Why the words give no action.

@@ -2,6 +2,7 @@
 ghost use Rattle.std.specs.Prelude.{◌≡◌, [], IfSome, Some};
 ghost use Rattle.msg_scenario.specs.Prelude.{IsReported};
 ghost use Rattle.msg_scenario.specs.FromBytes.{IsOfScenario};
+ghost use Rattle.msg_scenario.specs.declared.reports.accounts.Readers.TheVariants.{Plain};
 
 use msg_exec::Workers;
 use msg_scenario::laws::each_file_has_one_report;
@@ -15,7 +16,7 @@ fn report_on<R: Threads + Sync + AllocGlobal>(
     workers: Workers,
 ) -> Option<MemorySink>
     ensures reported { IfSome result (λ sink. IsOfScenario bytes.now (λ scenario.
-        IsReported scenario (Some []) (Some sink.contents))) }
+        IsReported Plain scenario (Some []) (Some sink.contents))) }
 {
     let mut sink = MemorySink::new();
     match report_bytes(rt, bytes, workers, &mut sink) {

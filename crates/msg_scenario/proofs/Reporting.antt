@@ -5,10 +5,10 @@ use Rattle.std.proofs.Math.Seq.{take-append_seam, take-length}
 use Rattle.std.specs.Io.KnownBytes.{Appends}
 use Rattle.std.proofs.KnownBytes.{Appends-nil, Appends-trans}
 use Rattle.msg_system.specs.Prelude.{Meaning}
-use Rattle.msg_frames.specs.Prelude.{IsCompleteRun, State, accounts_of, before_turns, frame as frame_of, run}
+use Rattle.msg_frames.specs.Prelude.{IsCompleteRun, State, before_turns, frame as frame_of, run}
 use Rattle.msg_frames.specs.Frames.{turn_order}
 use Rattle.msg_exec.specs.Prelude.{HasRunFrame, IsSpoiled, EngineStands, frame_number}
-use Rattle.msg_frames.specs.{declared.account.Account.Account, declared.frame.Frame.Frame, declared.log.Log.Log}
+use Rattle.msg_frames.specs.{declared.frame.Frame.Frame, declared.log.Log.Log}
 use Rattle.msg_exec.specs.declared.engine.EngineOf.{EngineOf}
 use Rattle.msg_frames.proofs.{Functions.run_more, SystemsStay.frames_keep}
 use Rattle.msg_world.specs.{declared.run_fault.RunFault.RunFault, Prelude.i64_values}
@@ -16,7 +16,8 @@ use Rattle.msg_world.specs.declared.run_fault.RunFault.TheVariants as run_fault
 use Rattle.msg_json.specs.Prelude.{AppendsAtLeast, AppendsPrefix, IsPut, Text, one_failure_more}
 use Rattle.msg_json.specs.declared.report_fault.ReportFault.{ReportFault}
 use Rattle.msg_json.specs.declared.report_fault.ReportFault.TheVariants as report_fault
-use Rattle.msg_scenario.specs.Prelude.{EndsInText, HasRunFirst, LeavesEngine, LeavesReport, accounts_text, frame_text, frames_text, text_so_far}
+use Rattle.msg_scenario.specs.Prelude.{EndsInText, HasRunFirst, LeavesEngine, LeavesReport, frame_text, frames_text, readers_text, text_so_far}
+use Rattle.msg_scenario.specs.declared.reports.accounts.Readers.{Readers}
 use Rattle.msg_reading.specs.Prelude.{state_of}
 use Rattle.msg_reading.specs.declared.scenario.Scenario.{Scenario}
 use Rattle.msg_json.proofs.Puts.{AppendsPrefix_after}
@@ -26,12 +27,12 @@ use Rattle.msg_scenario.proofs.TextsByPieces.{zip-nil}
 -- ---- texts
 
 -- what follows the text of the frames: the readers' lines, if all frames were run
-abbrev rest_of : Scenario → List (Log ℤ) → List Account → Text
-rest_of s logs accounts = if length logs == length s.frames then accounts_text s accounts else []
+abbrev rest_of : Scenario → List (Log ℤ) → Text → Text
+rest_of s logs readers = if length logs == length s.frames then readers else []
 
-text_so_far_parts : (s : Scenario) (logs : List (Log ℤ)) (accounts : List Account)
-    → text_so_far s logs accounts ≡ frames_text s 1 s.frames logs ++ rest_of s logs accounts
-text_so_far_parts s logs accounts = grind (arith, append-nil (frames_text s 1 s.frames logs))
+text_so_far_parts : (s : Scenario) (logs : List (Log ℤ)) (readers : Text)
+    → text_so_far s logs readers ≡ frames_text s 1 s.frames logs ++ rest_of s logs readers
+text_so_far_parts s logs readers = grind (arith, append-nil (frames_text s 1 s.frames logs))
 
 -- the text of some frames, and then that of the frames after them
 frames_text-append : (s : Scenario) (number : ℕ) (frames : List (Frame ℤ)) (first later : List (Log ℤ))
@@ -64,16 +65,16 @@ in_text_by fault is = grind arith
 -- ---- runs
 
 module _ {S : Type 0} (contents : S → Option (List ℕ)) (failures : S → ℕ) {X : Type 0} (meaning : X → Meaning ℤ)
-    (s : Scenario) (first : EngineOf X ℤ) where
+    (told : Readers) (s : Scenario) (first : EngineOf X ℤ) where
   -- what a report leaves, and the engine that made it
   abbrev pub Leaves : Result (Unit {0}) ReportFault → S → S → EngineOf X ℤ → Type 0
   Leaves came old new last =
-      (left : LeavesReport contents failures s came old new) × LeavesEngine meaning left first last
+      (left : LeavesReport contents failures told s came old new) × LeavesEngine meaning left first last
 
   -- where it ended in a text
   left_in_text : (fault : ReportFault) → EndsInText (Err fault) → (old new : S) (last : EngineOf X ℤ)
       (logs : List (Log ℤ)) (state : State i64_values) → HasRunFirst s logs state
-      → AppendsPrefix (contents old) (contents new) (text_so_far s logs (accounts_of state))
+      → AppendsPrefix (contents old) (contents new) (text_so_far s logs (readers_text s told state))
       → AppendsAtLeast (contents old) (contents new) (frames_text s 1 s.frames (take (length logs - 1) logs))
       → AppendsPrefix (contents old) (contents new) (frames_text s 1 s.frames logs)
       ⊎ ((length logs ≡ length s.frames)
@@ -115,7 +116,7 @@ module _ {S : Type 0} (contents : S → Option (List ℕ)) (failures : S → ℕ
   stopped_before_all fault is sink begun none =
       let nothing = Appends-nil (contents sink) in
       left_in_text fault (inr (ap Err is)) sink sink first [] (state_of s) (refl, refl)
-      ([], text_so_far s [] (accounts_of (state_of s)), refl, nothing) ([], rw (zip-nil s.frames) nothing)
+      ([], text_so_far s [] (readers_text s told (state_of s)), refl, nothing) ([], rw (zip-nil s.frames) nothing)
       (inl ([], frames_text s 1 s.frames [], refl, nothing)) (λ write. absurd cc) (λ memory. refl) begun begun none
 
   -- ---- after the first k frames
@@ -191,8 +192,8 @@ module _ {S : Type 0} (contents : S → Option (List ℕ)) (failures : S → ℕ
           grind (arith, common_steps, take-append_seam far.logs (log ∷ [])) in
           left_in_text fault in_text old after f logs_now left (rw many_now was_run)
           (AppendsPrefix_after (contents old) (contents now) (contents after) texts here
-          (rest_of s logs_now (accounts_of left)) _
-          (rw (← text_now) (text_so_far_parts s logs_now (accounts_of left))) far.printed put.part) (
+          (rest_of s logs_now (readers_text s told left)) _
+          (rw (← text_now) (text_so_far_parts s logs_now (readers_text s told left))) far.printed put.part) (
             put.part.0,
             rw earlier
                 (Appends-trans (contents old) (contents now) (contents after) texts put.part.0 far.printed put.part.3),
@@ -222,7 +223,7 @@ module _ {S : Type 0} (contents : S → Option (List ℕ)) (failures : S → ℕ
         prefix = (
           frames_text s 1 s.frames far.logs,
           _,
-          text_so_far_parts s far.logs (accounts_of far.state),
+          text_so_far_parts s far.logs (readers_text s told far.state),
           far.printed,
         );
         run = λ is. far.printed;
@@ -244,12 +245,11 @@ module _ {S : Type 0} (contents : S → Option (List ℕ)) (failures : S → ℕ
 
     -- ---- the readers
 
-    module _ (after : S) (accounts : List Account) (all : k ≡ length s.frames)
-        (are : (u : State i64_values) → EngineStands meaning e u → accounts ≡ accounts_of u) where
+    module _ (after : S) (all : k ≡ length s.frames) where
       -- what came of the put of their lines
       pub readers_done : (came : Result (Unit {0}) ReportFault)
           → ((frames : List (Frame ℤ)) → IsCompleteRun frames (state_of s))
-          → IsPut contents failures (accounts_text s accounts) came now after
+          → IsPut contents failures (readers_text s told far.state) came now after
           → IfErr came (λ fault. (fault ≡ report_fault.Write) ⊎ (fault ≡ report_fault.NoMemory))
           → Leaves came old after e
       -- they were put
@@ -262,8 +262,7 @@ module _ {S : Type 0} (contents : S → Option (List ℕ)) (failures : S → ℕ
               ok = record {
                 complete = complete s.frames;
                 printed = rw (← whole.0, ← whole.1) (Appends-trans (contents old) (contents now) (contents after)
-                    (frames_text s 1 s.frames far.logs) (accounts_text s (accounts_of far.state)) far.printed
-                    (rw (are far.state far.stands) at put.ok));
+                    (frames_text s 1 s.frames far.logs) (readers_text s told far.state) far.printed put.ok);
               };
               prefix = tt;
               run = λ is. absurd cc;
@@ -286,8 +285,8 @@ module _ {S : Type 0} (contents : S → Option (List ℕ)) (failures : S → ℕ
       readers_done (Err fault) complete put faults =
           let many = far.as_many in
           let texts = frames_text s 1 s.frames far.logs in
-          let lines = accounts_text s (accounts_of far.state) in
-          let part : AppendsPrefix (contents now) (contents after) lines = rw (← are far.state far.stands) put.part in
+          let lines = readers_text s told far.state in
+          let part : AppendsPrefix (contents now) (contents after) lines = put.part in
           let trans = Appends-trans (contents old) (contents now) (contents after) texts part.0 far.printed part.3 in
           let n = length far.logs - 1 in
           let begun = take n far.logs in

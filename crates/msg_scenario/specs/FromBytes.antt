@@ -12,6 +12,7 @@ use Rattle.msg_calls.specs.declared.calls.Calls.{Calls}
 use Rattle.msg_reading.specs.Prelude.{IsReadAs}
 use Rattle.msg_scenario.specs.Prelude.{IsReported}
 use Rattle.msg_reading.specs.declared.scenario.Scenario.{Scenario}
+use Rattle.msg_scenario.specs.declared.reports.accounts.Readers.{Readers}
 
 -- The bytes are a scenario file, and this holds of its scenario.
 pub record IsOfScenario (bytes : List ℕ) (Holds : Scenario → Type 0) : Type 0 where
@@ -45,9 +46,9 @@ IsRefusedFile has bytes why = (why ≡ refusal.NotJson → IsNotJson bytes)
     × (why ≢ refusal.NotJson → why ≢ refusal.NoMemory
     → (d : Data) × IsJsonOf bytes d × IsRefusedFor (has d) why)
 
--- A scenario file has one report, whoever runs it, on however many workers.
+-- A scenario file has one report of each kind, whoever runs it, on however many workers.
 abbrev pub EachFileHasOneReport : Type 0
-EachFileHasOneReport = (bytes before one other : List ℕ)
-    → IsOfScenario bytes (λ scenario. IsReported scenario (Some before) (Some one))
-    → IsOfScenario bytes (λ scenario. IsReported scenario (Some before) (Some other))
+EachFileHasOneReport = (how : Readers) (bytes before one other : List ℕ)
+    → IsOfScenario bytes (λ scenario. IsReported how scenario (Some before) (Some one))
+    → IsOfScenario bytes (λ scenario. IsReported how scenario (Some before) (Some other))
     → one ≡ other

@@ -1,18 +1,20 @@
 -- The text that a scenario prints: frame by frame what the host's posts and the systems' ops were
 -- answered, and at the end what each reader got.
-use Rattle.std.specs.Prelude.{ℕ, ℤ, ◌+◌, ◌==◌, List, [], ◌∷◌, ◌++◌, Option, Some, None, length, slice_get, zip, flat_map, codes, decimal, if◌then◌else◌}
+use Rattle.std.specs.Prelude.{ℕ, ℤ, ◌+◌, ◌==◌, List, [], ◌∷◌, ◌++◌, Option, Some, None, length, slice_get, zip, flat_map, codes, decimal, nat_lt, if◌then◌else◌}
 use Rattle.std.specs.{Fmt.signed_decimal, List.enumerate_from, Option.option_map_or}
 use Rattle.msg_buffer.specs.declared.instance.Written.{Written}
-use Rattle.msg_world.specs.declared.record.Record.{Record}
+use Rattle.msg_world.specs.{Prelude.i64_values, declared.record.Record.Record}
 use Rattle.msg_system.specs.{declared.op.Op.Op, declared.reply.Took.Took, declared.reply.Reply.Reply}
 use Rattle.msg_system.specs.declared.op.Op.TheVariants as op
 use Rattle.msg_system.specs.declared.reply.Reply.TheVariants as reply
-use Rattle.msg_frames.specs.{declared.account.Account.Account, declared.frame.Frame.Frame, declared.log.Log.Log, declared.log.Turn.Turn}
+use Rattle.msg_frames.specs.{Prelude.State, Prelude.accounts_of, Prelude.backlog_of, declared.account.Account.Account, declared.backlog.Backlog.Backlog, declared.frame.Frame.Frame, declared.log.Log.Log, declared.log.Turn.Turn}
 use Rattle.msg_frames.specs.declared.log.Outcome.{Outcome}
 use Rattle.msg_frames.specs.declared.log.Outcome.TheVariants.{Ran, Skipped}
 use Rattle.msg_json.specs.Prelude.{Text}
 use Rattle.msg_reading.specs.Prelude.{resource_name, system_name, type_name, writer_name}
 use Rattle.msg_reading.specs.{declared.scenario.Scenario.Scenario, declared.scenario.SystemSpec.SystemSpec}
+use Rattle.msg_scenario.specs.declared.reports.accounts.Readers.{Readers}
+use Rattle.msg_scenario.specs.declared.reports.accounts.Readers.TheVariants.{Plain, WithLosses}
 
 -- ---- parts of a line
 
@@ -133,15 +135,30 @@ standing_text a (Some start) =
     ++ codes " missed " ++ decimal a.missed ++ codes " cleared " ++ decimal a.cleared
     ++ codes " place " ++ decimal a.place
 
+-- how many messages past its place were dropped, and how many are kept, if that is told
+abbrev pub left_text : Option Backlog → Text
+left_text None = []
+left_text (Some left) =
+    codes " lost " ++ decimal left.lost ++ codes " unread " ++ decimal left.unread
+
+-- what there is to tell of that; of a type that there isn't, nothing
+abbrev pub left_of : Readers → State i64_values → Account → Option Backlog
+left_of Plain now a = None
+left_of WithLosses now a = if nat_lt a.of_type now.types then Some (backlog_of now a) else None
+
 -- the line of a reader
-abbrev pub account_line : Scenario → Account → Text
-account_line s a =
+abbrev pub account_line : Scenario → Account → Option Backlog → Text
+account_line s a left =
     codes "reader " ++ system_name s a.system ++ codes " " ++ type_name s a.of_type
-    ++ standing_text a a.start ++ codes "\n"
+    ++ standing_text a a.start ++ left_text left ++ codes "\n"
+
+-- a line for each of these readers
+abbrev pub accounts_text : Scenario → Readers → State i64_values → List Account → Text
+accounts_text s how now accounts = flat_map (λ a. account_line s a (left_of how now a)) accounts
 
 -- a line for each reader
-abbrev pub accounts_text : Scenario → List Account → Text
-accounts_text s accounts = flat_map (account_line s) accounts
+abbrev pub readers_text : Scenario → Readers → State i64_values → Text
+readers_text s how now = accounts_text s how now (accounts_of now)
 
 -- ---- the whole
 
@@ -150,14 +167,13 @@ abbrev pub frames_text : Scenario → ℕ → List (Frame ℤ) → List (Log ℤ
 frames_text s number frames logs =
     flat_map (λ f. frame_text s f.0 f.1.0 f.1.1) (enumerate_from number (zip frames logs))
 
--- the text of a scenario whose frames had these logs, and whose readers had these accounts at the
--- end
-abbrev pub report_text : Scenario → List (Log ℤ) → List Account → Text
-report_text s logs accounts = frames_text s 1 s.frames logs ++ accounts_text s accounts
+-- the text of a scenario whose frames had these logs, and whose readers these lines at the end
+abbrev pub report_text : Scenario → List (Log ℤ) → Text → Text
+report_text s logs readers = frames_text s 1 s.frames logs ++ readers
 
 -- the text of the frames that had these logs; and the readers' lines too, if these are all
 -- frames
-abbrev pub text_so_far : Scenario → List (Log ℤ) → List Account → Text
-text_so_far s logs accounts =
-    if length logs == length s.frames then report_text s logs accounts
+abbrev pub text_so_far : Scenario → List (Log ℤ) → Text → Text
+text_so_far s logs readers =
+    if length logs == length s.frames then report_text s logs readers
     else frames_text s 1 s.frames logs

@@ -2,11 +2,12 @@
 use Rattle.std.specs.Prelude.{◌≡◌, ◌≢◌, ◌⊎◌, ℕ, ◌<◌, ◌-◌, ◌^◌, min, List, length, take, Option, Result, Err, OnErr, OnOk, ℤ}
 use Rattle.std.specs.Io.KnownBytes.{Appends}
 use Rattle.msg_system.specs.Prelude.{Meaning}
-use Rattle.msg_frames.specs.Prelude.{IsCompleteRun, State, accounts_of, run}
+use Rattle.msg_frames.specs.Prelude.{IsCompleteRun, State, run}
 use Rattle.msg_exec.specs.Prelude.{IsSpoiled, EngineStands, frame_number}
 use Rattle.msg_exec.specs.declared.engine.EngineOf.{EngineOf}
 use Rattle.msg_frames.specs.declared.log.Log.{Log}
-use Rattle.msg_scenario.specs.ReportText.{frames_text, report_text, text_so_far}
+use Rattle.msg_scenario.specs.ReportText.{frames_text, readers_text, report_text, text_so_far}
+use Rattle.msg_scenario.specs.declared.reports.accounts.Readers.{Readers}
 use Rattle.msg_reading.specs.Prelude.{state_of}
 use Rattle.msg_json.specs.Prelude.{AppendsAtLeast, AppendsPrefix, one_failure_more}
 use Rattle.msg_json.specs.declared.report_fault.ReportFault.{ReportFault}
@@ -22,16 +23,17 @@ HasRunFirst s logs state = (logs ≡ (run (take (length logs) s.frames) (state_o
 
 -- All frames were run, with all that a run comes to, and the sink took the report of the scenario,
 -- and no more.
-pub record IsReported (s : Scenario) (before after : Option (List ℕ)) : Type 0 where
+pub record IsReported (how : Readers) (s : Scenario) (before after : Option (List ℕ)) : Type 0 where
   pub complete : IsCompleteRun s.frames (state_of s)
   pub printed : Appends before after (report_text s (run s.frames (state_of s)).logs
-      (accounts_of (run s.frames (state_of s)).state))
+      (readers_text s how (run s.frames (state_of s)).state))
 
 -- the report ended in a text: the sink failed, or there was no memory to make the text
 abbrev pub EndsInText : Result (Unit {0}) ReportFault → Type 0
 EndsInText came = (came ≡ Err report_fault.Write) ⊎ (came ≡ Err report_fault.NoMemory)
 
-module _ {S : Type 0} (contents : S → Option (List ℕ)) (failures : S → ℕ) (s : Scenario) where
+module _ {S : Type 0} (contents : S → Option (List ℕ)) (failures : S → ℕ) (how : Readers)
+    (s : Scenario) where
   -- What a report leaves that came to this: how far the scenario was run, and what the sink took.
   -- It names neither the engine nor its workers.
   pub record LeavesReport (came : Result (Unit {0}) ReportFault) (old new : S) : Type 0 where
@@ -41,10 +43,11 @@ module _ {S : Type 0} (contents : S → Option (List ℕ)) (failures : S → ℕ
     pub state : State i64_values
     pub is_run : HasRunFirst s logs state
     -- if nothing failed, all frames were run, and the sink took the report
-    pub ok : OnOk came (IsReported s (contents old) (contents new))
+    pub ok : OnOk came (IsReported how s (contents old) (contents new))
     -- after any fault it took a front of their text, which has the readers' lines after all frames
     pub prefix : OnErr came
-        (AppendsPrefix (contents old) (contents new) (text_so_far s logs (accounts_of state)))
+        (AppendsPrefix (contents old) (contents new)
+        (text_so_far s logs (readers_text s how state)))
     -- if a frame or the accounts had no memory, it took exactly the text of the frames before
     pub run : came ≡ Err (report_fault.Run run_fault.NoMemory)
         → Appends (contents old) (contents new) (frames_text s 1 s.frames logs)
@@ -63,11 +66,11 @@ module _ {S : Type 0} (contents : S → Option (List ℕ)) (failures : S → ℕ
     pub write : came ≡ Err report_fault.Write → failures new ≡ one_failure_more (failures old)
     pub quiet : came ≢ Err report_fault.Write → failures new ≡ failures old
 
-module _ {S : Type 0} {contents : S → Option (List ℕ)} {failures : S → ℕ} {s : Scenario}
-    {came : Result (Unit {0}) ReportFault} {old new : S} {X : Type 0}
+module _ {S : Type 0} {contents : S → Option (List ℕ)} {failures : S → ℕ} {how : Readers}
+    {s : Scenario} {came : Result (Unit {0}) ReportFault} {old new : S} {X : Type 0}
     (meaning : X → Meaning ℤ) where
   -- How such a report leaves the engine that made it.
-  pub record LeavesEngine (left : LeavesReport contents failures s came old new)
+  pub record LeavesEngine (left : LeavesReport contents failures how s came old new)
       (before after : EngineOf X ℤ) : Type 0 where
     -- it stood for the first state of the scenario
     pub begun : EngineStands meaning before (state_of s)

@@ -9,7 +9,8 @@ ghost use Rattle.msg_reading.specs.Prelude.{HasFault};
 ghost use Rattle.msg_scenario.specs.Prelude.{IsReported, LeavesReport};
 ghost use Rattle.msg_scenario.specs.FromBytes.{AreOfCalls, EndsText, IsOfScenario, IsRefusedFile};
 
-use crate::{AnswerFault, engine_of, report, systems_of};
+use crate::reports::{Told, report_with};
+use crate::{AnswerFault, Readers, engine_of, systems_of};
 use msg_advice::{Form, put_plan};
 use msg_calls::{read_calls, run_calls};
 use msg_exec::{NoGate, Workers};
@@ -70,11 +71,40 @@ pub fn report_bytes<R: Threads + Sync + AllocGlobal, S: Sink>(
 
     // Whatever the workers: the report is that of one thread.
     ensures ok { OnOk result (IsOfScenario bytes.now (λ scenario.
-        IsReported scenario (S.contents sink.old) (S.contents sink.new))) }
+        IsReported Readers.Plain scenario (S.contents sink.old) (S.contents sink.new))) }
     ensures quiet { OnOk result (S.failures sink.new ≡ S.failures sink.old) }
     ensures report { (fault : FaultView) → result ≡ Err (AnswerFault.Report fault)
         → IsOfScenario bytes.now (λ scenario.
-        LeavesReport S.contents S.failures scenario (Err fault) sink.old sink.new) }
+        LeavesReport S.contents S.failures Readers.Plain scenario (Err fault) sink.old sink.new) }
+    ensures refused { (why : RefusalView) → result ≡ Err (AnswerFault.Refused why)
+        → IsRefusedFile HasFault bytes.now why }
+    ensures unread { (why : RefusalView) → result ≡ Err (AnswerFault.Refused why)
+        → sink.new ≡ sink.old }
+    ensures no_engine { result ≡ Err AnswerFault.NoMemory
+        → IsOfScenario bytes.now (λ scenario. sink.new ≡ sink.old) }
+    ensures no_input { ¬ (result ≡ Err AnswerFault.Input) }
+{
+    report_bytes_with(rt, bytes, Readers::Plain, workers, sink)
+}
+
+/// As `report_bytes`, with the readers told as is asked for.
+///
+/// # Errors
+///
+/// As those of `report_bytes`.
+pub fn report_bytes_with<R: Threads + Sync + AllocGlobal, S: Sink>(
+    rt: &R,
+    bytes: &[u8],
+    readers: Readers,
+    workers: Workers,
+    sink: &mut S,
+) -> Result<(), AnswerFault>
+    ensures ok { OnOk result (IsOfScenario bytes.now (λ scenario.
+        IsReported readers scenario (S.contents sink.old) (S.contents sink.new))) }
+    ensures quiet { OnOk result (S.failures sink.new ≡ S.failures sink.old) }
+    ensures report { (fault : FaultView) → result ≡ Err (AnswerFault.Report fault)
+        → IsOfScenario bytes.now (λ scenario.
+        LeavesReport S.contents S.failures readers scenario (Err fault) sink.old sink.new) }
     ensures refused { (why : RefusalView) → result ≡ Err (AnswerFault.Refused why)
         → IsRefusedFile HasFault bytes.now why }
     ensures unread { (why : RefusalView) → result ≡ Err (AnswerFault.Refused why)
@@ -86,7 +116,11 @@ pub fn report_bytes<R: Threads + Sync + AllocGlobal, S: Sink>(
     let scenario = read_scenario(rt.alloc(), bytes)?;
     let systems = systems_of(rt.alloc(), &scenario)?;
     let mut engine = engine_of(rt.alloc(), &scenario, systems)?;
-    Ok(report(rt, &mut engine, &scenario, workers, &NoGate, sink)?)
+    let told = Told {
+        scenario: &scenario,
+        readers,
+    };
+    Ok(report_with(rt, &mut engine, told, workers, &NoGate, sink)?)
 }
 
 /// Tells the plan of a frame of a scenario file, as lines or for Graphviz. Nothing is run. Frames

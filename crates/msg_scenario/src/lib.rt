@@ -13,7 +13,7 @@ pub mod laws;
 mod reports;
 
 pub use answer_fault::AnswerFault;
-pub use answering::{answer_bytes, plan_bytes, report_bytes};
+pub use answering::{answer_bytes, plan_bytes, report_bytes, report_bytes_with};
 pub use building::{engine_of, systems_of};
 pub use check_fault::CheckFault;
 pub use checking::check_bytes;
@@ -29,4 +29,4 @@ pub use msg_json::{
 pub use msg_reading::{
     Kind, Name, Scenario, SystemSpec, check_scenario, read_scenario, read_sections,
 };
-pub use reports::report;
+pub use reports::{Readers, report};

@@ -8,4 +8,6 @@ mod put;
 mod reply;
 mod run;
 
+pub use accounts::Readers;
 pub use run::report;
+pub(crate) use run::{Told, report_with};

@@ -16,7 +16,8 @@ use msg_command::{Action, InputFault, MainFault, WordFault, parse_words, print_f
 use msg_exec::{MAX_WORKERS, Workers};
 use msg_json::{StdSink, StdSource, put_all};
 use msg_scenario::{
-    AnswerFault, CheckFault, Form, answer_bytes, check_bytes, plan_bytes, report_bytes,
+    AnswerFault, CheckFault, Form, Readers, answer_bytes, check_bytes, plan_bytes,
+    report_bytes_with,
 };
 use msg_serve::{serve_bytes, trace_bytes};
 use std::env::Env;
@@ -41,11 +42,11 @@ fn run<R: AllocGlobal + Env + Files + Input + Print + Sync + Threads>(
     let words = words_given(rt)?;
     match parse_words(rt.alloc(), words.as_slice())? {
         Action::Buffer(file) => answer_calls(rt, file),
-        Action::Run {
-            file,
-            workers,
-            json,
-        } => answer_scenario(rt, file, workers, json),
+        Action::Run { file, workers } => report_scenario(rt, file, Readers::Plain, workers),
+        Action::RunWithLosses { file, workers } => {
+            report_scenario(rt, file, Readers::WithLosses, workers)
+        }
+        Action::RunAsJson { file, workers } => trace_scenario(rt, file, workers),
         Action::Check(file) => check_file(rt, file),
         Action::Plan { file, frame, dot } => plan_scenario(rt, file, frame, dot),
         Action::Serve { file, workers } => serve_lines(rt, file, workers),
@@ -75,11 +76,11 @@ fn answer_calls<R: AllocGlobal + Files + Input + Print>(
 }
 
 /// Runs a scenario file on 1 to 64 workers, and reports on standard output.
-fn answer_scenario<R: AllocGlobal + Files + Input + Print + Sync + Threads>(
+fn report_scenario<R: AllocGlobal + Files + Input + Print + Sync + Threads>(
     rt: &R,
     file: String,
+    readers: Readers,
     workers: u32,
-    json: bool,
 ) -> Result<(), MainFault>
     requires some { 0 < workers }
     requires at_most { workers ≤ MAX_WORKERS }
@@ -89,12 +90,24 @@ fn answer_scenario<R: AllocGlobal + Files + Input + Print + Sync + Threads>(
     };
     let bytes = bytes_of(rt, Some(file))?;
     let mut output = StdSink::new(io::writer(rt));
-    let ended = if json {
-        trace_bytes(rt, bytes.as_slice(), workers, &mut output)
-    } else {
-        report_bytes(rt, bytes.as_slice(), workers, &mut output)
+    report_bytes_with(rt, bytes.as_slice(), readers, workers, &mut output).map_err(as_main_fault)
+}
+
+/// Runs a scenario file on 1 to 64 workers, and tells it as lines of JSON on standard output.
+fn trace_scenario<R: AllocGlobal + Files + Input + Print + Sync + Threads>(
+    rt: &R,
+    file: String,
+    workers: u32,
+) -> Result<(), MainFault>
+    requires some { 0 < workers }
+    requires at_most { workers ≤ MAX_WORKERS }
+{
+    let Some(workers) = Workers::new(workers) else {
+        unreachable!()
     };
-    ended.map_err(as_main_fault)
+    let bytes = bytes_of(rt, Some(file))?;
+    let mut output = StdSink::new(io::writer(rt));
+    trace_bytes(rt, bytes.as_slice(), workers, &mut output).map_err(as_main_fault)
 }
 
 /// Runs the frames of a scenario file on 1 to 64 workers, and then those that are lines of standard

@@ -97,7 +97,8 @@ fn run_command<'a>(alloc: Global) -> Result<Command<'a>, AllocError>
         help::RUN_IN_FULL,
     )?;
     let json = flag_arg(alloc, "json", "Tells each frame as a line of JSON");
-    command.arg(json)?.arg(workers_arg(alloc))
+    let losses = flag_arg(alloc, "losses", "Tells what each reader lost, too");
+    command.arg(json)?.arg(losses)?.arg(workers_arg(alloc))
 }
 
 fn serve_command<'a>(alloc: Global) -> Result<Command<'a>, AllocError>

@@ -44,11 +44,12 @@ fn action_of(alloc: Global, matches: &ArgMatches<'_>) -> Result<Action, WordFaul
     if name == "run" {
         let file = file_of(alloc, inner)?;
         let workers = number_of(inner, "workers", MAX_WORKERS)?;
-        let json = is_given(inner, "json");
-        return Ok(Action::Run {
-            file,
-            workers,
-            json,
+        return Ok(if is_given(inner, "json") {
+            Action::RunAsJson { file, workers }
+        } else if is_given(inner, "losses") {
+            Action::RunWithLosses { file, workers }
+        } else {
+            Action::Run { file, workers }
         });
     }
     if name == "check" {

@@ -15,6 +15,7 @@ use Rattle.msg_world.specs.Prelude.{i64_values}
 -- the same report, so many frames of it done
 pub record IsAfter (count : ℕ) (old new : Reporter) : Type 0 where
   pub scenario : new.scenario ≡ old.scenario
+  pub readers : new.readers ≡ old.readers
   pub lines : new.lines ≡ old.lines
   pub reported : new.reported ≡ count
 

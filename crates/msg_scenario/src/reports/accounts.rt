@@ -1,38 +1,92 @@
 // The lines of the readers.
 ghost use Rattle.std.specs.Prelude.{◌≡◌, ◌++◌, [], IsOk, OnOk};
-ghost use Rattle.msg_scenario.specs.Prelude.{account_line, accounts_text, standing_text};
+ghost use Rattle.msg_frames.specs.Prelude.{State};
+ghost use Rattle.msg_exec.specs.Prelude.{EngineStands};
+ghost use Rattle.msg_scenario.specs.Prelude.{account_line, accounts_text, left_of, left_text, standing_text};
+ghost use Rattle.msg_world.specs.Prelude.{i64_values};
 
 use msg_buffer::NoMemory;
-use msg_exec::Account;
+use msg_exec::{Account, Backlog, EngineOf};
 use msg_json::numerals::add_count;
 use msg_reading::Scenario;
 use msg_reading::names::{add_system_name, add_type};
+use msg_system::SystemOf;
 
-/// A line for each reader.
-pub fn add_accounts(
+/// How the readers are told at the end of a report.
+#[derive(Clone, Copy, Debug, PartialEq, Eq)]
+pub enum Readers {
+    /// By what each got, missed and cleared since its start, and by its place.
+    Plain,
+    /// By that, and by what there is past its place: how many messages were dropped (`lost`), which
+    /// no read has told it yet, and how many are kept (`unread`).
+    WithLosses,
+}
+
+/// A line for each of these readers.
+pub fn add_accounts<X: SystemOf<Value = i64>>(
     text: &mut Vec<u8>,
     scenario: &Scenario,
+    engine: &EngineOf<X>,
+    readers: Readers,
     accounts: &[Account],
 ) -> Result<(), NoMemory>
     ensures appends { OnOk result
-        (text.new.items ≡ text.old.items ++ accounts_text scenario.now accounts.now) }
+        ((state : State i64_values) → EngineStands X.meaning engine.now state
+        → text.new.items ≡ text.old.items
+        ++ accounts_text scenario.now readers state accounts.now) }
     ensures no_memory { accounts.now ≡ [] → IsOk result }
 {
     for account in accounts {
-        add_account(text, scenario, *account)?;
+        let left = left_of(engine, readers, account);
+        add_account(text, scenario, *account, left)?;
     }
     Ok(())
 }
 
-fn add_account(text: &mut Vec<u8>, scenario: &Scenario, account: Account) -> Result<(), NoMemory>
-    ensures { OnOk result (text.new.items ≡ text.old.items ++ account_line scenario.now account) }
+/// What there is past the place of a reader, if it is told.
+fn left_of<X: SystemOf<Value = i64>>(
+    engine: &EngineOf<X>,
+    readers: Readers,
+    account: &Account,
+) -> Option<Backlog>
+    ensures left { (state : State i64_values) → EngineStands X.meaning engine.now state
+        → result ≡ left_of readers state account.now }
+{
+    match readers {
+        Readers::Plain => None,
+        Readers::WithLosses => engine.backlog(account),
+    }
+}
+
+fn add_account(
+    text: &mut Vec<u8>,
+    scenario: &Scenario,
+    account: Account,
+    left: Option<Backlog>,
+) -> Result<(), NoMemory>
+    ensures { OnOk result
+        (text.new.items ≡ text.old.items ++ account_line scenario.now account left) }
 {
     text.extend_from_slice(b"reader ")?;
     add_system_name(text, scenario, account.system)?;
     text.extend_from_slice(b" ")?;
     add_type(text, scenario, account.of_type)?;
     add_standing(text, account)?;
+    add_left(text, left)?;
     text.extend_from_slice(b"\n")
+}
+
+/// What there is past a reader's place.
+fn add_left(text: &mut Vec<u8>, left: Option<Backlog>) -> Result<(), NoMemory>
+    ensures { OnOk result (text.new.items ≡ text.old.items ++ left_text left) }
+{
+    match left {
+        None => Ok(()),
+        Some(left) => {
+            add_count(text, b" lost ", left.lost)?;
+            add_count(text, b" unread ", left.unread)
+        }
+    }
 }
 
 /// Where a reader stands, if it has joined.

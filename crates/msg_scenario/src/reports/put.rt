@@ -3,19 +3,25 @@ ghost use Rattle.std.specs.Prelude.{◌≡◌, ◌≢◌, ◌⊎◌, [], Err, If
 ghost use Rattle.msg_scenario.specs.Prelude.{accounts_text, frame_text};
 ghost use Rattle.msg_scenario.specs.{inner.LineStarts.AreLines, inner.SoFar.IsAfter};
 ghost use Rattle.msg_json.specs.Prelude.{IsPut};
+ghost use Rattle.msg_frames.specs.Prelude.{State};
+ghost use Rattle.msg_exec.specs.Prelude.{EngineStands};
+ghost use Rattle.msg_world.specs.Prelude.{i64_values};
 
-use crate::reports::accounts::add_accounts;
+use crate::reports::accounts::{Readers, add_accounts};
 use crate::reports::frame::add_frame;
 use crate::reports::lines::SystemLines;
-use msg_exec::{Account, Frame, Log};
+use msg_exec::{Account, EngineOf, Frame, Log};
 use msg_json::{ReportFault, Sink, put_text};
 use msg_reading::Scenario;
+use msg_system::SystemOf;
 
-/// A report that is being made: of which scenario, what the lines of its turns begin with, how many
-/// frames have been reported, and room in which the text of each part is made.
+/// A report that is being made: of which scenario, how its readers are told, what the lines of its
+/// turns begin with, how many frames have been reported, and room in which the text of each part is
+/// made.
 #[derive(Drop)]
 pub struct Reporter<'a> {
     pub scenario: &'a Scenario,
+    pub readers: Readers,
     pub lines: Vec<SystemLines>,
     pub reported: usize,
     pub text: Vec<u8>,
@@ -51,18 +57,21 @@ pub fn put_frame<S: Sink>(
 }
 
 /// Puts a line for each reader; they are made in `text` first.
-pub fn put_accounts<S: Sink>(
+pub fn put_accounts<X: SystemOf<Value = i64>, S: Sink>(
     reporter: &mut Reporter,
+    engine: &EngineOf<X>,
     accounts: &[Account],
     sink: &mut S,
 ) -> Result<(), ReportFault>
-    ensures put { IsPut S.contents S.failures
-        (accounts_text reporter.old.scenario.now accounts.now) result sink.old sink.new }
+    ensures put { (state : State i64_values) → EngineStands X.meaning engine.now state
+        → IsPut S.contents S.failures (accounts_text reporter.old.scenario.now
+        reporter.old.readers state accounts.now) result sink.old sink.new }
     ensures faults { IfErr result
         (λ fault. (fault ≡ ReportFault.Write) ⊎ (fault ≡ ReportFault.NoMemory)) }
     ensures no_memory { accounts.now ≡ [] → result ≢ Err ReportFault.NoMemory }
 {
+    let (scenario, readers) = (reporter.scenario, reporter.readers);
     reporter.text.clear();
-    add_accounts(&mut reporter.text, reporter.scenario, accounts)?;
+    add_accounts(&mut reporter.text, scenario, engine, readers, accounts)?;
     put_text(reporter.text.as_slice(), sink)
 }

@@ -6,6 +6,7 @@ ghost use Rattle.msg_scenario.specs.Prelude.{LeavesEngine, LeavesReport};
 ghost use Rattle.msg_reading.specs.Prelude.{PostsAreToTypes, state_of};
 ghost use Rattle.msg_scenario.specs.{inner.LineStarts.AreLines, inner.SoFar.IsAfter, inner.SoFar.ReportSoFar};
 
+use crate::reports::accounts::Readers;
 use crate::reports::lines::make_lines;
 use crate::reports::put::{Reporter, put_accounts, put_frame};
 use msg_exec::{EngineOf, Gate, Workers};
@@ -40,8 +41,8 @@ fn report_frame<R: Threads + Sync, X: SystemOf<Value = i64> + Send, S: Sink, G: 
     ensures leaves { OnErr result ((old : S) (first : EngineView X ℤ)
         → ReportSoFar S.contents S.failures
         X.meaning reporter.old.scenario.now first reporter.old.reported old sink.old engine.old
-        → (left : LeavesReport S.contents S.failures reporter.old.scenario.now
-        result old sink.new)
+        → (left : LeavesReport S.contents S.failures
+        reporter.old.readers reporter.old.scenario.now result old sink.new)
         × LeavesEngine X.meaning left first engine.new) }
 {
     let scenario = reporter.scenario;
@@ -55,6 +56,13 @@ fn report_frame<R: Threads + Sync, X: SystemOf<Value = i64> + Send, S: Sink, G: 
     reporter.reported += 1;
     engine.recycle(log);
     Ok(())
+}
+
+/// A scenario, and how its readers are told.
+#[derive(Clone, Copy)]
+pub struct Told<'a> {
+    pub scenario: &'a Scenario,
+    pub readers: Readers,
 }
 
 /// Runs the frames of a scenario, and puts the text of each before it runs the next; and then a
@@ -78,12 +86,38 @@ pub fn report<R: Threads + Sync + AllocGlobal, X: SystemOf<Value = i64> + Send, 
     // Whatever the workers and the gate: the text is that of one thread, and each reader was given
     // every message once.
     ensures leaves { (left : LeavesReport S.contents S.failures
-        scenario.now result sink.old sink.new)
+        Readers.Plain scenario.now result sink.old sink.new)
         × LeavesEngine X.meaning left engine.old engine.new }
 {
+    let readers = Readers::Plain;
+    report_with(rt, engine, Told { scenario, readers }, workers, gate, sink)
+}
+
+/// The same, with the readers told as is asked for.
+pub(crate) fn report_with<
+    R: Threads + Sync + AllocGlobal,
+    X: SystemOf<Value = i64> + Send,
+    S: Sink,
+    G: Gate,
+>(
+    rt: &R,
+    engine: &mut EngineOf<X>,
+    told: Told<'_>,
+    workers: Workers,
+    gate: &G,
+    sink: &mut S,
+) -> Result<(), ReportFault>
+    requires engine { EngineStands X.meaning engine.old (state_of told.scenario.now) }
+    requires posts { All (PostsAreToTypes told.scenario.now) told.scenario.now.frames }
+    ensures leaves { (left : LeavesReport S.contents S.failures
+        told.entry.readers told.entry.scenario.now result sink.old sink.new)
+        × LeavesEngine X.meaning left engine.old engine.new }
+{
+    let Told { scenario, readers } = told;
     let lines = make_lines(rt.alloc(), scenario)?;
     let mut reporter = Reporter {
         scenario,
+        readers,
         lines,
         reported: 0,
         text: Vec::new(rt.alloc()),
@@ -92,7 +126,7 @@ pub fn report<R: Threads + Sync + AllocGlobal, X: SystemOf<Value = i64> + Send, 
         report_frame(rt, engine, &mut reporter, workers, gate, sink)?;
     }
     match engine.accounts() {
-        Ok(accounts) => put_accounts(&mut reporter, accounts.as_slice(), sink),
+        Ok(accounts) => put_accounts(&mut reporter, engine, accounts.as_slice(), sink),
         Err(fault) => Err(ReportFault::Run(fault)),
     }
 }

@@ -13,7 +13,7 @@ run_frame-requires-clause-posts g c κs within =
 
 pub returns-in-Err-clause-leaves : goal.returns-in-Err-clause-leaves
 returns-in-Err-clause-leaves g c old first far =
-    no_memory _ _ _ _ _ _ _ _ _ far _ _ _ c.in-Err.is (λ e. c.run_frame.ensures.spoiled.0 e)
+    no_memory _ _ _ _ _ _ _ _ _ _ far _ _ _ c.in-Err.is (λ e. c.run_frame.ensures.spoiled.0 e)
     c.run_frame.ensures.no_bad_order
     (λ e. (c.run_frame.ensures.not_counted e, inl (c.run_frame.ensures.no_memory e, c.requires.next)))
 
@@ -23,13 +23,13 @@ returns-in_err-put_frame-clause-leaves g c =
     let passed = err_from_is_err_and r.result r.ensures.1 in
     let put = c.in_err-put_frame.ensures in
     rw (passed.1 ∙ ap ended passed.2)
-    (λ old first far. frame_stopped _ _ _ _ _ _ _ _ _ far c.run_frame.new.self _ c.in-Ok.log
+    (λ old first far. frame_stopped _ _ _ _ _ _ _ _ _ _ far c.run_frame.new.self _ c.in-Ok.log
     c.requires.next (rw c.as_slice.ensures.items at c.index-as_slice-reporter.is) c.in-Ok.ensures.ran
     c.in-Ok.ensures.counted _ (in_text_by _ put.faults) _ put.put)
 
 pub returns-clause-ok : goal.returns-clause-ok
 returns-clause-ok g c old first far =
-    frame_put _ _ _ _ _ _ _ _ _ far c.run_frame.new.self _ c.in-Ok.log
+    frame_put _ _ _ c.args.reporter.now.readers _ _ _ _ _ _ far c.run_frame.new.self _ c.in-Ok.log
     c.requires.next (rw c.as_slice.ensures.items at c.index-as_slice-reporter.is) c.in-Ok.ensures.ran
     c.in-Ok.ensures.counted _ c.recycle.new.self c.recycle.ensures.meaning c.recycle.ensures.counted
     (λ spoiled. c.in-Ok.ensures.alive (c.recycle.ensures.spoiled.0 spoiled)) c.in_ok-put_frame.ensures.put.ok
