@@ -9,6 +9,8 @@ mod command;
 mod equal;
 pub mod from_bytes;
 #[cfg(test)]
+mod named;
+#[cfg(test)]
 mod names;
 #[cfg(test)]
 mod narrow;

@@ -29,7 +29,7 @@ fn expect_read(rt: &(impl Abort + AllocGlobal), text: &str, want: &str, row: &st
 }
 
 /// Files, or their systems, each behind the refusal that it gets.
-const REFUSALS: [&str; 28] = [
+const REFUSALS: [&str; 34] = [
     r#"BadName {"types":[["Hit",1]],"systems":[],"frames":[]}"#,
     r#"BadName {"types":[["host",1]],"systems":[],"frames":[]}"#,
     r#"BadName {"types":[["aaaaaaaaaaaaaaaaaaaaaaaaaaaaaaaaa",1]],"systems":[],"frames":[]}"#,
@@ -51,6 +51,12 @@ const REFUSALS: [&str; 28] = [
     r#"Shape {"frames":[[["hat",1]]],"types":[],"systems":7}"#,
     r#"UnknownName {"types":[],"systems":[{"name":"a","ops":[]}],"rules":[["a","z"]],"frames":[]}"#,
     r#"Clash(0) {"types":[["h",1]],"systems":[{"name":"a","ops":[["read","h"],["write","h",1]]}],"rules":[["a","a"]],"frames":[]}"#,
+    r#"Clash(0) {"types":[["hit",10]],"systems":[{"name":"r","ops":[["read","hit"],["write","hit",1]]}],"frames":[]}"#,
+    r#"Cycle(0) {"types":[["x",10],["y",10]],"systems":[{"name":"s0","ops":[["write","x",1]]},{"name":"s1","ops":[["write","y",2]]},{"name":"s2","ops":[["read","y"]]},{"name":"s3","ops":[["read","x"]]}],"rules":[["s0","s1"],["s1","s0"]],"frames":[[]]}"#,
+    r#"Cycle(1) {"types":[["x",10],["y",10]],"systems":[{"name":"s0","ops":[["write","x",1]]},{"name":"s1","ops":[["write","y",2]]},{"name":"s2","ops":[["read","y"]]},{"name":"s3","ops":[["read","x"]]}],"rules":[["s1","s1"]],"frames":[[]]}"#,
+    r#"Cycle(1) {"types":[],"systems":[{"name":"s0","ops":[]},{"name":"s1","ops":[]},{"name":"s2","ops":[]}],"rules":[["s0","s1"],["s1","s2"],["s2","s1"]],"frames":[]}"#,
+    r#"Clash(0) {"name":"a","ops":[["forward","hit","hit"]]}"#,
+    r#"Clash(1) {"name":"a","ops":[]},{"name":"b","ops":[["drain","hit"],["len","hit"]]}"#,
     r#"UnknownKey {"name":"A","ops":[],"y":0}"#,
     r#"BadName {"name":"é","ops":[]}"#,
     r#"UnknownName {"name":"a","ops":[["read","hat",-1]]}"#,

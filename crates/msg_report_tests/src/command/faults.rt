@@ -1,8 +1,9 @@
-// The texts of faults.
-use crate::equal::{Have, expect_text};
-use msg_command::{InputFault, MainFault, WordFault};
+// The texts of faults, the lines that are printed of them, and the statuses that the program ends with.
+use crate::equal::{Have, expect_eq, expect_text};
+use crate::narrow::Narrow;
+use msg_command::{InputFault, MainFault, WordFault, print_fault};
 use msg_json::{PutFault, Refusal, ReportFault};
-use msg_scenario::{AnswerFault, CheckFault};
+use msg_scenario::{AnswerFault, CheckFault, MemorySink};
 use msg_world::RunFault;
 use std::process::Abort;
 
@@ -32,6 +33,88 @@ fn refused_files(rt: HostRuntime) {
     let told = CheckFault::Refused(Refusal::Shape, Vec::new(rt.alloc()));
     expect_text(rt, &told, "refused 2 Shape");
     drop(told);
+}
+
+/// What is printed of a refused file, and the status.
+const REFUSED: &[(Refusal, &str, u8)] = &[
+    (Refusal::NotJson, "msgrun: refused 1 NotJson\n", 2),
+    (Refusal::Shape, "msgrun: refused 2 Shape\n", 2),
+    (Refusal::UnknownKey, "msgrun: refused 3 UnknownKey\n", 2),
+    (Refusal::BadName, "msgrun: refused 4 BadName\n", 2),
+    (Refusal::TwiceNamed, "msgrun: refused 5 TwiceNamed\n", 2),
+    (Refusal::BadNumber, "msgrun: refused 6 BadNumber\n", 2),
+    (Refusal::TooMany, "msgrun: refused 7 TooMany\n", 2),
+    (Refusal::UnknownName, "msgrun: refused 8 UnknownName\n", 2),
+    (Refusal::Clash(3), "msgrun: refused 9 Clash\n", 2),
+    (Refusal::Cycle(3), "msgrun: refused 10 Cycle\n", 2),
+    (Refusal::NoMemory, "msgrun: want of memory\n", 1),
+];
+
+/// What is printed of input that isn't read, and the status.
+const UNREAD: &[(InputFault, &str, u8)] = &[
+    (InputFault::Failed, "msgrun: cannot read input\n", 1),
+    (InputFault::TooLarge, "msgrun: input too large\n", 2),
+    (InputFault::NoMemory, "msgrun: want of memory\n", 1),
+];
+
+/// What is printed of answers that aren't printed to their end, with status 1.
+const UNTOLD: &[(ReportFault, &str)] = &[
+    (
+        ReportFault::Run(RunFault::Spoiled),
+        "msgrun: run fault 1 Spoiled\n",
+    ),
+    (
+        ReportFault::Run(RunFault::BadOrder),
+        "msgrun: run fault 2 BadOrder\n",
+    ),
+    (
+        ReportFault::Run(RunFault::NoMemory),
+        "msgrun: run fault 3 NoMemory\n",
+    ),
+    (ReportFault::Write, "msgrun: write fault\n"),
+    (ReportFault::NoMemory, "msgrun: want of memory\n"),
+];
+
+/// This is printed of a fault, with this status, which is the same if the sink fails at once.
+fn expect_printed(rt: &impl Abort, fault: MainFault, printed: &str, status: u8) {
+    let (mut sink, mut failing) = (MemorySink::new(), Narrow::new(0, 0, false));
+    let found = (
+        print_fault(&fault, &mut sink),
+        print_fault(&fault, &mut failing),
+    );
+    drop(fault);
+    expect_eq(rt, sink.bytes(), printed.as_bytes());
+    expect_eq(rt, (printed, found), (printed, (status, status)));
+    failing.expect(rt, u64::from(!printed.is_empty()), b"");
+}
+
+#[test]
+fn printed_faults(rt: HostRuntime) {
+    let rt = &rt;
+    for (refusal, printed, status) in REFUSED {
+        expect_printed(rt, MainFault::Refused(*refusal), printed, *status);
+    }
+    for (fault, printed, status) in UNREAD {
+        expect_printed(rt, MainFault::Input(*fault), printed, *status);
+    }
+    for (fault, printed) in UNTOLD {
+        expect_printed(rt, MainFault::Report(*fault), printed, 1);
+    }
+}
+
+#[test]
+fn printed_faults_without_a_table(rt: HostRuntime) {
+    let rt = &rt;
+    let want = "msgrun: want of memory\n";
+    expect_printed(rt, MainFault::Built, want, 1);
+    expect_printed(rt, MainFault::Words(WordFault::NoMemory), want, 1);
+    let bad = MainFault::Words(WordFault::Bad);
+    expect_printed(rt, bad, "msgrun: bad command line\n", 2);
+    let help = WordFault::Help("its text".to_string(rt.alloc()).have(rt));
+    expect_printed(rt, MainFault::Words(help), "", 0);
+    let lines = Vec::from_slice(rt.alloc(), b"why\n").have(rt);
+    let checked = MainFault::CheckFailed(Refusal::Cycle(3), lines);
+    expect_printed(rt, checked, "msgrun: refused 10 Cycle\nwhy\n", 2);
 }
 
 const REPORTS: [(ReportFault, &str); 5] = [
