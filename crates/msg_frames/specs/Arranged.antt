@@ -1,5 +1,5 @@
 -- What the order of turns comes of.
-use Rattle.std.specs.Prelude.{Bool, List, length, map, ℕ, ◌≡◌, ◌≤◌}
+use Rattle.std.specs.Prelude.{Bool, List, length, map, ◌≡◌, ◌≤◌}
 use Rattle.std.specs.List.{range_with_len}
 use Rattle.msg_world.specs.{Prelude.Values, declared.limits.TheConstants.MAX_SYSTEMS}
 use Rattle.msg_order.specs.Prelude.{IsAcyclic, NameSystemsBelow, rules_among}

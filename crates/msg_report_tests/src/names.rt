@@ -107,18 +107,25 @@ fn expect_same_plans(
     assert!(rt; !want.bytes().is_empty());
 }
 
+/// An engine has the plans of its scenario. What has no name is told by its number.
+fn expect_plans(rt: &(impl Abort + AllocGlobal), scenario: &Scenario, arrangement: &Arrangement)
+    requires runnable { IsRunnable scenario.now }
+    requires orderly { IsOrderly arrangement.now }
+{
+    expect_same_plans(rt, scenario, arrangement, 1);
+    expect_same_plans(rt, scenario, arrangement, 2);
+    let want = "frame 1\nbatch 1: system 0\nbatch 2: system 3\nbatch 3: system 1\n";
+    let text = plan_of(rt, arrangement, &NO_NAMES, 1);
+    assert!(rt; text.bytes().starts_with(want.as_bytes()));
+}
+
 #[test]
 fn an_engine_has_the_plan_of_its_scenario(rt: HostRuntime) {
     let rt = &rt;
     let scenario = accepted(rt, SCENARIO);
     let engine = sparing_engine(rt.alloc(), &scenario, 0).have(rt);
     let arrangement = engine.arrangement().have(rt);
-    expect_same_plans(rt, &scenario, &arrangement, 1);
-    expect_same_plans(rt, &scenario, &arrangement, 2);
-    // What has no name is told by its number.
-    let want = "frame 1\nbatch 1: system 0\nbatch 2: system 3\nbatch 3: system 1\n";
-    let text = plan_of(rt, &arrangement, &NO_NAMES, 1);
-    assert!(rt; text.bytes().starts_with(want.as_bytes()));
+    expect_plans(rt, &scenario, &arrangement);
     drop(engine);
 }
 
