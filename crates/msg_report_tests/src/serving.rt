@@ -3,58 +3,57 @@ ghost use Rattle.std.specs.Prelude.{None};
 
 use crate::equal::{Have, expect_eq};
 use crate::sparing::workers;
-use msg_json::{PutFault, ReadFault, Sink, Source};
+use msg_json::{PutFault, Sink, StdSource};
 use msg_serve::serve_bytes;
+use std::io;
+use std::io::{BufRead, Error, ErrorKind, Read};
 use std::process::Abort;
 use std::sync::atomic::{AtomicU64, Ordering};
 use std::thread::Threads;
 
-/// Gives lines, at most `at_once` bytes at a read. It begins a line once as many line feeds were
-/// put as lines were given, and fails if it is asked for one before.
+/// Shows lines, at most `at_once` bytes at a time. It begins a line once as many line feeds were put
+/// as lines were read, and fails if it is asked for one before.
 #[derive(Drop)]
 struct InTurn<'a> {
     lines: &'a [&'a [u8]],
     line: usize,
-    given: usize,
+    read: usize,
     at_once: usize,
     answered: &'a AtomicU64,
-    failed: u64,
-    left: u64,
-}
-
-impl Source for InTurn<'_> {
-    ghost remaining = { λ _. None };
-
-    ghost failures = { λ s. s.failed };
-
-    ghost reads_left = { λ s. s.left };
-
-    fn read_in_line(&mut self, piece: &mut [u8]) -> Result<usize, ReadFault> {
-        let is_early = self.given == 0 && self.answered.load(Ordering::SeqCst) != self.line as u64;
-        if is_early || self.left == 0 {
-            self.failed = self.failed.saturating_add(1);
-            return Err(ReadFault);
-        }
-        self.left -= 1;
-        Ok(self.give(piece))
-    }
 }
 
 impl InTurn<'_> {
-    /// Gives the next bytes of the line, and goes on to the next line at its end.
-    fn give(&mut self, piece: &mut [u8]) -> usize {
+    /// What comes next of the line.
+    fn shown(&self) -> &[u8] {
         let Some(line) = self.lines.get(self.line) else {
-            return 0;
+            return &[];
         };
-        let rest = &line[self.given.min(line.len())..];
-        let n = rest.len().min(self.at_once).min(piece.len());
-        piece[..n].copy_from_slice(&rest[..n]);
-        self.given += n;
-        if self.given >= line.len() {
-            self.line += 1;
-            self.given = 0;
+        let from = self.read.min(line.len());
+        let to = from.saturating_add(self.at_once).min(line.len());
+        &line[from..to]
+    }
+}
+
+impl Read for InTurn<'_> {
+    fn read(&mut self, _buf: &mut [u8]) -> io::Result<usize> {
+        Err(Error::from(ErrorKind::Other))
+    }
+}
+
+impl BufRead for InTurn<'_> {
+    fn fill_buf(&mut self) -> io::Result<&[u8]> {
+        if self.read == 0 && self.answered.load(Ordering::SeqCst) != self.line as u64 {
+            return Err(Error::from(ErrorKind::Other));
         }
-        n
+        Ok(self.shown())
+    }
+
+    fn consume(&mut self, amount: usize) {
+        self.read = self.read.saturating_add(amount);
+        if self.line < self.lines.len() && self.read >= self.lines[self.line].len() {
+            self.line += 1;
+            self.read = 0;
+        }
     }
 }
 
@@ -92,15 +91,13 @@ fn expect_in_turn<R: Threads + Sync + Abort + AllocGlobal>(
     at_once: usize,
 ) {
     let answered = AtomicU64::new(0);
-    let mut input = InTurn {
+    let mut input = StdSource::new(InTurn {
         lines,
         line: 0,
-        given: 0,
+        read: 0,
         at_once,
         answered: &answered,
-        failed: 0,
-        left: u64::MAX,
-    };
+    });
     let mut output = CountsLines { lines: &answered };
     let on = workers(rt, 2);
     let came = serve_bytes(rt, READERS.as_bytes(), on, &mut input, &mut output);

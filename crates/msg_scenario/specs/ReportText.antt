@@ -7,7 +7,7 @@ use Rattle.msg_world.specs.{Prelude.i64_values, declared.record.Record.Record}
 use Rattle.msg_system.specs.{declared.op.Op.Op, declared.reply.Took.Took, declared.reply.Reply.Reply}
 use Rattle.msg_system.specs.declared.op.Op.TheVariants as op
 use Rattle.msg_system.specs.declared.reply.Reply.TheVariants as reply
-use Rattle.msg_frames.specs.{Prelude.State, Prelude.accounts_of, Prelude.backlog_of, declared.account.Account.Account, declared.backlog.Backlog.Backlog, declared.frame.Frame.Frame, declared.log.Log.Log, declared.log.Turn.Turn}
+use Rattle.msg_frames.specs.{Prelude.State, Prelude.accounts_of, Prelude.backlog_of, Prelude.writer_accounts_of, declared.account.Account.Account, declared.backlog.Backlog.Backlog, declared.frame.Frame.Frame, declared.log.Log.Log, declared.log.Turn.Turn, declared.writer_account.WriterAccount.WriterAccount}
 use Rattle.msg_frames.specs.declared.log.Outcome.{Outcome}
 use Rattle.msg_frames.specs.declared.log.Outcome.TheVariants.{Ran, Skipped}
 use Rattle.msg_json.specs.Prelude.{Text}
@@ -156,9 +156,25 @@ account_line s a left =
 abbrev pub accounts_text : Scenario → Readers → State i64_values → List Account → Text
 accounts_text s how now accounts = flat_map (λ a. account_line s a (left_of how now a)) accounts
 
--- a line for each reader
+-- the writers that are told beside the readers
+abbrev pub told_writers : Readers → State i64_values → List WriterAccount
+told_writers Plain now = []
+told_writers WithLosses now = writer_accounts_of now
+
+-- the line of a writer
+abbrev pub writer_line : Scenario → WriterAccount → Text
+writer_line s a =
+    codes "writer " ++ system_name s a.system ++ codes " " ++ type_name s a.of_type
+    ++ codes " refused " ++ decimal a.refused ++ codes "\n"
+
+-- a line for each of these writers
+abbrev pub writers_text : Scenario → List WriterAccount → Text
+writers_text s writers = flat_map (writer_line s) writers
+
+-- a line for each reader, and for each writer that is told
 abbrev pub readers_text : Scenario → Readers → State i64_values → Text
-readers_text s how now = accounts_text s how now (accounts_of now)
+readers_text s how now =
+    accounts_text s how now (accounts_of now) ++ writers_text s (told_writers how now)
 
 -- ---- the whole
 

@@ -115,8 +115,9 @@ pub(crate) const RUN: &str = front!(
 A file may also have resources and held updates, and a system other ops, a kind, conditions
 (if), a frame to join with and a start. `msgrun help run` describes all of it.
 
-With --losses each reader's line ends with what it lost and what it hasn't read; with --json
-each frame is one line of JSON, and so are the readers: `msgrun help serve`."
+With --losses each reader's line ends with what it lost and what it hasn't read, and there is a
+line for each writer with what it was refused. With --json each frame is one line of JSON, and
+so are the readers and writers: `msgrun help serve`."
 );
 
 pub(crate) const RUN_IN_FULL: &str = front!(
@@ -162,8 +163,9 @@ The conditions:
   [\"resource_equals\",r,v]  r has the value v
   [\"not\",C]                the condition C doesn't hold; at most 16, one in another
 
-With --losses each reader's line ends with what it lost and what it hasn't read; with --json
-each frame is one line of JSON, and so are the readers: `msgrun help serve`.
+With --losses each reader's line ends with what it lost and what it hasn't read, and there is a
+line for each writer with what it was refused. With --json each frame is one line of JSON, and
+so are the readers and writers: `msgrun help serve`.
 docs/FORMATS.md has each line of the report, and `msgrun --help` the refusals and the exit
 statuses."
 );

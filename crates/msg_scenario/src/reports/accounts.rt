@@ -1,16 +1,18 @@
-// The lines of the readers.
-ghost use Rattle.std.specs.Prelude.{◌≡◌, ◌++◌, [], IsOk, OnOk};
+// The lines of the readers and of the writers.
+ghost use Rattle.std.specs.Prelude.{◌≡◌, ◌++◌, [], Err, IfOk, IsOk, OnOk};
 ghost use Rattle.msg_frames.specs.Prelude.{State};
-ghost use Rattle.msg_exec.specs.Prelude.{EngineStands};
-ghost use Rattle.msg_scenario.specs.Prelude.{account_line, accounts_text, left_of, left_text, standing_text};
+ghost use Rattle.msg_exec.specs.Prelude.{EngineStands, IsSpoiled};
+ghost use Rattle.msg_world.specs.declared.run_fault.RunFault.TheVariants.{BadOrder, Spoiled};
+ghost use Rattle.msg_scenario.specs.Prelude.{account_line, accounts_text, left_of, left_text, standing_text, told_writers, writer_line, writers_text};
 ghost use Rattle.msg_world.specs.Prelude.{i64_values};
 
 use msg_buffer::NoMemory;
-use msg_exec::{Account, Backlog, EngineOf};
+use msg_exec::{Account, Backlog, EngineOf, RunFault, WriterAccount};
 use msg_json::numerals::add_count;
 use msg_reading::Scenario;
 use msg_reading::names::{add_system_name, add_type};
 use msg_system::SystemOf;
+use std::alloc::Global;
 
 /// How the readers are told at the end of a report.
 #[derive(Clone, Copy, Debug, PartialEq, Eq)]
@@ -18,7 +20,7 @@ pub enum Readers {
     /// By what each got, missed and cleared since its start, and by its place.
     Plain,
     /// By that, and by what there is past its place: how many messages were dropped (`lost`), which
-    /// no read has told it yet, and how many are kept (`unread`).
+    /// no read has told it yet, and how many are kept (`unread`). And what each writer was refused.
     WithLosses,
 }
 
@@ -56,6 +58,59 @@ fn left_of<X: SystemOf<Value = i64>>(
         Readers::Plain => None,
         Readers::WithLosses => engine.backlog(account),
     }
+}
+
+/// What each writer was refused, if losses are told.
+///
+/// # Errors
+///
+/// Those of `EngineOf::writer_accounts`.
+pub fn told_writers<X: SystemOf<Value = i64>>(
+    alloc: Global,
+    engine: &EngineOf<X>,
+    readers: Readers,
+) -> Result<Vec<WriterAccount>, RunFault>
+    ensures writers { IfOk result
+        (λ v. (state : State i64_values) → EngineStands X.meaning engine.now state
+        → v.items ≡ told_writers readers state) }
+    ensures spoiled { result ≡ Err Spoiled → IsSpoiled engine.now }
+    ensures no_bad_order { ¬ (result ≡ Err BadOrder) }
+{
+    match readers {
+        Readers::Plain => Ok(Vec::new(alloc)),
+        Readers::WithLosses => engine.writer_accounts(),
+    }
+}
+
+/// A line for each of these writers.
+pub fn add_writers(
+    text: &mut Vec<u8>,
+    scenario: &Scenario,
+    writers: &[WriterAccount],
+) -> Result<(), NoMemory>
+    ensures appends { OnOk result
+        (text.new.items ≡ text.old.items ++ writers_text scenario.now writers.now) }
+    ensures no_memory { writers.now ≡ [] → IsOk result }
+{
+    for writer in writers {
+        add_writer(text, scenario, *writer)?;
+    }
+    Ok(())
+}
+
+fn add_writer(
+    text: &mut Vec<u8>,
+    scenario: &Scenario,
+    writer: WriterAccount,
+) -> Result<(), NoMemory>
+    ensures { OnOk result (text.new.items ≡ text.old.items ++ writer_line scenario.now writer) }
+{
+    text.extend_from_slice(b"writer ")?;
+    add_system_name(text, scenario, writer.system)?;
+    text.extend_from_slice(b" ")?;
+    add_type(text, scenario, writer.of_type)?;
+    add_count(text, b" refused ", writer.refused)?;
+    text.extend_from_slice(b"\n")
 }
 
 fn add_account(

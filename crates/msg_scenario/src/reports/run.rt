@@ -6,7 +6,7 @@ ghost use Rattle.msg_scenario.specs.Prelude.{LeavesEngine, LeavesReport};
 ghost use Rattle.msg_reading.specs.Prelude.{PostsAreToTypes, state_of};
 ghost use Rattle.msg_scenario.specs.{inner.LineStarts.AreLines, inner.SoFar.IsAfter, inner.SoFar.ReportSoFar};
 
-use crate::reports::accounts::Readers;
+use crate::reports::accounts::{Readers, told_writers};
 use crate::reports::lines::make_lines;
 use crate::reports::put::{Reporter, put_accounts, put_frame};
 use msg_exec::{EngineOf, Gate, Workers};
@@ -125,8 +125,19 @@ pub(crate) fn report_with<
     for _ in scenario.frames.as_slice() {
         report_frame(rt, engine, &mut reporter, workers, gate, sink)?;
     }
-    match engine.accounts() {
-        Ok(accounts) => put_accounts(&mut reporter, engine, accounts.as_slice(), sink),
-        Err(fault) => Err(ReportFault::Run(fault)),
-    }
+    let accounts = match engine.accounts() {
+        Ok(accounts) => accounts,
+        Err(fault) => return Err(ReportFault::Run(fault)),
+    };
+    let writers = match told_writers(rt.alloc(), engine, readers) {
+        Ok(writers) => writers,
+        Err(fault) => return Err(ReportFault::Run(fault)),
+    };
+    put_accounts(
+        &mut reporter,
+        engine,
+        accounts.as_slice(),
+        writers.as_slice(),
+        sink,
+    )
 }

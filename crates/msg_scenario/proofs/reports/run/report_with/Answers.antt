@@ -46,20 +46,30 @@ returns-in_err-report_frame g c =
           ((rw (same.scenario, same.readers, same.reported) at c.in_err-report_frame.ensures.leaves) _ _ c.loop.invariant.0);
     }
 
-pub returns-in-Ok : goal.returns-in-Ok
-returns-in-Ok g c =
+-- no memory for the accounts
+pub returns-in-Err : goal.returns-in-Err
+returns-in-Err g c = record {
+  leaves = no_memory _ _ _ _ _ _ _ _ _ _ c.loop.invariant.0 _ _ _ c.in-Err.is
+      (λ e. c.accounts.ensures.spoiled.0 e) c.accounts.ensures.no_bad_order
+      (λ e. (refl, inr (c.loop.invariant.0.stands, omega (arith, ap length c.as_slice-items.ensures.items))));
+}
+
+-- or for those of the writers
+pub returns-in-Err-told_writers : goal.returns-in-Err-told_writers
+returns-in-Err-told_writers g c = record {
+  leaves = no_memory _ _ _ _ _ _ _ _ _ _ c.loop.invariant.0 _ _ _ c.in-Err-told_writers.is
+      c.told_writers.ensures.spoiled c.told_writers.ensures.no_bad_order
+      (λ e. (refl, inr (c.loop.invariant.0.stands, omega (arith, ap length c.as_slice-items.ensures.items))));
+}
+
+pub returns : goal.returns
+returns g c =
     let same = c.loop.invariant.1 in
     let far = c.loop.invariant.0 in
     record {
       leaves = readers_done _ _ _ _ _ _ _ _ _ _ far _ (omega (arith, ap length c.as_slice-items.ensures.items)) _
           (λ frames. runs_are_complete frames (state_of c.args.told.scenario.now) (is_sound g.X.SystemOf.meaning _ _ c.requires.engine))
-          (rw (same.scenario, same.readers, c.as_slice.ensures.value, c.in-Ok.ensures.accounts far.state far.stands)
+          (rw (same.scenario, same.readers, c.as_slice.ensures.value, c.as_slice-2.ensures.value,
+          c.in-Ok.ensures.accounts far.state far.stands, c.in-Ok-told_writers.ensures.writers far.state far.stands)
           at c.put_accounts.ensures.put far.state far.stands) c.put_accounts.ensures.faults;
     }
-
-pub returns : goal.returns
-returns g c = record {
-  leaves = no_memory _ _ _ _ _ _ _ _ _ _ c.loop.invariant.0 _ _ _ c.in-Err.is
-      (λ e. c.accounts.ensures.spoiled.0 e) c.accounts.ensures.no_bad_order
-      (λ e. (refl, inr (c.loop.invariant.0.stands, omega (arith, ap length c.as_slice-items.ensures.items))));
-}
