@@ -97,7 +97,11 @@ fn run_command<'a>(alloc: Global) -> Result<Command<'a>, AllocError>
         help::RUN_IN_FULL,
     )?;
     let json = flag_arg(alloc, "json", "Tells each frame as a line of JSON");
-    let losses = flag_arg(alloc, "losses", "Tells what each reader lost and writer was refused, too");
+    let losses = flag_arg(
+        alloc,
+        "losses",
+        "Tells what each reader lost and writer was refused, too",
+    );
     command.arg(json)?.arg(losses)?.arg(workers_arg(alloc))
 }
 

@@ -69,7 +69,13 @@ returns g c =
     record {
       leaves = readers_done _ _ _ _ _ _ _ _ _ _ far _ (omega (arith, ap length c.as_slice-items.ensures.items)) _
           (λ frames. runs_are_complete frames (state_of c.args.told.scenario.now) (is_sound g.X.SystemOf.meaning _ _ c.requires.engine))
-          (rw (same.scenario, same.readers, c.as_slice.ensures.value, c.as_slice-2.ensures.value,
-          c.in-Ok.ensures.accounts far.state far.stands, c.in-Ok-told_writers.ensures.writers far.state far.stands)
+          (rw (
+            same.scenario,
+            same.readers,
+            c.as_slice.ensures.value,
+            c.as_slice-2.ensures.value,
+            c.in-Ok.ensures.accounts far.state far.stands,
+            c.in-Ok-told_writers.ensures.writers far.state far.stands,
+          )
           at c.put_accounts.ensures.put far.state far.stands) c.put_accounts.ensures.faults;
     }
