@@ -112,7 +112,8 @@ impl Function<1, 2> for Teller {
     fn answer(&mut self, inbox: &Inbox<i64>, outbox: &mut Outbox<i64, 2>) -> Result<(), NoMemory> {
         outbox.write(1, 7)?;
         outbox.write(1, told(inbox.spent(0), inbox.missed(0)))?;
-        outbox.write(0, 1)
+        outbox.write(0, 1)?;
+        Ok(())
     }
 }
 
