@@ -7,7 +7,7 @@ use Rattle.msg_world.specs.Prelude.{i64_values}
 
 -- the health that is left by the blows that came in this turn
 abbrev pub health_after : ℤ → List (Reply ℤ) → ℤ
-health_after health replies = sum_onto i64_values health (brought (slice_get replies 0))
+health_after health replies = sum_onto i64_values.plus health (brought (slice_get replies 0))
 
 -- A fighter reads its blows if it hasn't fallen, and then deals one, or says that it fell. A
 -- referee adds up the falls.

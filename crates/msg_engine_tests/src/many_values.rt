@@ -21,9 +21,8 @@ struct Force {
 }
 
 impl Value for Force {
-    ghost use Rattle.std.specs.Prelude.{◌&&◌, pos, ◌+ℤ◌};
+    ghost use Rattle.std.specs.Prelude.{pos, ◌+ℤ◌, refl};
     ghost use Rattle.std.specs.Int.{saturate_signed, w64};
-    ghost use Rattle.std.specs.Ordering.{int_eq};
 
     ghost values = { record {
       some = record { x = pos 0; y = pos 0; z = pos 0 };
@@ -32,8 +31,10 @@ impl Value for Force {
         y = saturate_signed w64 (f.y +ℤ g.y);
         z = saturate_signed w64 (f.z +ℤ g.z);
       };
-      same = λ f g. int_eq f.x g.x && int_eq f.y g.y && int_eq f.z g.z;
+      same = Self.PartialEq.eq;
     } };
+
+    ghost same_is_eq = { refl };
 
     fn plus(self, other: Force) -> Force {
         Force {
@@ -41,10 +42,6 @@ impl Value for Force {
             y: self.y.saturating_add(other.y),
             z: self.z.saturating_add(other.z),
         }
-    }
-
-    fn same(self, other: Force) -> bool {
-        self == other
     }
 }
 

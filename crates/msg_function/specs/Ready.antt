@@ -24,7 +24,7 @@ module _ {V : Type 0} where
   -- the sum so far
   abbrev pub summed : Values V → FunctionOf V (Sum V)
   summed values s given =
-      let so_far : V = sum_onto values s.so_far (given.messages 0) in
+      let so_far : V = sum_onto values.plus s.so_far (given.messages 0) in
       (record { so_far = so_far }, if_some_came (given.messages 0) so_far)
 
   -- how many came so far, if each of these adds `one` too

@@ -68,8 +68,8 @@ module _ {V : Type 0} where
   again_by writer ms = map (λ m. by writer m.value) ms
 
 -- the values of the messages added one by one
-abbrev pub sum_onto : {V : Type 0} → Values V → V → List (Record V) → V
-sum_onto values z ms = fold (λ x m. values.plus x m.value) z ms
+abbrev pub sum_onto : {V : Type 0} → (V → V → V) → V → List (Record V) → V
+sum_onto plus z ms = fold (λ x m. plus x m.value) z ms
 
 module _ {V : Type 0} {values : Values V} where
   -- an op that gives this answer, moves to these places, and leaves the world as it is
@@ -112,7 +112,7 @@ module _ {V : Type 0} {values : Values V} where
       }
   after_op (op.Sum t r) w ps s =
       let taken : Took V = took (s.histories t) (ps t) None in
-      let z : V = sum_onto values (s.resources r) taken.items in
+      let z : V = sum_onto values.plus (s.resources r) taken.items in
       record {
         places = with_place ps t (place_after_read (s.histories t) (ps t) None);
         world = with_value_of s r z;

@@ -74,7 +74,7 @@ impl<V: Value> Guard<V> {
                 self.cursor.clear(messages);
                 unread > 0
             }
-            Probe::ResourceEquals(r, value) => value_of(lent, r).same(value),
+            Probe::ResourceEquals(r, value) => value_of(lent, r) == value,
         };
         invert(self.condition.nots, found)
     }

@@ -84,11 +84,7 @@ pub(crate) fn set_value<V: Value>(lent: &mut Lent<V>, r: ResNo, value: V)
 
 /// Adds the values of messages to `start`, one by one, as `Value::plus` says.
 pub fn added_up<V: Value>(start: V, records: &[Record<V>]) -> V
-    ensures sum { result ≡ sum_onto V.values start records.now }
+    ensures sum { result ≡ sum_onto V.values.plus start records.now }
 {
-    let mut sum = start;
-    for record in records {
-        sum = sum.plus(record.value);
-    }
-    sum
+    records.iter().fold(start, |sum, record| sum.plus(record.value))
 }

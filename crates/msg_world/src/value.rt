@@ -1,31 +1,32 @@
 /// What the messages and resources of a world hold: `i64`, or a type of a game's own. Such a type
-/// is `Copy`, and its author says two things of it: what a sum of two values is, which `Op::Sum`
-/// and `Op::Add` make, and whether two are the same, which `Probe::ResourceEquals` asks. No law is
-/// asked of either. Whatever they are, contracts say what the author says.
+/// is `Copy` and has `==`, by which `Probe::ResourceEquals` compares, and its author says what a sum
+/// of two values is, which `Op::Sum` and `Op::Add` make. No law is asked of that: whatever it is,
+/// contracts say what the author says.
 ///
-/// One takes ten lines: in `specs/` what is known of the type, and beside the type the same in code
-/// (the `use` lines are left out):
+/// One takes ten lines: in `specs/` what a sum is, and beside the type the same in code (most `use`
+/// lines are left out):
 ///
 /// ```
 /// // specs/Hits.antt: of two hits the later stays
-/// abbrev pub hits : Values Hit
-/// hits = record { some = record { on = 0 }; plus = λ x y. y; same = λ x y. x.on == y.on }
+/// abbrev pub plus_hit : Hit → Hit → Hit
+/// plus_hit hit other = other
 ///
 /// // src/hit.rt
 /// #[derive(Clone, Copy, Debug, PartialEq, Eq)]
 /// pub struct Hit { pub on: u32 }
 ///
 /// impl Value for Hit {
-///     ghost use Rattle.game.specs.Hits.{hits};
-///     ghost values = { hits };
+///     ghost use Rattle.std.specs.Prelude.{refl};
+///     ghost use Rattle.game.specs.Hits.{plus_hit};
+///     ghost values = { record { some = record { on = 0 }; plus = plus_hit; same = Self.PartialEq.eq } };
+///     ghost same_is_eq = { refl };
 ///     fn plus(self, other: Hit) -> Hit { other }
-///     fn same(self, other: Hit) -> bool { self == other }
 /// }
 /// ```
 ///
 /// `crates/tower` has a whole game with such a type. An engine asks that its values may be sent to
 /// threads and shared by them, as plain data may.
-pub trait Value: Copy {
+pub trait Value: Copy + PartialEq {
     ghost use Rattle.std.specs.Prelude.{◌≡◌};
     ghost use Rattle.msg_world.specs.World.{Values};
 
@@ -36,22 +37,20 @@ pub trait Value: Copy {
     fn plus(self, other: Self) -> Self
         ensures sum { result ≡ values.plus self other };
 
-    /// Whether a condition takes a value for the same as another.
-    fn same(self, other: Self) -> bool
-        ensures same { result ≡ values.same self other };
+    // A condition compares by `==`.
+    ghost same_is_eq: { values.same ≡ Self.PartialEq.eq };
 }
 
 // A sum is held within the range of `i64`.
 impl Value for i64 {
+    ghost use Rattle.std.specs.Prelude.{refl};
     ghost use Rattle.msg_world.specs.World.{i64_values};
 
     ghost values = { i64_values };
 
+    ghost same_is_eq = { refl };
+
     fn plus(self, other: i64) -> i64 {
         self.saturating_add(other)
-    }
-
-    fn same(self, other: i64) -> bool {
-        self == other
     }
 }

@@ -55,6 +55,6 @@ gate_answers g given = (
   g,
   elim (given.value gate.LIVES) [
     | None ↦ nothing
-    | Some lives ↦ put gate.LEFT (sum_onto event_values lives (given.messages gate.BREAKS)) nothing
+    | Some lives ↦ put gate.LEFT (sum_onto plus_event lives (given.messages gate.BREAKS)) nothing
   ],
 )
