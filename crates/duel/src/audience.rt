@@ -2,7 +2,7 @@
 ghost use Rattle.std.specs.Prelude.{◌≡◌};
 ghost use Rattle.duel.specs.Audiences.{falls_counted};
 
-use msg_exec::{Frame, Host, Items, Log, NoMemory, Outcome, Turn};
+use msg_exec::{Frame, Host, Log, NoMemory, Outcome, Turn};
 use msg_system::Reply;
 use std::alloc::Global;
 
@@ -47,7 +47,6 @@ impl Host for Audience {
                 return Ok(None);
             }
         }
-        let posts = Items::from_vec(Vec::new(alloc));
-        Ok(Some(Frame { posts }))
+        Ok(Some(Frame::quiet(alloc)))
     }
 }

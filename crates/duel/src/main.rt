@@ -1,8 +1,8 @@
-//! A fight, which shows these crates as a library: systems that decide, put together by a builder
-//! and run on four workers.
+//! A fight, which shows systems that choose op by op, put together by a builder and run on four
+//! workers in a loop that an audience ends.
 #![tactic(auto)]
 
-ghost use Rattle.std.specs.Prelude.{◌<◌, OnOk};
+ghost use Rattle.std.specs.Prelude.{OnOk};
 ghost use Rattle.msg_exec.specs.Prelude.{IsEngine};
 ghost use Rattle.msg_exec.specs.Hosts.{HasRunLoop, LoopsAgree};
 ghost use Rattle.msg_world.specs.Prelude.{i64_values};
@@ -12,67 +12,41 @@ mod role;
 
 use audience::Audience;
 use msg_exec::engine_laws::loops_agree;
-use msg_exec::{EngineBuilder, EngineOf, Host, Workers};
-use msg_order::Rule;
-use msg_system::{BehaviorSystem, Condition, Probe, SystemOf};
-use msg_world::{ResNo, TypeNo, World};
+use msg_game::{Condition, EngineOf, Game, Host, ResNo, Rule, SystemOf, Workers};
+use msg_system::BehaviorSystem;
 use role::{Fighter, Role};
-use std::alloc::Global;
-use std::io::Print;
 use std::thread::Threads;
-
-/// How many fighters there are. They are the first systems, and the referee is the one after them.
-const FIGHTERS: u32 = 3;
 
 /// The health that a fighter begins with.
 const HEALTH: i64 = 3;
 
-/// The frame with which the last fighter joins.
-const LATE: u32 = 3;
-
-/// The resource that counts the fallen.
-fn fallen() -> ResNo {
-    ResNo::new(0).unwrap()
-}
-
-/// Adds the fighter of this number, who takes turns until two have fallen, and a rule that puts
-/// the referee before it.
-fn add_fighter(
-    ring: &mut EngineBuilder<BehaviorSystem<Role>>,
-    alloc: Global,
-    number: u32,
-    falls: TypeNo,
-) -> anyhow::Result<()>
-    requires there { number < 3 }
-{
-    let until_two_fell = Condition {
-        nots: 1,
-        probe: Probe::ResourceEquals(fallen(), 2),
-    };
-    let conditions = vec![in alloc; until_two_fell]?;
-    let fighter = Fighter {
-        blows: TypeNo::new(number).unwrap(),
-        rival: TypeNo::new((number + 1) % FIGHTERS).unwrap(),
-        falls,
-        health: HEALTH,
-    };
-    let join = if number + 1 == FIGHTERS { LATE } else { 1 };
-    ring.add_system(Role::Fighter(fighter).system(alloc), conditions, join)?;
-    ring.add_rule(Rule::before(FIGHTERS, number))?;
-    Ok(())
-}
-
-/// Fighters in a ring, and a referee, who is added after them. The messages of type i are the blows
-/// to fighter i, and those of the type after these are the falls.
-fn ring(alloc: Global) -> anyhow::Result<EngineBuilder<BehaviorSystem<Role>>> {
-    let falls = TypeNo::new(FIGHTERS).unwrap();
-    let mut ring = EngineBuilder::new(alloc);
-    for number in 0..FIGHTERS {
-        add_fighter(&mut ring, alloc, number, falls)?;
+/// Fighters in a ring, who take turns until two have fallen, and a referee, who is added after them
+/// and whom a rule puts before each of them. It gives the resource that counts the fallen.
+fn add_all(ring: &mut Game<BehaviorSystem<Role>, i64>) -> anyhow::Result<ResNo> {
+    let alloc = ring.alloc();
+    let [ann, ben, cis, falls] = ring.add_types(["to ann", "to ben", "to cis", "falls"])?;
+    let [fallen] = ring.add_resources(["fallen"], [0])?;
+    let fighters = [
+        ("ann", ann, ben, 1),
+        ("ben", ben, cis, 1),
+        ("cis", cis, ann, 3),
+    ];
+    for (name, blows, rival, join) in fighters {
+        let fighter = Role::Fighter(Fighter {
+            blows,
+            rival,
+            falls,
+            health: HEALTH,
+        });
+        let until_two_fell = vec![in alloc; Condition::resource_equals(fallen, 2).not()]?;
+        ring.add_system(name, fighter.system(alloc), until_two_fell, join)?;
     }
-    let referee = Role::Referee(falls, fallen()).system(alloc);
-    ring.add_system(referee, Vec::new(alloc), 1)?;
-    Ok(ring)
+    let referee = Role::Referee(falls, fallen).system(alloc);
+    let referee = ring.add_system("referee", referee, Vec::new(alloc), 1)?;
+    for fighter in 0..3 {
+        ring.add_rule(Rule::before(referee, fighter))?;
+    }
+    Ok(fallen)
 }
 
 /// Lets them fight until the audience has seen enough, for so many frames at most.
@@ -99,25 +73,23 @@ fn fight<R: Threads + Sync>(
     Ok(())
 }
 
-/// Prints what each fighter got, and how many fell.
-fn tell<R: Print>(rt: &R, engine: &EngineOf<BehaviorSystem<Role>>) -> anyhow::Result<()> {
+/// Prints how long the fight took, what became of each reader's messages, and how many fell.
+fn main(rt: HostRuntime) -> anyhow::Result<()> {
+    let mut ring = Game::new(rt.alloc());
+    let fallen = add_all(&mut ring)?;
+    let (mut engine, names) = ring.build()?;
+    let mut audience = Audience { falls: 2 };
+    fight(
+        &rt,
+        &mut engine,
+        &mut audience,
+        100,
+        Workers::new(4).unwrap(),
+    )?;
     println!(rt; "the fight took {} frames", engine.frames_run())?;
-    for account in engine.accounts()? {
-        println!(rt;
-            "system {} got {} missed {}",
-            account.system, account.got, account.missed
-        )?;
-    }
-    if let Some(count) = engine.world().and_then(|world| world.resource(fallen())) {
-        println!(rt; "{count} of {FIGHTERS} fighters fell")?;
+    names.tell(&rt, &engine)?;
+    if let Some(count) = engine.world().and_then(|world| world.resource(fallen)) {
+        println!(rt; "{count} of 3 fighters fell")?;
     }
     Ok(())
-}
-
-fn main(rt: HostRuntime) -> anyhow::Result<()> {
-    let (alloc, workers) = (rt.alloc(), Workers::new(4).unwrap());
-    let mut engine = ring(alloc)?.build(World::new(alloc, &[100; 4], &[0])?)?;
-    let mut audience = Audience { falls: 2 };
-    fight(&rt, &mut engine, &mut audience, 100, workers)?;
-    tell(&rt, &engine)
 }

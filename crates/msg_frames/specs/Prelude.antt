@@ -11,7 +11,7 @@ pub use Rattle.msg_frames.specs.Soundness.{IsBalanced, IsSoundState, NoCycle}
 pub use Rattle.msg_frames.specs.Steps.{IsWrittenOnce, all_written, answers_in, replies_of, written_in}
 pub use Rattle.msg_frames.specs.Moments.{GivesItsStretch, Moment, found_at, messages_of, moments, moments_at, own_steps_in, reader_place, steps_of}
 unfoldable pub use Rattle.msg_frames.specs.Frames.{parts, settled_order, turn_order}
-pub use Rattle.msg_frames.specs.Logs.{cut_of, turn_in, turn_replies}
+pub use Rattle.msg_frames.specs.Logs.{cut_of, read_in, turn_in, turn_replies}
 pub use Rattle.msg_frames.specs.LogEntries.{entries_for, entries_of_turns, ops_by, with_answer, with_answers}
 pub use Rattle.msg_frames.specs.declared.frame.Frame.{Frame}
 pub use Rattle.msg_frames.specs.declared.log.Log.{Log}

@@ -1,10 +1,11 @@
 ghost use Rattle.std.specs.Prelude.{◌≡◌, [], count_by, unwrap_or};
 ghost use Rattle.std.specs.Option.{option_copied};
 ghost use Rattle.msg_system.specs.Prelude.{is_spent};
-ghost use Rattle.msg_frames.specs.Logs.{cut_of, turn_in, turn_replies};
+ghost use Rattle.msg_frames.specs.Logs.{cut_of, read_in, turn_in, turn_replies};
 
 use crate::Items;
-use msg_system::Reply;
+use msg_system::{Reply, brought};
+use msg_world::Record;
 
 /// What came of a system's turn: nothing, if one of its conditions didn't hold, or its replies,
 /// one for each op. If the turn was cut, one more tells before which op, and why.
@@ -76,5 +77,21 @@ impl<V> Log<V> {
             .as_slice()
             .iter()
             .find(|turn| turn.system == system)
+    }
+
+    /// The messages that a system read in this frame by its op number `k`: of a function by part `k`
+    /// of those that it reads. There are none if it was skipped or hadn't joined, or if that op
+    /// reads none.
+    ///
+    /// ```
+    /// let sold = log.read_by(cashier, 0).iter().any(|sale| sale.value > 100);
+    /// ```
+    pub fn read_by(&self, system: u32, k: usize) -> &[Record<V>]
+        ensures read { result.now ≡ read_in system k self.now }
+    {
+        match self.turn_of(system).and_then(|turn| turn.replies()) {
+            Some(replies) => brought(replies, k),
+            None => &[],
+        }
     }
 }

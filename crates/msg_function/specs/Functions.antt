@@ -21,7 +21,8 @@ use Rattle.msg_function.specs.declared.port.Port.TheVariants.{Messages, Resource
 -- ---- what it is given
 
 -- What came of each part that is read: its messages, how many were missed, or its value. And of each
--- part that is written, whether what was answered to it in the last turn was refused.
+-- part that is written, whether what was answered to it in the last turn was refused. A part that
+-- isn't there has nothing to read, and refuses all.
 pub record Given (V : Type 0) : Type 0 where
   pub messages : ℕ → List (Record V)
   pub missed : ℕ → ℕ
@@ -45,20 +46,20 @@ module _ {V : Type 0} where
     messages = λ k. brought (slice_get replies k);
     missed = λ k. missed_of (slice_get replies k);
     value = λ k. value_of (slice_get replies k);
-    spent = λ k. slice_index_or refused k false;
+    spent = λ k. slice_index_or refused k true;
   }
 
   -- what an inbox has
   abbrev pub given : Inbox V → Given V
   given inbox = given_by inbox.refused.now inbox.replies.now
 
-  -- how many parts it is given
+  -- how many parts may be asked for
   abbrev pub parts : Inbox V → ℕ
-  parts inbox = length inbox.replies.now
+  parts inbox = inbox.parts
 
-  -- how many parts are written
+  -- how many parts may be written
   abbrev pub written_parts : Inbox V → ℕ
-  written_parts inbox = length inbox.refused.now
+  written_parts inbox = inbox.written_parts
 
 -- ---- what it answers
 

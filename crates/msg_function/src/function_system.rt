@@ -27,14 +27,14 @@ pub struct FunctionSystem<T: Function<READS, WRITES>, const READS: usize, const 
     reads: Items<Port>,
     writes: Items<Port>,
     outbox: Outbox<T::Value, WRITES>,
-    refused: [bool; WRITES],
+    refused: Vec<bool>,
     access: Access,
     start: Start,
     me: Identity,
     ghost is_access: { IsAccessOf (ports_needs reads writes) access },
-    ghost as_many_reads: { length reads ≡ READS },
-    ghost as_many_writes: { length writes ≡ WRITES },
-    ghost few: { READS + WRITES ≤ MAX_OPS },
+    ghost within: { length writes ≤ WRITES },
+    ghost one_each: { length refused.items ≡ length writes },
+    ghost few: { length reads + length writes ≤ MAX_OPS },
 }
 
 impl<T: Function<READS, WRITES> + Send, const READS: usize, const WRITES: usize> FunctionSystem<
@@ -47,13 +47,19 @@ impl<T: Function<READS, WRITES> + Send, const READS: usize, const WRITES: usize>
 
     /// It has done nothing yet. It writes as 0 until a builder gives it a number, and reads all
     /// that is kept as it joins.
-    pub fn new(
+    ///
+    /// It may be made with fewer parts than its function may read and write, as one of an enum of
+    /// many kinds is: those after them are absent. An absent part has no messages and no value, what
+    /// is answered to it isn't written, and `Inbox::spent` says so.
+    pub fn new<const R: usize, const W: usize>(
         alloc: Global,
         function: T,
-        reads: [Port; READS],
-        writes: [Port; WRITES],
+        reads: [Port; R],
+        writes: [Port; W],
     ) -> Result<FunctionSystem<T, READS, WRITES>, NoMemory>
         requires few { READS + WRITES ≤ MAX_OPS }
+        requires read { R ≤ READS }
+        requires written { W ≤ WRITES }
         ensures new { IfOk result (λ r. ⟦<FunctionSystem<T, READS, WRITES> as SystemOf>⟧.meaning r
             ≡ new_function T.answers reads.entry writes.entry function Zero 0) }
     {
@@ -64,7 +70,7 @@ impl<T: Function<READS, WRITES> + Send, const READS: usize, const WRITES: usize>
             reads: Items::from_vec(Vec::from_array(alloc, reads)?),
             writes: Items::from_vec(Vec::from_array(alloc, writes)?),
             outbox,
-            refused: [false; WRITES],
+            refused: Vec::from_array(alloc, [false; W])?,
             access,
             start: Start::Zero,
             me: Identity {
@@ -94,7 +100,7 @@ impl<T: Function<READS, WRITES> + Send, const READS: usize, const WRITES: usize>
     ghost use Rattle.msg_function.specs.Functions.{answered, of_function, read_op, written_ops};
 
     ghost meaning = { λ s. of_function T.answers s.reads s.writes
-        (record { memory = s.function; refused = s.refused }) s.start s.me.writer
+        (record { memory = s.function; refused = s.refused.items }) s.start s.me.writer
         (cursor_places s.me.cursors)
         (map read_op s.reads ++ written_ops s.writes (answered s.outbox)) };
 
@@ -138,7 +144,9 @@ impl<T: Function<READS, WRITES> + Send, const READS: usize, const WRITES: usize>
         self.outbox.clear();
         let inbox = Inbox {
             replies: since(out.as_slice(), before),
-            refused: &self.refused,
+            refused: self.refused.as_slice(),
+            parts: READS,
+            written_parts: WRITES,
         };
         self.function.answer(&inbox, &mut self.outbox)?;
         let read = out.len();
@@ -146,7 +154,8 @@ impl<T: Function<READS, WRITES> + Send, const READS: usize, const WRITES: usize>
         self.outbox
             .write_lists(alloc, writes, &mut self.me, &mut lent, out)?;
         let written = since(out.as_slice(), read);
-        self.outbox.note_refused(writes, written, &mut self.refused);
+        self.outbox
+            .note_refused(writes, written, self.refused.as_mut_slice());
         Ok(lent.into_taken())
     }
 }

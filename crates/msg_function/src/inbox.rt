@@ -4,11 +4,14 @@ use msg_system::{Reply, brought};
 use msg_world::{Record, Value};
 
 /// What a system is given in a turn: what came of each part that it reads, and which parts that it
-/// writes were refused, each in the order in which it was made with them.
+/// writes were refused, each in the order in which it was made with them. If it was made with fewer
+/// parts than its function may read, those that are absent have no messages and no value.
 #[derive(Clone, Copy)]
 pub struct Inbox<'a, V> {
     pub(crate) replies: &'a [Reply<V>],
     pub(crate) refused: &'a [bool],
+    pub(crate) parts: usize,
+    pub(crate) written_parts: usize,
 }
 
 impl<'a, V: Value> Inbox<'a, V> {
@@ -43,13 +46,15 @@ impl<'a, V: Value> Inbox<'a, V> {
             _ => None,
         }
     }
+
     /// Whether what was answered in its last turn to part `k`, of those that it writes, was refused
     /// whole: too few numbers of the type were left, so none of these messages was written. False
-    /// of a resource, and in its first turn.
+    /// of a resource, and in its first turn. True of an absent part: what is answered to it isn't
+    /// written.
     pub fn spent(&self, k: usize) -> bool
         requires there { k < written_parts self.now }
         ensures spent { result ≡ (given self.now).spent k }
     {
-        self.refused[k]
+        self.refused.get(k).copied().unwrap_or(true)
     }
 }

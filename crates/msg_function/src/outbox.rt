@@ -1,4 +1,4 @@
-ghost use Rattle.std.specs.Prelude.{◌≡◌, ◌<◌, All, IfOk, IsSome, OnOk, length};
+ghost use Rattle.std.specs.Prelude.{◌≡◌, ◌<◌, ◌≤◌, All, IfOk, IsSome, OnOk, length};
 ghost use Rattle.msg_world.specs.Prelude.{writable};
 ghost use Rattle.msg_system.specs.Prelude.{refused_in};
 
@@ -10,8 +10,9 @@ use msg_system::{Refused, Reply};
 use msg_world::{Lent, Value};
 use std::alloc::Global;
 
-/// What a system answers in a turn: values for each of the `WRITES` parts that it writes, in the
-/// order in which it was made with them.
+/// What a system answers in a turn: values for each of the `WRITES` parts that it may write, in the
+/// order in which it was made with them. What is answered to a part that it wasn't made with isn't
+/// written.
 #[derive(Drop)]
 pub struct Outbox<V, const WRITES: usize> {
     pub(crate) lists: Vec<Vec<V>>,
@@ -51,7 +52,7 @@ impl<V: Value, const WRITES: usize> Outbox<V, WRITES> {
         lent: &mut Lent<V>,
         out: &mut Vec<Reply<V>>,
     ) -> Result<(), NoMemory>
-        requires as_many { length ports.now ≡ WRITES }
+        requires within { length ports.now ≤ WRITES }
         requires written { All (λ port. IsSome (writable (part_of port) lent.old)) ports.now }
         ensures ran { OnOk result (OpsRan V.values (written_ops ports.now (answered self.old))
             me.old me.new lent.old lent.new out.old.items out.new.items) }
@@ -65,8 +66,8 @@ impl<V: Value, const WRITES: usize> Outbox<V, WRITES> {
 
     /// Notes of each part whether what was answered to it was refused, by the replies to that.
     pub(crate) fn note_refused(&self, ports: &[Port], replies: &[Reply<V>], refused: &mut [bool])
-        requires as_many { length ports.now ≡ WRITES }
-        requires one_each { length refused.old ≡ WRITES }
+        requires within { length ports.now ≤ WRITES }
+        requires one_each { length refused.old ≡ length ports.now }
         ensures noted { refused.new
             ≡ refused_parts ports.now (answered self.now) replies.now }
     {
@@ -85,7 +86,7 @@ impl<V: Value, const WRITES: usize> Outbox<V, WRITES> {
         place: usize,
         reply: &Reply<V>,
     ) -> Option<Refused>
-        requires as_many { length ports.now ≡ WRITES }
+        requires within { length ports.now ≤ WRITES }
         ensures refused { result
             ≡ refused_in (written_ops ports.now (answered self.now)) place reply.now }
     {

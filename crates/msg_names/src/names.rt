@@ -16,9 +16,9 @@ use std::fmt;
 /// ```
 #[derive(Clone, Copy, Debug)]
 pub struct Names<'a> {
-    pub systems: &'a [&'a str],
-    pub types: &'a [&'a str],
-    pub resources: &'a [&'a str],
+    pub systems: &'a [&'static str],
+    pub types: &'a [&'static str],
+    pub resources: &'a [&'static str],
 }
 
 /// What a system, a type or a resource is called.
@@ -31,7 +31,7 @@ pub enum Name<'a> {
 }
 
 impl<'a> Name<'a> {
-    fn of(kind: &'static str, names: &'a [&'a str], number: u32) -> Name<'a> {
+    fn of(kind: &'static str, names: &'a [&'static str], number: u32) -> Name<'a> {
         match names.get(number as usize) {
             Some(name) => Name::Given(name),
             None => Name::Numbered(kind, number),

@@ -13,15 +13,14 @@ pub answer-requires : goal.answer-requires
 answer-requires g c =
     let long : c.len-before.result ≡ length c.args.out.now.items = search rules in
     let first = rw c.as_slice.ensures.items at c.in_ok-read_ports.ensures.ran in
-    let told = parts_told _ _ _ _ _ _ _ first ∙ c.args.self.now.as_many_reads in
-    (omega arith, (rw (c.since.ensures.rest, c.as_slice-2.ensures.value, long) told, (search rules, c.clear.ensures.nothing)))
+    search rules
 
 pub write_lists-requires : goal.write_lists-requires
 write_lists-requires g c =
     let same = c.in_ok-read_ports.ensures.ran.same in (
       omega arith,
       (
-        rw c.as_slice-writes.ensures.items c.args.self.now.as_many_writes,
+        rw c.as_slice-writes.ensures.items c.args.self.now.within,
         rw c.as_slice-writes.ensures.items (λ i d lt. still_writable _ _ _ same (writable_each _ _ _ c.requires.covers i d lt)),
       ),
     )
@@ -47,6 +46,6 @@ returns-clause-ran g c =
       far,
     ) at c.note_refused.ensures.noted in
     rw c.in_ok-write_lists.ensures.stays
-    (function_ran g.T.Function.answers self.reads self.writes (rw (self.as_many_reads, self.as_many_writes) self.few)
-    (record { memory = self.function; refused = self.refused }) self.start
+    (function_ran g.T.Function.answers self.reads self.writes self.few
+    (record { memory = self.function; refused = self.refused.items }) self.start
     _ _ _ _ _ _ _ _ _ _ _ _ (answered c.answer.new.outbox) _ first made second noted c.into_taken.ensures.taken)

@@ -6,6 +6,6 @@ pub returns : goal.returns
 returns g c =
     let system = c.args.self.now in record {
       law = λ s.
-          (is_whole g.T.Function.answers system.reads system.writes (rw (system.as_many_reads, system.as_many_writes) system.few)
-          (record { memory = system.function; refused = system.refused }) system.start system.me.writer (cursor_places system.me.cursors) _ s).uncut;
+          (is_whole g.T.Function.answers system.reads system.writes system.few
+          (record { memory = system.function; refused = system.refused.items }) system.start system.me.writer (cursor_places system.me.cursors) _ s).uncut;
     }

@@ -23,12 +23,12 @@ pub loop-k-preserved : goal.loop-k-preserved
 loop-k-preserved g c =
     let ports = c.args.ports.now in let k = c.loop-k.k in let inv = c.loop-k.invariant in
     let answer = answered c.args.self.now in
-    let lt : k < length c.args.self.now.lists.items = omega (arith, c.loop-k-test.true, c.args.self.now.one_each, c.requires.as_many) in
+    let lt : k < length c.args.self.now.lists.items = omega (arith, c.loop-k-test.true, c.args.self.now.one_each, c.requires.within) in
     let here : c.as_slice-values.result.now ≡ answer k =
     c.as_slice-values.ensures.value ∙ list_at (λ x. x.items) c.args.self.now.lists.items k c.index.result.now lt c.index.ensures in
     let told : c.is_refused.result ≡ was_refused ports answer c.args.replies.now k =
     rw (here, inv.written) at c.is_refused.ensures.refused in
-    let within : k < length c.loop-k.refused = omega (arith, c.loop-k-test.true, c.loop-k.auto.refused, c.requires.one_each, c.requires.as_many) in
+    let within : k < length c.loop-k.refused = omega (arith, c.loop-k-test.true, c.loop-k.auto.refused, c.requires.one_each, c.requires.within) in
     let more = more_written ports answer k c.op_count-written.result c.loop-k-test.true (λ port. rw here at (c.op_count-written.ensures.count port)) in
     record {
       noted = λ j below. elim (cases_eq j k) [
@@ -43,6 +43,6 @@ returns g c =
     let ports = c.args.ports.now in
     record {
       noted = fill_by_all (was_refused ports (answered c.args.self.now) c.args.replies.now) c.loop-k.refused (length ports) false
-          (omega (arith, c.loop-k.auto.refused, c.requires.one_each, c.requires.as_many))
+          (omega (arith, c.loop-k.auto.refused, c.requires.one_each, c.requires.within))
           (λ j below. c.loop-k.invariant.noted j (omega (arith, below, c.loop-k-test.false)));
     }

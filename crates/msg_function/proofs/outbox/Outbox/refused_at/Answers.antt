@@ -11,7 +11,7 @@ returns-then-before-count g c =
     let ports = c.args.ports.now in let k = c.loop-k.k in let port = c.index-ports-k.result in
     let answer = answered c.args.self.now in
     let ops = written_ops ports answer in
-    let lt : k < length c.args.self.now.lists.items = omega (arith, c.loop-k-test.true, c.args.self.now.one_each, c.requires.as_many) in
+    let lt : k < length c.args.self.now.lists.items = omega (arith, c.loop-k-test.true, c.args.self.now.one_each, c.requires.within) in
     let here : c.as_slice-values.result.now ≡ answer k =
     c.as_slice-values.ensures.value ∙ list_at (λ x. x.items) c.args.self.now.lists.items k c.index.result.now lt c.index.ensures in
     let some = rw here at (c.op_count-count.ensures.some (omega (arith, c.if-before-count.true))) in
@@ -27,7 +27,7 @@ pub loop-k-preserved : goal.loop-k-preserved
 loop-k-preserved g c =
     let ports = c.args.ports.now in let k = c.loop-k.k in
     let answer = answered c.args.self.now in
-    let lt : k < length c.args.self.now.lists.items = omega (arith, c.loop-k-test.true, c.args.self.now.one_each, c.requires.as_many) in
+    let lt : k < length c.args.self.now.lists.items = omega (arith, c.loop-k-test.true, c.args.self.now.one_each, c.requires.within) in
     let here : c.as_slice-values.result.now ≡ answer k =
     c.as_slice-values.ensures.value ∙ list_at (λ x. x.items) c.args.self.now.lists.items k c.index.result.now lt c.index.ensures in
     let more = more_written ports answer k c.op_count-count.result c.loop-k-test.true (λ port. rw here at (c.op_count-count.ensures.count port)) in

@@ -20,7 +20,7 @@ loop-k-preserved g c =
     let inv = c.loop-k.invariant in
     let one : take (k + 1) ports ≡ take k ports ++ port ∷ [] =
     rw (take_more ports k port (omega arith), ← c.index-ports-k.is) refl in
-    let lt : k < length lists = omega (arith, c.loop-k.self.one_each, c.requires.as_many) in
+    let lt : k < length lists = omega (arith, c.loop-k.self.one_each, c.requires.within) in
     let at = c.index_mut.ensures.value in
     let here : list.items ≡ answered c.args.self.now k =
     ap (λ x. x.items) at ∙ sym (get_or-map (λ x. x.items) lists k list [] lt) ∙ ap (λ xs. slice_index_or xs k []) inv.stays in
