@@ -7,7 +7,7 @@ mod part;
 
 use event::Event::{self, *};
 use house::House;
-use msg_game::{Condition, FunctionSystem, Game, Workers, systems};
+use msg_game::{Condition, FunctionSystem, Game, ResNo, Workers, systems};
 use part::Part::{self, *};
 
 /// Adds all parts of the house, and gives what opens its lots.
@@ -40,6 +40,9 @@ fn main(rt: HostRuntime) -> anyhow::Result<()> {
     let (mut engine, names) = game.build()?;
     engine.run_loop(&rt, &mut house, 1_000, Workers::new(4).unwrap())?;
     names.tell(&rt, &engine)?;
-    println!(rt; "{} frames", engine.frames_run())?;
+    let till = engine
+        .world()
+        .and_then(|world| world.resource(ResNo::of(0)));
+    println!(rt; "{} frames, and {till:?}", engine.frames_run())?;
     Ok(())
 }
