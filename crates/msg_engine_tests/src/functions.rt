@@ -170,3 +170,50 @@ fn functions_hear_what_they_lost(rt: HostRuntime) {
     expect_eq(rt, first_refused(rt, &engine), Some(2));
     drop(engine);
 }
+
+/// Asks for parts that its system wasn't made with, and writes 1 to a resource if it is told that
+/// the first of them takes nothing and the second has nothing; it writes to the first of them too.
+#[derive(Drop)]
+struct Lonely;
+
+impl Function<2, 2> for Lonely {
+    type Value = i64;
+
+    ghost use Rattle.std.specs.Prelude.{length, nat_lt, pos, if◌then◌else◌};
+    ghost use Rattle.msg_function.specs.Prelude.{nothing, put};
+
+    ghost answers = { λ lonely given. (
+      lonely,
+      put 1 (pos 9) (put 0 (if given.spent 1 then
+          (if nat_lt 0 (length (given.messages 1)) then pos 2 else pos 1) else pos 3) nothing),
+    ) };
+
+    fn answer(&mut self, inbox: &Inbox<i64>, outbox: &mut Outbox<i64, 2>) -> Result<(), NoMemory> {
+        let told = match (inbox.spent(1), inbox.read(1).is_empty()) {
+            (true, true) => 1,
+            (true, false) => 2,
+            (false, _) => 3,
+        };
+        outbox.write(0, told)?;
+        outbox.write(1, 9)
+    }
+}
+
+#[test]
+fn parts_may_be_absent(rt: HostRuntime) {
+    let mut systems = EngineBuilder::new(rt.alloc());
+    let (read, written) = ([Messages(type_no(0))], [Resource(res_no(0))]);
+    let lonely = FunctionSystem::new(rt.alloc(), Lonely, read, written);
+    let lonely = lonely.expect(&rt, "a system of fewer parts");
+    add(&rt, &mut systems, lonely, Vec::new(rt.alloc()), 1);
+    let engine = engine_over(&rt, rt.alloc(), systems, &[10], &[0]);
+    expect_frames(
+        &rt,
+        engine,
+        1,
+        &[
+            (&[5], " wrote 1 from 0[0 read from 0: host=5 Value(1)]"),
+            (&[], "[0 read from 1: Value(1)]"),
+        ],
+    );
+}

@@ -125,7 +125,12 @@ fn expect_wide<R: Threads + Sync + Abort + AllocGlobal, const READS: usize, cons
     let values = (0..5_000).collect(rt.alloc()).expect(rt, "values");
     let reads = [Messages(type_no(0)); READS];
     let writes = [Messages(type_no(1)); WRITES];
-    let wide = FunctionSystem::new(rt.alloc(), Wide { values }, reads, writes);
+    let wide = FunctionSystem::<Wide, READS, WRITES>::new(
+        rt.alloc(),
+        Wide { values },
+        reads,
+        writes,
+    );
     let mut systems = EngineBuilder::new(rt.alloc());
     add(
         rt,

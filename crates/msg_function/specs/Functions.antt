@@ -1,5 +1,5 @@
 -- What a function is given and answers, and what its system does.
-use Rattle.std.specs.Prelude.{All, ◌≡◌, ◌≢◌, false, ℕ, suc, ◌<◌, ◌==◌, ◌-◌, ◌++◌, Bool, not, ◌&&◌, List, [], ◌∷◌, Option, Some, None, drop, fold, length, map, nat_lt, option_map, option_to_list, replicate, slice_get, slice_index_or, take, if◌then◌else◌}
+use Rattle.std.specs.Prelude.{All, ◌≡◌, ◌≢◌, false, true, ℕ, suc, ◌<◌, ◌==◌, ◌-◌, ◌++◌, Bool, not, ◌&&◌, List, [], ◌∷◌, Option, Some, None, drop, fold, length, map, nat_lt, option_map, option_to_list, replicate, slice_get, slice_index_or, take, if◌then◌else◌}
 use Rattle.std.specs.List.{list_any, range_with_len}
 use Rattle.std.specs.Option.{option_map_or}
 use Rattle.msg_buffer.specs.Prelude.{message_of, missed, unread}
