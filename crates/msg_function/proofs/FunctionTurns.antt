@@ -9,7 +9,7 @@ use Rattle.msg_system.specs.{declared.op.Op.Op, declared.reply.Reply.Reply}
 use Rattle.msg_system.specs.Prelude.{AfterProgram, BeginsTurnsWith, Needs, after_at_most, after_op, after_program, cut_after, is_cut, keeps_to, next_done, may_read, next_op, ops_answered, after_replies, Meaning, Ran, cursor_places, turn}
 use Rattle.msg_system.specs.declared.{limits.TheConstants.MAX_OPS, start.Start.Start}
 use Rattle.msg_function.specs.declared.port.Port.{Port}
-use Rattle.msg_function.specs.Functions.{Answer, FunctionOf, Kept, TurnIsWhole, given_by, kept_of, nothing, part_of, ports_needs, of_function, read_op, refused_parts, some_port_is, write_op, written_op, written_ops}
+use Rattle.msg_function.specs.Functions.{Answer, FunctionOf, Kept, TurnIsWhole, given_by, kept_of, nothing, part_of, ports_needs, of_function, read_op, refused_parts, some_port_is, write_op, written_ops}
 use Rattle.msg_system.specs.inner.TurnRuns.{IsAfterProgram}
 use Rattle.msg_system.proofs.{Runs.same_part_refl, Turns.next_of_ops, Turns.one_reply_each, Turns.ops_answered-snoc, Turns.ran_turn, WholeTurns.ends_itself, WholeTurns.op_is_done, WholeTurns.told_alike}
 use Rattle.msg_function.specs.declared.identity.Identity.{Identity}

@@ -1,5 +1,5 @@
 -- What a function is given is what the world has.
-use Rattle.std.proofs.Common.{◌≡◌, ◌≢◌, ℕ, ◌<◌, Bool, List, [], ◌∷◌, None, Option, Some, ap, arith, map, ne_eqb, refl, slice_get, suc, sym, zero}
+use Rattle.std.proofs.Common.{◌≡◌, ◌≢◌, ℕ, Bool, List, [], ◌∷◌, None, Some, ap, arith, map, ne_eqb, slice_get, suc, sym, zero}
 use Rattle.std.proofs.lemmas.Option.{none-some, same_Some}
 use Rattle.msg_world.specs.Prelude.{Values, WorldState}
 use Rattle.msg_system.specs.Prelude.{Meaning, after_program, brought, took, with_place, place_after_read}

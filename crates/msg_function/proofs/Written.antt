@@ -1,5 +1,5 @@
 -- Which op of a turn writes which part.
-use Rattle.std.proofs.Common.{◌≡◌, ℕ, ◌+◌, ◌-◌, ◌<◌, ◌≤◌, ◌++◌, add-zero, suc, zero, List, [], ◌∷◌, length, map, refl, sym, ap, ◌∙◌, arith, append_assoc, inl, inr, Option, Some, None, drop, get_or, option_map, option_to_list, slice_get, take}
+use Rattle.std.proofs.Common.{◌≡◌, ℕ, ◌+◌, ◌-◌, ◌<◌, ◌≤◌, ◌++◌, add-zero, suc, zero, List, [], ◌∷◌, length, map, refl, sym, ap, ◌∙◌, arith, append_assoc, inl, inr, Option, Some, None, option_map, option_to_list, slice_get, take}
 use Rattle.std.proofs.Math.Seq.{drop-append_seam}
 use Rattle.std.proofs.lemmas.List.{length-append, length-map, length-take-le, take_more}
 use Rattle.std.proofs.lemmas.Option.{none-some, same_Some, slice_get_cases}
