@@ -14,9 +14,9 @@ mod StampsStayRecent
 mod OneTurn
 mod ReadersTakeAll
 mod ReadersStayUpToDate
-mod ProgramsReadAll
 -- Turns that begin by reading all
 mod TurnsBegin
+mod ProgramsReadAll
 mod WakeUps
 mod BeginsWoken
 mod Latency
