@@ -1,5 +1,5 @@
 -- Which op of a turn writes which part.
-use Rattle.std.proofs.Common.{◌≡◌, ℕ, ◌+◌, ◌-◌, ◌<◌, ◌≤◌, ◌++◌, add-zero, suc, zero, List, [], ◌∷◌, length, map, refl, sym, ap, ◌∙◌, arith, append_assoc, inl, inr, Option, Some, None, drop, get_or, option_map, option_to_list, slice_get, take}
+use Rattle.std.proofs.Common.{◌≡◌, ℕ, ◌+◌, ◌-◌, ◌<◌, ◌≤◌, ◌++◌, add-zero, suc, zero, List, [], ◌∷◌, length, map, refl, sym, ap, ◌∙◌, arith, append_assoc, inl, inr, Option, Some, None, option_map, option_to_list, slice_get, take}
 use Rattle.std.proofs.Math.Seq.{drop-append_seam}
 use Rattle.std.proofs.lemmas.List.{length-append, length-map, length-take-le, take_more}
 use Rattle.std.proofs.lemmas.Option.{none-some, same_Some, slice_get_cases}
@@ -11,7 +11,7 @@ use Rattle.msg_function.specs.Functions.{Answer, read_op, write_op, written_op, 
 use Rattle.msg_function.proofs.Steps.{written_ops-push}
 
 -- behind a list
-slice_get-behind : {X : Type 0} (xs ys : List X) (k : ℕ) → slice_get (xs ++ ys) (length xs + k) ≡ slice_get ys k
+pub slice_get-behind : {X : Type 0} (xs ys : List X) (k : ℕ) → slice_get (xs ++ ys) (length xs + k) ≡ slice_get ys k
 slice_get-behind xs ys k = sym (slice_get-drop (length xs) (xs ++ ys) k) ∙ ap (λ zs. slice_get zs k) (drop-append_seam xs ys)
 
 module _ {V : Type 0} where
