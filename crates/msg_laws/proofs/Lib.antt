@@ -2,6 +2,8 @@
 mod OrderOfTurns
 mod ObserversOrder
 mod Observers
+-- ---- what is refused
+mod Refusals
 -- ---- what runs tell of readers
 mod StepsAnswered
 mod LogsTell
