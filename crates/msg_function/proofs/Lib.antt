@@ -12,3 +12,5 @@ pub mod FunctionTurns
 pub mod Putting
 -- What a function is given
 pub mod GivenWorld
+-- What an answer leaves of a world
+pub mod WrittenWorld

@@ -11,7 +11,7 @@ use Rattle.msg_function.specs.Functions.{Answer, read_op, write_op, written_op, 
 use Rattle.msg_function.proofs.Steps.{written_ops-push}
 
 -- behind a list
-slice_get-behind : {X : Type 0} (xs ys : List X) (k : ℕ) → slice_get (xs ++ ys) (length xs + k) ≡ slice_get ys k
+pub slice_get-behind : {X : Type 0} (xs ys : List X) (k : ℕ) → slice_get (xs ++ ys) (length xs + k) ≡ slice_get ys k
 slice_get-behind xs ys k = sym (slice_get-drop (length xs) (xs ++ ys) k) ∙ ap (λ zs. slice_get zs k) (drop-append_seam xs ys)
 
 module _ {V : Type 0} where

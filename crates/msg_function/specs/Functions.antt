@@ -2,11 +2,11 @@
 use Rattle.std.specs.Prelude.{All, ◌≡◌, ◌≢◌, false, true, ℕ, suc, ◌<◌, ◌==◌, ◌-◌, ◌++◌, Bool, not, ◌&&◌, List, [], ◌∷◌, Option, Some, None, drop, fold, length, map, nat_lt, option_map, option_to_list, replicate, slice_get, slice_index_or, take, if◌then◌else◌}
 use Rattle.std.specs.List.{list_any, range_with_len}
 use Rattle.std.specs.Option.{option_map_or}
-use Rattle.msg_buffer.specs.Prelude.{message_of, missed, unread}
+use Rattle.msg_buffer.specs.Prelude.{has_room, message_of, missed, unread, write}
 use Rattle.msg_world.specs.declared.part.Part.{Part}
 use Rattle.msg_world.specs.declared.part.Part.TheVariants.{OfType, OfResource}
 use Rattle.msg_world.specs.declared.record.Record.{Record}
-use Rattle.msg_world.specs.Prelude.{Values, WorldState, same_part}
+use Rattle.msg_world.specs.Prelude.{Values, WorldState, by, content, same_part}
 use Rattle.msg_system.specs.declared.reply.Reply.{Reply}
 use Rattle.msg_system.specs.declared.reply.Reply.TheVariants as reply
 use Rattle.msg_system.specs.declared.op.Op.{Op}
@@ -244,3 +244,34 @@ pub record IsGivenTheWorld {V : Type 0} {values : Values V} (reads : List Port) 
       → given.missed k ≡ missed (s.histories t) (m.places t)
   pub value : (k r : ℕ) → slice_get reads k ≡ Some (Resource r)
       → given.value k ≡ Some (s.resources r)
+
+-- ---- what comes of its answer
+
+-- port k is this one, and no other of the ports is
+abbrev pub IsOnlyAt : List Port → ℕ → Port → Type 0
+IsOnlyAt ports k port =
+    (slice_get ports k ≡ Some port) × ((j : ℕ) → slice_get ports j ≡ Some port → j ≡ k)
+
+-- What an answer comes to: the world before it was written and after that, and the replies to it.
+pub record IsWritten {V : Type 0} {values : Values V} (writes : List Port) (answer : Answer V)
+    (writer : ℕ) (before after : WorldState values) (replies : List (Reply V)) : Type 0 where
+  -- a resource has the last of its values
+  pub value : (k r : ℕ) (earlier : List V) (last : V) → IsOnlyAt writes k (Resource r)
+      → answer k ≡ earlier ++ last ∷ [] → after.resources r ≡ last
+  -- a type has all of its messages too, in order at the end; or none, if too few numbers are left
+  pub messages : (k t : ℕ) → IsOnlyAt writes k (Messages t)
+      → after.histories t ≡ write (map (by writer) (answer k)) (before.histories t)
+  -- then it is told that they were refused, if there are some
+  pub refused : (k t : ℕ) → IsOnlyAt writes k (Messages t) → 0 < length (answer k)
+      → was_refused writes answer replies k
+      ≡ not (has_room (before.histories t) (length (answer k)))
+  -- a part to which nothing was answered stays as it was
+  pub others : (p : Part) → ((k : ℕ) (port : Port) → slice_get writes k ≡ Some port
+      → part_of port ≡ p → answer k ≡ []) → content p after ≡ content p before
+
+-- What a turn answers is in the world that it leaves.
+abbrev pub AnswerIsWritten : {V M : Type 0} {values : Values V} → FunctionOf V M → List Port
+    → List Port → Kept M → Meaning V → WorldState values → Type 0
+AnswerIsWritten answers reads writes kept m s =
+    IsWritten writes (made_on answers reads writes kept m s).1 m.writer s (turn m s).world
+    (drop (length reads) (turn m s).replies)

@@ -2,7 +2,7 @@
 ghost use Rattle.std.specs.Prelude.{◌+◌, ◌≤◌, ℕ, Bool, List, length, map};
 ghost use Rattle.msg_world.specs.Prelude.{WorldState};
 ghost use Rattle.msg_system.specs.{Prelude.BeginsTurnsWith, Prelude.Meaning, Prelude.after_program, declared.limits.TheConstants.MAX_OPS, declared.op.Op.Op, declared.start.Start.Start};
-ghost use Rattle.msg_function.specs.{declared.port.Port.Port, Functions.IsGivenTheWorld, Functions.Kept, Functions.TurnIsWhole, Functions.given_by, Functions.of_function, Functions.read_op};
+ghost use Rattle.msg_function.specs.{declared.port.Port.Port, Functions.AnswerIsWritten, Functions.IsGivenTheWorld, Functions.Kept, Functions.TurnIsWhole, Functions.given_by, Functions.of_function, Functions.read_op};
 
 use crate::Function;
 use msg_world::Value;
@@ -43,4 +43,21 @@ pub fn a_function_is_given_its_world<V: Value>()
         (s : WorldState V.values)
         → IsGivenTheWorld reads m s
         (given_by refused (after_program (map read_op reads) m.writer m.places s).replies) }
+{}
+
+/// What a function answers is in the world after its turn: of a resource the last of its values, and
+/// of a type all its messages, in order, behind those that were there. If too few numbers of the
+/// type are left, none of them is, and the function is told so. All else is as it was. If two ports
+/// are one part, this says nothing of what is answered to them.
+#[tactic(auto, using(crate::proofs::WrittenWorld::answer_written))]
+pub fn a_functions_answer_is_written<
+    T: Function<READS, WRITES>,
+    const READS: usize,
+    const WRITES: usize,
+>()
+    ensures law { (reads writes : List Port) (kept : Kept T) (start : Start) (writer : ℕ)
+        (places : ℕ → ℕ) (last : List (Op T.Value)) (s : WorldState T.Value.values)
+        → length reads + length writes ≤ MAX_OPS
+        → AnswerIsWritten T.answers reads writes kept
+        (of_function T.answers reads writes kept start writer places last) s }
 {}

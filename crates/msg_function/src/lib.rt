@@ -20,7 +20,10 @@ pub use either::Either;
 pub use function::Function;
 pub use function_system::FunctionSystem;
 pub use inbox::Inbox;
-pub use laws::{a_function_is_given_its_world, a_function_reads_first, a_functions_turn_is_whole};
+pub use laws::{
+    a_function_is_given_its_world, a_function_reads_first, a_functions_answer_is_written,
+    a_functions_turn_is_whole,
+};
 pub use msg_system::NoMemory;
 pub use never_cut::NeverCut;
 pub use outbox::Outbox;

@@ -2,6 +2,8 @@
 mod OrderOfTurns
 mod ObserversOrder
 mod Observers
+-- ---- what is refused
+mod Refusals
 -- ---- what runs tell of readers
 mod StepsAnswered
 mod LogsTell
@@ -14,9 +16,9 @@ mod StampsStayRecent
 mod OneTurn
 mod ReadersTakeAll
 mod ReadersStayUpToDate
-mod ProgramsReadAll
 -- Turns that begin by reading all
 mod TurnsBegin
+mod ProgramsReadAll
 mod WakeUps
 mod BeginsWoken
 mod Latency

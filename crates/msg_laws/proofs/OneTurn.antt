@@ -1,18 +1,24 @@
--- One turn in a frame: what it finds, and what the turns of others leave of it.
-use Rattle.std.proofs.Common.{All, AllPairs, Contains, List, ap, arith, refl, ℕ, ◌++◌, ◌<◌, ◌∙◌, ◌∷◌, ◌≡◌, ◌≢◌, ◌≤◌}
+-- One turn in a frame: who has it, what it finds, and what the turns of others leave of it.
+use Rattle.std.proofs.Common.{All, AllPairs, Contains, IsTrue, List, ap, arith, refl, ℕ, ◌++◌, ◌<◌, ◌∙◌, ◌∷◌, ◌≡◌, ◌≢◌, ◌≤◌}
 use Rattle.std.proofs.lemmas.{Bool.Decides.eqb_tells, List.Elements.All-contains}
 use Rattle.msg_buffer.specs.Prelude.{GoesOn, count}
+use Rattle.msg_order.specs.Prelude.{has_joined}
 use Rattle.msg_system.specs.Prelude.{after_job}
 use Rattle.msg_world.specs.Prelude.{Values}
 use Rattle.msg_frames.proofs.BatchesSideBySide.{turns_then_more}
 use Rattle.msg_frames.proofs.BeforeTurns.{Prepares, prepares}
 use Rattle.msg_frames.proofs.ElementsAndPairs.{all_middle, pairs_head, pairs_middle, pairs_right}
+use Rattle.msg_frames.proofs.Functions.{order_is}
 use Rattle.msg_frames.proofs.HistoriesGrow.{Grows, goes_further, grown, turns_change}
 use Rattle.msg_frames.proofs.ReaderOverTurns.{Reads, turns_own, turns_read, turns_skip}
 use Rattle.msg_frames.proofs.StatesStaySound.{has_one_turn, prepared_sound}
-use Rattle.msg_frames.specs.{Frames.turn_order, Prelude.AfterTurns, Prelude.IsSoundState, Prelude.State, Prelude.after_turn_of, Prelude.after_turns_of, Prelude.before_turns, Prelude.frame, Prelude.logged_turn, Prelude.reader_place, declared.frame.Frame.Frame, declared.log.Turn.Turn}
+use Rattle.msg_frames.specs.{Frames.turn_order, Prelude.AfterTurns, Prelude.IsSoundState, Prelude.NoCycle, Prelude.State, Prelude.after_turn_of, Prelude.after_turns_of, Prelude.before_turns, Prelude.frame, Prelude.join_flags, Prelude.logged_turn, Prelude.reader_place, declared.frame.Frame.Frame, declared.log.Turn.Turn}
 
 module _ {V : Type 0} {values : Values V} where
+  -- each that has joined has a turn
+  pub has_turn : (b : State values) (i : ℕ) → NoCycle b → IsTrue (has_joined (join_flags b) i) → Contains (turn_order b) i
+  has_turn b i free has = ((order_is b free).of_joined i).1 has
+
   -- what a reader goes past in turns of a frame
   pub frame_reads : (posts : List (ℕ × V)) (s : State values) → IsSoundState s
       → (order : List ℕ) (i t : ℕ) → t < s.types →

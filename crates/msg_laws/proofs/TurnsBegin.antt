@@ -2,7 +2,7 @@
 use Rattle.std.proofs.Common.{All, Bool, IsTrue, List, None, Option, Some, [], arith, inl, inr, length, refl, slice_get, subst, suc, sym, zero, ℕ, ◌<◌, ◌∙◌, ◌∷◌, ◌≡◌, ◌≢◌, ◌≤◌, ◌⊎◌}
 use Rattle.msg_order.specs.Prelude.{has_joined}
 use Rattle.msg_frames.proofs.ElementsAndPairs.{Cut, cut}
-use Rattle.std.proofs.lemmas.{Bool.cases_Bool, Bool.cases_eq, Bool.cases_lt, Bool.false≢true, Bool.Decides.eqb_tells, List.length-append, List.Elements.All-cons, List.Elements.All-nil, List.Folds.list_any-append}
+use Rattle.std.proofs.lemmas.{Bool.cases_Bool, Bool.cases_eq, Bool.cases_lt, Bool.false≢true, List.length-append, List.Elements.All-cons, List.Elements.All-nil}
 use Rattle.std.proofs.lemmas.Option.{get_or_from_slice_get, slice_get_cases, slice_get_within}
 use Rattle.std.specs.List.{list_any}
 use Rattle.msg_world.specs.Prelude.{Values, WorldState}
@@ -10,9 +10,9 @@ use Rattle.msg_system.specs.{Prelude.AfterProgram, Prelude.BeginsTurnsWith, Prel
 use Rattle.msg_system.proofs.Turns.{next_of_ops}
 use Rattle.msg_frames.proofs.BeforeTurns.{Prepares, comes, prepares, stood, waits}
 use Rattle.msg_frames.proofs.{ReaderOverTurns.one_member, SystemsStay.no_cycle_stays}
-use Rattle.msg_frames.specs.{Frames.turn_order, Prelude.State, Prelude.after_turn_of, Prelude.after_turns_of, Prelude.before_turns, Prelude.frame, Prelude.join_flags, Prelude.logged_turn, declared.frame.Frame.Frame, declared.log.Outcome.TheVariants.Skipped, declared.log.Turn.Turn}
-use Rattle.msg_laws.proofs.{OneTurn.in_log, ProgramsReadAll.has_turn, ProgramsReadAll.turns_ran}
-use Rattle.msg_laws.specs.Prelude.{ReadsAllWhenWoken, WhoBeginsReadingAll, WhoBeginsReadingAllWhenWoken, reads_all}
+use Rattle.msg_frames.specs.{Frames.turn_order, Prelude.State, Prelude.after_turn_of, Prelude.after_turns_of, Prelude.before_turns, Prelude.counts, Prelude.frame, Prelude.job_begun, Prelude.join_flags, Prelude.logged_turn, declared.frame.Frame.Frame, declared.log.Outcome.TheVariants.Skipped, declared.log.Turn.Turn}
+use Rattle.msg_laws.proofs.OneTurn.{has_turn, in_log}
+use Rattle.msg_laws.specs.Prelude.{WhoBeginsReadingAll, WhoBeginsReadingAllWhenWoken, reads_all}
 
 -- ---- one turn
 
@@ -75,17 +75,64 @@ module _ {V : Type 0} {values : Values V} (ops : List (Op V)) (m : Meaning V) (b
       asked_first test ops _ (next_op m)
       (omega (arith, long, length-append far.replies (cut_after (m.rule []) far.replies))) (asks ops m begins) some
 
+-- ---- what turns keep of a job
+
+-- What a job keeps in its turns a member's job has after turns; and after a frame, if it has it as it begins.
+module _ {V : Type 0} {values : Values V} (P : Job V → Type 0) (i : ℕ)
+    (kept : (j : Job V) (w : WorldState values) → P j → P (after_job j w).job) where
+  turn_keeps : (j : ℕ) (s : State values) → P (s.members i).job → P ((after_turn_of j s).members i).job
+  turn_keeps j s had = one_member (λ m. P m.job) j i s (λ e. kept (s.members i).job s.world had) (λ ne. had)
+
+  turns_keep : (order : List ℕ) (s : State values) → P (s.members i).job → P ((after_turns_of order s).state.members i).job
+  turns_keep [] s had = had
+  turns_keep (j ∷ js) s had = turns_keep js (after_turn_of j s) (turn_keeps j s had)
+
+  module _ (begun : (counted : List ℕ) (j : Job V) → P j → P (job_begun counted j)) (f : Frame V) (s : State values)
+      (had : P (s.members i).job) where
+    begins_so : P ((before_turns f.posts s).members i).job
+    begins_so = elim ((prepares f.posts s).arrival i) [
+      | stood was now same ↦ rw same had
+      | comes was now new ↦ rw new (begun (counts s) (s.members i).job had)
+      | waits was now same ↦ rw same had
+    ]
+
+    pub frame_keeps : P ((frame f s).state.members i).job
+    frame_keeps = turns_keep (turn_order (before_turns f.posts s)) (before_turns f.posts s) begins_so
+
 -- ---- turns of a frame
 
 module _ {V : Type 0} where
   abbrev Begins : List (Op V) → Job V → Type 0
   Begins ops j = BeginsTurnsWith ops j.system
 
+  abbrev HasNoConditions : Job V → Type 0
+  HasNoConditions j = j.conditions ≡ []
+
   abbrev SkippedIf : ℕ → Turn V → Type 0
   SkippedIf i turn = turn.system ≡ i → turn.outcome ≡ Skipped
 
+  abbrev RanIf : ℕ → Turn V → Type 0
+  RanIf i turn = turn.system ≡ i → turn.outcome ≢ Skipped
+
   abbrev HasAsked : (Op V → Bool) → Job V → Type 0
   HasAsked test j = IsTrue (list_any test j.system.last)
+
+  joins_none : (counted : List ℕ) (j : Job V) → HasNoConditions j → HasNoConditions (job_begun counted j)
+  joins_none counted j none = grind (arith, none)
+
+  joins_so : (ops : List (Op V)) (counted : List ℕ) (j : Job V) → Begins ops j → Begins ops (job_begun counted j)
+  joins_so ops counted j begins = record { few = begins.few; kept = begins.kept; each = begins.each }
+
+module _ {V : Type 0} {values : Values V} where
+  keeps_none : (j : Job V) (w : WorldState values) → HasNoConditions j → HasNoConditions (after_job j w).job
+  keeps_none j w none = grind (arith, cases_Bool, none)
+
+  -- who has no conditions isn't skipped
+  turns_ran : (i : ℕ) (order : List ℕ) (s : State values) → HasNoConditions (s.members i).job → All (RanIf i) (after_turns_of order s).turns
+  turns_ran i [] s none = All-nil (RanIf i)
+  turns_ran i (j ∷ js) s none =
+      let next = turn_keeps HasNoConditions i keeps_none j s none in
+      grind (arith, All-cons, none, turns_ran i js (after_turn_of j s) next)
 
 module _ {V : Type 0} {values : Values V} (ops : List (Op V)) (test : Op V → Bool) (some : IsTrue (list_any test ops)) where
   job_begins : (j : Job V) (w : WorldState values) → Begins ops j → Begins ops (after_job j w).job
@@ -101,41 +148,30 @@ module _ {V : Type 0} {values : Values V} (ops : List (Op V)) (test : Op V → B
   job_asks : (j : Job V) (w : WorldState values) → Begins ops j → IsTrue (all_hold j.conditions w) → HasAsked test (after_job j w).job
   job_asks j w begins ran = rw ran (turn_reads ops j.system begins w test some)
 
-  job_keeps : (j : Job V) (w : WorldState values) → Begins ops j → HasAsked test j → HasAsked test (after_job j w).job
-  job_keeps j w begins had = elim (cases_Bool (all_hold j.conditions w)) [
-    | inl ran ↦ job_asks j w begins ran
-    | inr skipped ↦ rw skipped had
-  ]
+  job_keeps : (j : Job V) (w : WorldState values) → Begins ops j × HasAsked test j → Begins ops (after_job j w).job × HasAsked test (after_job j w).job
+  job_keeps j w had = (
+    job_begins j w had.0,
+    elim (cases_Bool (all_hold j.conditions w)) [
+      | inl ran ↦ job_asks j w had.0 ran
+      | inr skipped ↦ rw skipped had.1
+    ],
+  )
 
   module _ (i : ℕ) where
-    turn_begins : (j : ℕ) (s : State values) → Begins ops (s.members i).job → Begins ops ((after_turn_of j s).members i).job
-    turn_begins j s begins =
-        one_member (λ m. Begins ops m.job) j i s (λ e. job_begins (s.members i).job s.world begins) (λ ne. begins)
-
-    turns_begin : (order : List ℕ) (s : State values) → Begins ops (s.members i).job → Begins ops ((after_turns_of order s).state.members i).job
-    turns_begin [] s begins = begins
-    turns_begin (j ∷ js) s begins = turns_begin js (after_turn_of j s) (turn_begins j s begins)
-
-    turns_keep_asked : (order : List ℕ) (s : State values) → Begins ops (s.members i).job → HasAsked test (s.members i).job
-        → HasAsked test ((after_turns_of order s).state.members i).job
-    turns_keep_asked [] s begins had = had
-    turns_keep_asked (j ∷ js) s begins had =
-        turns_keep_asked js (after_turn_of j s) (turn_begins j s begins)
-        (one_member (λ m. HasAsked test m.job) j i s (λ e. job_keeps (s.members i).job s.world begins had) (λ ne. had))
-
     -- it was skipped in all of these turns, or it has asked
     skipped_or_asked : (order : List ℕ) (s : State values) → Begins ops (s.members i).job
-        → All (λ turn. turn.system ≡ i → turn.outcome ≡ Skipped) (after_turns_of order s).turns
-        ⊎ HasAsked test ((after_turns_of order s).state.members i).job
-    skipped_or_asked [] s begins = inl (All-nil (λ turn. turn.system ≡ i → turn.outcome ≡ Skipped))
+        → All (SkippedIf i) (after_turns_of order s).turns ⊎ HasAsked test ((after_turns_of order s).state.members i).job
+    skipped_or_asked [] s begins = inl (All-nil (SkippedIf i))
     skipped_or_asked (j ∷ js) s begins =
         let next : State values = after_turn_of j s in
-        let rest = skipped_or_asked js next (turn_begins j s begins) in
+        let begins_next = turn_keeps (Begins ops) i job_begins j s begins in
+        let rest = skipped_or_asked js next begins_next in
         elim (cases_eq j i) [
           | inl e ↦ elim (cases_Bool (all_hold (s.members i).job.conditions s.world)) [
             | inl ran ↦
-                inr (turns_keep_asked js next (turn_begins j s begins)
-                (one_member (λ m. HasAsked test m.job) j i s (λ same. job_asks (s.members i).job s.world begins ran) (λ ne. absurd (ne (sym e)))))
+                let asked : HasAsked test (next.members i).job =
+                one_member (λ m. HasAsked test m.job) j i s (λ same. job_asks (s.members i).job s.world begins ran) (λ ne. absurd (ne (sym e))) in
+                inr (turns_keep (λ job. Begins ops job × HasAsked test job) i job_keeps js next (begins_next, asked)).1
             | inr skipped ↦ elim rest [
               | inl all ↦ inl (All-cons (SkippedIf i) (logged_turn s j) (after_turns_of js next).turns (λ same. grind (arith, e, skipped, cases_Bool)) all)
               | inr asked ↦ inr asked
@@ -147,23 +183,14 @@ module _ {V : Type 0} {values : Values V} (ops : List (Op V)) (test : Op V → B
           ]
         ]
 
-    begun_so : (f : Frame V) (s : State values) → Begins ops (s.members i).job → Begins ops ((before_turns f.posts s).members i).job
-    begun_so f s begins = elim ((prepares f.posts s).arrival i) [
-      | stood was now same ↦ rw same begins
-      | comes was now new ↦ rw new (record { few = begins.few; kept = begins.kept; each = begins.each })
-      | waits was now same ↦ rw same begins
-    ]
-
     frame_begins : (f : Frame V) (s : State values) → Begins ops (s.members i).job → Begins ops ((frame f s).state.members i).job
-    frame_begins f s begins =
-        let b : State values = before_turns f.posts s in
-        turns_begin (turn_order b) b (begun_so f s begins)
+    frame_begins f s begins = frame_keeps (Begins ops) i job_begins (joins_so ops) f s begins
 
     frame_asks : (f : Frame V) (s : State values) → Begins ops (s.members i).job
-        → All (λ turn. turn.system ≡ i → turn.outcome ≡ Skipped) (frame f s).log.turns ⊎ HasAsked test ((frame f s).state.members i).job
+        → All (SkippedIf i) (frame f s).log.turns ⊎ HasAsked test ((frame f s).state.members i).job
     frame_asks f s begins =
         let b : State values = before_turns f.posts s in
-        skipped_or_asked (turn_order b) b (begun_so f s begins)
+        skipped_or_asked (turn_order b) b (begins_so (Begins ops) i job_begins (joins_so ops) f s begins)
 
 -- ---- laws
 
@@ -183,20 +210,18 @@ module _ {V : Type 0} {values : Values V} where
       let b : State values = before_turns f.posts s in
       let prep : Prepares s b = prepares f.posts s in
       let begun : IsTrue (has_joined (join_flags b) i) = grind (arith, false≢true, prep.arrival i) in
-      let ran = turns_ran i (turn_order b) b (grind (arith, none, prep.arrival i)) in
+      let ran = turns_ran i (turn_order b) b (begins_so HasNoConditions i keeps_none joins_none f s none) in
       let at = has_turn b i (no_cycle_stays s b prep.same free) begun in
       let parts : Cut (turn_order b) i = cut _ _ at in
       let in_turn = in_log f s i parts.before parts.rest parts.is in (
         record {
           has_turn = at;
-          ran = ran.0;
+          ran = ran;
           read_all = elim (frame_asks ops (reads_all t) reads i f s begins) [
-            | inl all ↦
-                absurd (in_turn (λ turn. turn.system ≡ i → turn.outcome ≢ Skipped) ran.0 refl
-                (in_turn (λ turn. turn.system ≡ i → turn.outcome ≡ Skipped) all refl))
+            | inl all ↦ absurd (in_turn (RanIf i) ran refl (in_turn (SkippedIf i) all refl))
             | inr asked ↦ asked
           ];
         },
         frame_begins ops (reads_all t) reads i f s begins,
-        ran.1,
+        frame_keeps HasNoConditions i keeps_none joins_none f s none,
       )

@@ -9,7 +9,7 @@ use Rattle.msg_system.specs.{Prelude.Asked, Prelude.Job, Prelude.after_job, Prel
 use Rattle.msg_frames.proofs.{BeforeTurns.prepares, ElementsAndPairs.Cut, ElementsAndPairs.cut, HistoriesGrow.counts_more, SystemsStay.no_cycle_stays}
 use Rattle.msg_frames.specs.{Frames.turn_order, declared.frame.Frame.Frame, declared.log.Outcome.TheVariants.Skipped}
 use Rattle.msg_frames.specs.Prelude.{IsSoundState, State, after_turns_of, before_turns, frame, join_flags, outcome_of, reader_place, run}
-use Rattle.msg_laws.proofs.{ProgramsReadAll.has_turn, ReadersTakeAll.job_takes}
+use Rattle.msg_laws.proofs.{OneTurn.has_turn, ReadersTakeAll.job_takes}
 use Rattle.msg_laws.proofs.OneTurn.{goes_from_turn, goes_to_turn, in_log, job_left, member_found, within_turn}
 use Rattle.msg_laws.proofs.ReadersStayUpToDate.{Between, all_there, between, joined_by_turn, misses_none, past_frame}
 use Rattle.msg_laws.specs.Prelude.{IsSkipped, IsUpToDate, IsWokenBy, NoWakeUpIsLost, NothingDrained, NothingUnread, ReadsAllIfWoken, WhoIsWokenStaysSo, WhoSleepsHasNothingUnread}

@@ -2,13 +2,13 @@
 -- function in src/turn_laws.rt.
 use Rattle.msg_frames.specs.declared.frame.Frame.{Frame}
 use Rattle.msg_frames.specs.Frames.{settled_order, turn_order}
-use Rattle.msg_frames.specs.Prelude.{AfterTurns, AreAccessesOf, NoCycle, SameSystems, State, UsesParts, after_turn_of, after_turns_of, all_home, are_in_conflict, join_flags, logged_turn, run}
-use Rattle.msg_buffer.specs.Prelude.{GoesOn, History, IsSound, message_of, oldest, present, unread}
-use Rattle.msg_system.specs.{Prelude.AfterOp, Prelude.after_op, declared.op.Op.TheVariants.Drain, declared.reply.Reply.TheVariants.Drained}
+use Rattle.msg_frames.specs.Prelude.{AfterTurns, AreAccessesOf, NoCycle, SameSystems, State, UsesParts, after_turn_of, after_turns_of, all_home, are_in_conflict, join_flags, logged_turn, refused_in_run, run}
+use Rattle.msg_buffer.specs.Prelude.{GoesOn, History, IsSound, count, message_of, oldest, present, unread}
+use Rattle.msg_system.specs.{Prelude.AfterOp, Prelude.after_op, Prelude.refused_by, declared.op.Op.TheVariants.Drain, declared.reply.Reply.TheVariants.Drained}
 use Rattle.msg_order.specs.{Order.AreBatches, Order.TellsConflicts, Order.access_of, Prelude.IsAcyclic, Prelude.IsLawfulOrder, Prelude.IsTurnOrder, Prelude.NoneConflict, Prelude.Path, Settled.batches, Settled.has_joined, Settled.settled}
 use Rattle.msg_world.specs.{Prelude.Conflict, Prelude.Values, Prelude.WorldState, declared.access.Access.Access, declared.record.Record.Record}
 use Rattle.std.specs.List.{concat}
-use Rattle.std.specs.Prelude.{All, AllPairs, Bool, IsPermutation, IsTrue, List, [], map, ℕ, ◌++◌, ◌<◌, ◌∷◌, ◌≡◌, ◌≢◌, ◌⊎◌}
+use Rattle.std.specs.Prelude.{All, AllPairs, Bool, IfSome, IsPermutation, IsTrue, List, [], map, ℕ, ◌+◌, ◌++◌, ◌<◌, ◌∷◌, ◌≡◌, ◌≢◌, ◌⊎◌}
 
 -- Turns keep the systems, and make no frame.
 abbrev pub TurnsKeepSystems : {V : Type 0} → Values V → Type 0
@@ -112,3 +112,21 @@ RunsCompose {V} values = (frames later : List (Frame V)) (s : State values)
       logs = (run frames s).logs ++ (run later (run frames s).state).logs;
       steps = (run frames s).steps ++ (run later (run frames s).state).steps;
     }
+
+module _ {V : Type 0} {values : Values V} where
+  -- so many messages more of type t are past its limit
+  abbrev pub IsPastLimit : WorldState values → ℕ → ℕ → Type 0
+  IsPastLimit w t n = (w.histories t).limit < count (w.histories t) + n
+
+-- What an op or a post of a run was refused is past the limit as the run ends too, since counts only
+-- grow.
+abbrev pub OpsAreRefusedPastLimits : {V : Type 0} → Values V → Type 0
+OpsAreRefusedPastLimits {V} values = (frames : List (Frame V)) (s : State values)
+    → All (λ x. IfSome (refused_by x.1.op x.1.reply)
+    (λ r. IsPastLimit (run frames s).state.world r.of_type r.n)) (run frames s).steps
+
+-- So is all that a system was refused of a type in a run, if that is something.
+abbrev pub SystemsAreRefusedPastLimits : {V : Type 0} → Values V → Type 0
+SystemsAreRefusedPastLimits {V} values = (frames : List (Frame V)) (s : State values) (i t : ℕ)
+    → 0 < refused_in_run i t frames s
+    → IsPastLimit (run frames s).state.world t (refused_in_run i t frames s)

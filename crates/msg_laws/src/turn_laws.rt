@@ -1,7 +1,7 @@
 //! Laws of turns and frames. Calling one makes its fact available to the caller's proof; it does
 //! nothing at run time.
 ghost use Rattle.msg_frames.specs.Prelude.{FramesKeepSystems};
-ghost use Rattle.msg_laws.specs.Prelude.{DrainsTakeAll, FramesRunByBatches, LawfulOrdersAgree, ListsOnlyGrow, ObserversDisturbNobody, ObserversMayBeAdded, OrderIsSettled, RunsCompose, SameSystemsHaveSameAccesses, TurnsAreInOrder, TurnsKeepSystems, TurnsOfOthersCommute};
+ghost use Rattle.msg_laws.specs.Prelude.{DrainsTakeAll, FramesRunByBatches, LawfulOrdersAgree, ListsOnlyGrow, ObserversDisturbNobody, ObserversMayBeAdded, OpsAreRefusedPastLimits, OrderIsSettled, RunsCompose, SameSystemsHaveSameAccesses, SystemsAreRefusedPastLimits, TurnsAreInOrder, TurnsKeepSystems, TurnsOfOthersCommute};
 
 use msg_buffer::laws::histories_only_grow;
 use msg_world::{Record, Value};
@@ -62,6 +62,17 @@ pub fn lists_only_grow<V: Value>()
 {
     histories_only_grow::<Record<V>>();
 }
+
+/// While the numbers of a type last, no write to it is refused. What an op or a post of a run was
+/// refused, whatever system's op it was, would be past the type's limit as the run ends too; and so
+/// would all that a system was refused, as its account tells it. So a type with the limit `u64::MAX`,
+/// as `World::unlimited` makes them, refuses a message only if as many are written by the end of that
+/// frame, and a batch only if fewer are left then than it has.
+#[tactic(auto, using(crate::proofs::Refusals::run_past, crate::proofs::Refusals::system_past))]
+pub fn no_write_is_refused_while_numbers_last<V: Value>()
+    ensures ops { OpsAreRefusedPastLimits V.values }
+    ensures systems { SystemsAreRefusedPastLimits V.values }
+{}
 
 /// Calls in a row are one run: frames, and then more of them from the state that these leave.
 #[tactic(auto, using(msg_frames::proofs::Functions::run_append))]
