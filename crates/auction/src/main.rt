@@ -7,15 +7,13 @@ mod part;
 
 use event::Event::{self, *};
 use house::House;
-use msg_game::{Condition, FunctionSystem, Game, ResNo, Workers, systems};
+use msg_game::{Condition, FunctionSystem, Game, ResNo, Workers, resources, systems, types};
 use part::Part::{self, *};
 
 /// Adds all parts of the house, and gives what opens its lots.
 fn add_all(game: &mut Game<FunctionSystem<Part, 3, 3>, Event>) -> anyhow::Result<House> {
-    let [opened, bids, calls, sales, passes, records] = game.add_types([
-        "opened", "bids", "calls", "sales", "passes", "records",
-    ])?;
-    let [till, lots] = game.add_resources(["till", "lots"], [Till(0), Lots(5)])?;
+    types! { game; opened, bids, calls, sales, passes, records }
+    resources! { game; till: Till(0), lots: Lots(5) }
     let open = Condition::resource_equals(lots, Lots(0)).not();
     let sold = Condition::on_message(sales);
     systems! { game;

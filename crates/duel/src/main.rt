@@ -12,7 +12,7 @@ mod role;
 
 use audience::Audience;
 use msg_exec::engine_laws::loops_agree;
-use msg_game::{Condition, EngineOf, Game, Host, ResNo, Rule, SystemOf, Workers};
+use msg_game::{Condition, EngineOf, Game, Host, ResNo, Rule, SystemOf, Workers, resources, types};
 use msg_system::BehaviorSystem;
 use role::{Fighter, Role};
 use std::thread::Threads;
@@ -24,12 +24,12 @@ const HEALTH: i64 = 3;
 /// and whom a rule puts before each of them. It gives the resource that counts the fallen.
 fn add_all(ring: &mut Game<BehaviorSystem<Role>, i64>) -> anyhow::Result<ResNo> {
     let alloc = ring.alloc();
-    let [ann, ben, cis, falls] = ring.add_types(["to ann", "to ben", "to cis", "falls"])?;
-    let [fallen] = ring.add_resources(["fallen"], [0])?;
+    types! { ring; to_ann, to_ben, to_cis, falls }
+    resources! { ring; fallen: 0 }
     let fighters = [
-        ("ann", ann, ben, 1),
-        ("ben", ben, cis, 1),
-        ("cis", cis, ann, 3),
+        ("ann", to_ann, to_ben, 1),
+        ("ben", to_ben, to_cis, 1),
+        ("cis", to_cis, to_ann, 3),
     ];
     for (name, blows, rival, join) in fighters {
         let fighter = Role::Fighter(Fighter {

@@ -1,11 +1,10 @@
 // A game that is put together.
-ghost use Rattle.std.specs.Prelude.{◌≡◌, ℕ, ◌+◌, ◌<◌, ◌≤◌, ◌++◌, [], ◌∷◌, IfOk, OnOk, length, map, replicate, slice_index};
+ghost use Rattle.std.specs.Prelude.{◌≡◌, ◌+◌, ◌++◌, [], ◌∷◌, IfOk, OnOk, length, map, replicate};
 ghost use Rattle.msg_world.specs.Prelude.{new_world};
 ghost use Rattle.msg_frames.specs.Prelude.{first_state};
 ghost use Rattle.msg_exec.specs.Prelude.{HasRunSince, IsEngine, numbered_from};
 
 use crate::GameNames;
-use crate::numbers::{resource_numbers, type_numbers};
 use msg_exec::{EngineBuilder, EngineOf};
 use msg_order::Rule;
 use msg_system::{Condition, Numbered, SystemOf};
@@ -17,8 +16,8 @@ use std::marker::Model;
 ///
 /// ```
 /// let mut game = Game::new(alloc);
-/// let [shots, walks] = game.add_types(["shots", "walks"])?;
-/// let [lives] = game.add_resources(["lives"], [Event::Lives(5)])?;
+/// types! { game; shots, walks }
+/// resources! { game; lives: Event::Lives(5) }
 /// systems! { game;
 ///     creep: Part::Creep(6), [shots] -> [walks];
 ///     tower: Part::Tower(3), [walks] -> [shots];
@@ -74,52 +73,40 @@ impl<V: Value, S: Numbered + SystemOf<Value = V>> Game<S, V> {
         self.alloc
     }
 
-    /// Adds types of messages, whose numbers never run out.
+    /// Adds a type of messages, whose numbers never run out. `types!` adds many.
     ///
     /// # Errors
     ///
-    /// If there were more than `MAX_TYPES` types then, and for want of memory.
-    pub fn add_types<const N: usize>(
-        &mut self,
-        names: [&'static str; N],
-    ) -> anyhow::Result<[TypeNo; N]>
+    /// If there are `MAX_TYPES` types, and for want of memory.
+    pub fn add_type(&mut self, name: &'static str) -> anyhow::Result<TypeNo>
         ensures added { OnOk result
-            (self.new ≡ record self.old { types = self.old.types + N }) }
-        ensures numbers { IfOk result (λ types. (k : ℕ) → k < N
-            → slice_index types k ≡ self.old.types + k) }
+            (self.new ≡ record self.old { types = self.old.types + 1 }) }
+        ensures number { IfOk result (λ number. number ≡ self.old.types) }
     {
-        let before = self.names.types.len();
-        anyhow::ensure!(
-            N <= MAX_TYPES && before <= MAX_TYPES - N,
-            "a game has at most {MAX_TYPES} types"
-        );
-        self.names.types.extend_from_slice(&names)?;
-        Ok(type_numbers(before))
+        let number = self.names.types.len();
+        anyhow::ensure!(number < MAX_TYPES, "a game has at most {MAX_TYPES} types");
+        self.names.types.push(name)?;
+        Ok(TypeNo::of(number as u32))
     }
 
-    /// Adds resources with their first values.
+    /// Adds a resource with its first value. `resources!` adds many.
     ///
     /// # Errors
     ///
-    /// If there were more than `MAX_RESOURCES` resources then, and for want of memory.
-    pub fn add_resources<const N: usize>(
-        &mut self,
-        names: [&'static str; N],
-        values: [V; N],
-    ) -> anyhow::Result<[ResNo; N]>
+    /// If there are `MAX_RESOURCES` resources, and for want of memory.
+    pub fn add_resource(&mut self, name: &'static str, value: V) -> anyhow::Result<ResNo>
         ensures added { OnOk result
-            (self.new ≡ record self.old { values = self.old.values ++ values.entry }) }
-        ensures numbers { IfOk result (λ resources. (k : ℕ) → k < N
-            → slice_index resources k ≡ length self.old.values + k) }
+            (self.new ≡ record self.old { values = self.old.values ++ value ∷ [] }) }
+        ensures number { IfOk result (λ number. number ≡ length self.old.values) }
     {
-        let before = self.values.len();
+        let number = self.values.len();
         anyhow::ensure!(
-            N <= MAX_RESOURCES && before <= MAX_RESOURCES - N,
+            number < MAX_RESOURCES,
             "a game has at most {MAX_RESOURCES} resources"
         );
-        self.names.resources.extend_from_slice(&names)?;
-        self.values.extend_from_slice(&values)?;
-        Ok(resource_numbers(before))
+        self.names.resources.push(name)?;
+        self.values.push(value)?;
+        Ok(ResNo::of(number as u32))
     }
 
     /// Adds a system that takes its turns from the frame `join` on, if all its conditions hold, and

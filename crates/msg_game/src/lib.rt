@@ -5,7 +5,6 @@
 
 mod game;
 mod game_names;
-mod numbers;
 mod ports;
 
 pub use game::Game;
@@ -18,6 +17,31 @@ pub use msg_system::{Condition, Start, SystemOf, added_up};
 pub use msg_world::{Record, ResNo, TypeNo, Value, World};
 pub use ports::in_order;
 pub use std::alloc::Global;
+
+/// Adds types of messages to a `Game`. Behind it each name is a variable with the type's number.
+///
+/// ```
+/// types! { game; shots, walks, breaks }
+/// ```
+#[macro_export]
+macro_rules! types {
+    ($game:ident; $($name:ident),+ $(,)?) => {
+        $(let $name = $game.add_type(stringify!($name))?;)+
+    };
+}
+
+/// Adds resources to a `Game`, each with its first value. Behind it each name is a variable with the
+/// resource's number.
+///
+/// ```
+/// resources! { game; lives: Event::Lives(5) }
+/// ```
+#[macro_export]
+macro_rules! resources {
+    ($game:ident; $($name:ident: $value:expr),+ $(,)?) => {
+        $(let $name = $game.add_resource(stringify!($name), $value)?;)+
+    };
+}
 
 /// Adds functions to a `Game`, a line for each: a name, what it is, what it reads and writes, and
 /// then its condition and the frame with which it joins, if it has one. Behind it each name is a

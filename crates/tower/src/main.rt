@@ -44,7 +44,9 @@ fn add_lane(
     names: [&'static str; 4],
     amount: u32,
 ) -> anyhow::Result<()> {
-    let [walks, shots, breaks] = game.add_types(types)?;
+    let [walks, shots, breaks] = types;
+    let (walks, shots) = (game.add_type(walks)?, game.add_type(shots)?);
+    let breaks = game.add_type(breaks)?;
     let alive = Condition::resource_equals(lives, Event::Lives(0)).not();
     systems! { game;
         early as (names[0]): Creep(0, 6, 5), [SHOTS = shots] -> [WALKS = walks, BREAKS = breaks] if alive;
@@ -102,7 +104,7 @@ fn quiet_frames(alloc: Global, n: u32) -> anyhow::Result<Vec<Frame<Event>>> {
 fn main(rt: HostRuntime) -> anyhow::Result<()> {
     let (rt, alloc, workers) = (&rt, rt.alloc(), Workers::new(4).unwrap());
     let mut game = Game::new(alloc);
-    let [lives] = game.add_resources(["lives"], [Event::Lives(5)])?;
+    resources! { game; lives: Event::Lives(5) }
     for n in 0..3u32 {
         let (types, names) = LANES[n as usize];
         add_lane(&mut game, lives, types, names, n + 1)?;
