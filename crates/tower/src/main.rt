@@ -20,39 +20,35 @@ use part::Part::{self, Creep, Gate, Tower};
 use part::{BREAKS, BROKEN, LEFT, LIVES, SHOT, SHOTS, WALKED, WALKS};
 use std::thread::Threads;
 
-/// What is printed of the types and parts of the lanes.
-const LANES: [([&str; 3], [&str; 4]); 3] = [
-    (
-        ["walks 0", "shots 0", "breaks 0"],
-        ["early 0", "late 0", "tower 0", "gate 0"],
-    ),
-    (
-        ["walks 1", "shots 1", "breaks 1"],
-        ["early 1", "late 1", "tower 1", "gate 1"],
-    ),
-    (
-        ["walks 2", "shots 2", "breaks 2"],
-        ["early 2", "late 2", "tower 2", "gate 2"],
-    ),
+/// What the types and parts of each lane are called.
+const LANES: [[&str; 7]; 3] = [
+    [
+        "walks 0", "shots 0", "breaks 0", "early 0", "late 0", "tower 0", "gate 0",
+    ],
+    [
+        "walks 1", "shots 1", "breaks 1", "early 1", "late 1", "tower 1", "gate 1",
+    ],
+    [
+        "walks 2", "shots 2", "breaks 2", "early 2", "late 2", "tower 2", "gate 2",
+    ],
 ];
 
 /// Adds a lane to the keep, in which an early and a late creep walk, and a tower and a gate stand.
 fn add_lane(
     game: &mut Game<FunctionSystem<Part, 2, 2>, Event>,
     lives: ResNo,
-    types: [&'static str; 3],
-    names: [&'static str; 4],
+    names: [&'static str; 7],
     amount: u32,
 ) -> anyhow::Result<()> {
-    let [walks, shots, breaks] = types;
+    let [walks, shots, breaks, early, late, tower, gate] = names;
     let (walks, shots) = (game.add_type(walks)?, game.add_type(shots)?);
     let breaks = game.add_type(breaks)?;
     let alive = Condition::resource_equals(lives, Event::Lives(0)).not();
     systems! { game;
-        early as (names[0]): Creep(0, 6, 5), [SHOTS = shots] -> [WALKS = walks, BREAKS = breaks] if alive;
-        late as (names[1]): Creep(1, 6, 5), [SHOTS = shots] -> [WALKS = walks, BREAKS = breaks] if alive, join 3;
-        tower as (names[2]): Tower(3, amount), [WALKED = walks] -> [SHOT = shots];
-        gate as (names[3]): Gate, [BROKEN = breaks, LIVES = lives] -> [LEFT = lives];
+        early as early: Creep(0, 6, 5), [SHOTS = shots] -> [WALKS = walks, BREAKS = breaks] if alive;
+        late as late: Creep(1, 6, 5), [SHOTS = shots] -> [WALKS = walks, BREAKS = breaks] if alive, join 3;
+        tower as tower: Tower(3, amount), [WALKED = walks] -> [SHOT = shots];
+        gate as gate: Gate, [BROKEN = breaks, LIVES = lives] -> [LEFT = lives];
     }
     Ok(())
 }
@@ -104,10 +100,9 @@ fn quiet_frames(alloc: Global, n: u32) -> anyhow::Result<Vec<Frame<Event>>> {
 fn main(rt: HostRuntime) -> anyhow::Result<()> {
     let (rt, alloc, workers) = (&rt, rt.alloc(), Workers::new(4).unwrap());
     let mut game = Game::new(alloc);
-    resources! { game; lives: Event::Lives(5) }
+    let lives = game.add_resource("lives", Event::Lives(5))?;
     for n in 0..3u32 {
-        let (types, names) = LANES[n as usize];
-        add_lane(&mut game, lives, types, names, n + 1)?;
+        add_lane(&mut game, lives, LANES[n as usize], n + 1)?;
     }
     let (mut engine, names) = game.build()?;
     let (frames, mut logs) = (quiet_frames(alloc, 10)?, Vec::new(alloc));
