@@ -1,59 +1,33 @@
 // What writers were refused, for callers.
-ghost use Rattle.std.specs.Prelude.{◌≡◌, ◌<◌, ◌++◌, OnOk, IfOk, length};
-ghost use Rattle.msg_frames.specs.Prelude.{State, writer_accounts_of, writer_accounts_of_system};
-ghost use Rattle.msg_exec.specs.Prelude.{CoreStands};
+ghost use Rattle.std.specs.Prelude.{◌≡◌, IfOk};
+ghost use Rattle.msg_frames.specs.Prelude.{State, writer_accounts_of};
 
+use crate::accounts::{AccountIn, accounts_in};
 use crate::engine_core::Core;
-use crate::{EngineOf, NoMemory, RunFault, WriterAccount};
+use crate::{EngineOf, NoMemory, RunFault, Totals, WriterAccount};
 use msg_system::SystemOf;
-use msg_world::{TypeNo, Value};
-use std::alloc::Global;
+use msg_world::{Access, TypeNo, Value};
 
-/// Appends the accounts of system i.
-fn add_writer_accounts<V: Value, S: SystemOf<Value = V>>(
-    core: &Core<S, V>,
-    i: usize,
-    accounts: &mut Vec<WriterAccount>,
-) -> Result<(), NoMemory>
-    requires there { i < length core.now.lender.systems.items }
-    ensures added { OnOk result ((s : State V.values) → CoreStands S.meaning core.now s
-        → accounts.new.items ≡ accounts.old.items ++ writer_accounts_of_system s i) }
-{
-    let (Some(guarded), Some(totals)) = (&core.lender.systems[i], core.lender.totals.get(i)) else {
-        return Ok(());
-    };
-    let Ok(system) = u32::try_from(i) else {
-        return Ok(());
-    };
-    let access = guarded.system.access();
-    for t in 0..core.lender.world.types() {
-        let (Some(of_type), Some(of_it)) = (TypeNo::new(t as u32), totals.get(t)) else {
-            return Ok(());
-        };
-        if access.writes_type(of_type) {
-            accounts.push(WriterAccount {
-                system,
-                of_type,
-                refused: of_it.refused,
-            })?;
-        }
-    }
-    Ok(())
-}
+impl<V: Value> AccountIn<V> for WriterAccount {
+    ghost use Rattle.msg_frames.specs.Prelude.{is_writer, writer_account_of};
 
-/// The accounts of all systems.
-fn writer_accounts_in<V: Value, S: SystemOf<Value = V>>(
-    alloc: Global,
-    core: &Core<S, V>,
-) -> Result<Vec<WriterAccount>, NoMemory>
-    ensures accounts { IfOk result (λ v. (s : State V.values) → CoreStands S.meaning core.now s
-        → v.items ≡ writer_accounts_of s) }
-{
-    let mut accounts = Vec::new(alloc);
-    for i in 0..core.lender.systems.len() {
-        add_writer_accounts(core, i, &mut accounts)?;
+    ghost is_there = { λ values s i t. is_writer s i t };
+
+    ghost told = { λ values s i t. writer_account_of s i t };
+
+    fn of<S: SystemOf<Value = V>>(
+        _core: &Core<S, V>,
+        system: u32,
+        of_type: TypeNo,
+        access: &Access,
+        totals: &Totals,
+    ) -> Option<WriterAccount> {
+        access.writes_type(of_type).then_some(WriterAccount {
+            system,
+            of_type,
+            refused: totals.refused,
+        })
     }
-    Ok(accounts)
 }
 
 impl<V: Value, S: SystemOf<Value = V>> EngineOf<S, V> {
@@ -86,7 +60,7 @@ impl<V: Value, S: SystemOf<Value = V>> EngineOf<S, V> {
         let Some(core) = &self.core else {
             return Err(RunFault::Spoiled);
         };
-        match writer_accounts_in(self.alloc, core) {
+        match accounts_in(self.alloc, core) {
             Ok(accounts) => Ok(accounts),
             Err(NoMemory) => Err(RunFault::NoMemory),
         }

@@ -1,3 +1,6 @@
+ghost use Rattle.std.specs.Prelude.{codes};
+ghost use Rattle.msg_names.specs.Naming.{IsNamed};
+
 use crate::{NamedAccount, NamedLog, NamedWriterAccount};
 use msg_frames::{Account, Backlog, Log, WriterAccount};
 use msg_world::{HOST, ResNo, TypeNo};
@@ -31,7 +34,9 @@ pub enum Name<'a> {
 }
 
 impl<'a> Name<'a> {
-    fn of(kind: &'static str, names: &'a [&'static str], number: u32) -> Name<'a> {
+    fn of(kind: &'static str, names: &'a [&'static str], number: u32) -> Name<'a>
+        ensures named { IsNamed kind.now names.now number result }
+    {
         match names.get(number as usize) {
             Some(name) => Name::Given(name),
             None => Name::Numbered(kind, number),
@@ -72,7 +77,9 @@ impl<'a> Names<'a> {
     }
 
     /// What a system is called.
-    pub fn system(self, number: u32) -> Name<'a> {
+    pub fn system(self, number: u32) -> Name<'a>
+        ensures named { IsNamed (codes "system") self.entry.systems.now number result }
+    {
         Name::of("system", self.systems, number)
     }
 
@@ -86,12 +93,16 @@ impl<'a> Names<'a> {
     }
 
     /// What a type is called.
-    pub fn of_type(self, t: TypeNo) -> Name<'a> {
+    pub fn of_type(self, t: TypeNo) -> Name<'a>
+        ensures named { IsNamed (codes "type") self.entry.types.now t result }
+    {
         Name::of("type", self.types, t.number())
     }
 
     /// What a resource is called.
-    pub fn resource(self, r: ResNo) -> Name<'a> {
+    pub fn resource(self, r: ResNo) -> Name<'a>
+        ensures named { IsNamed (codes "resource") self.entry.resources.now r result }
+    {
         Name::of("resource", self.resources, r.number())
     }
 }

@@ -3,11 +3,11 @@ use Rattle.std.proofs.lemmas.Bool.{false≢true}
 use Rattle.msg_buffer.specs.Prelude.{count}
 use Rattle.msg_world.specs.{declared.part.Part.TheVariants.OfType}
 use Rattle.msg_exec.proofs.AccountsTell.{adds_up}
-use Rattle.msg_exec.proofs.accounts.account.Goals as goal
+use Rattle.msg_exec.proofs.accounts.AccountAccountIn.of.Goals as goal
 
 pub returns : goal.returns
 returns g c = record {
-  account = λ s stands lt is.
+  told = λ s stands lt needs is.
       let t = c.args.of_type in
       let lender = stands.lender in
       let within = stands.sound.places c.args.system t lt in
@@ -16,5 +16,6 @@ returns g c = record {
       let few : count (s.world.histories t) < 2 ^ 64 =
       grind (arith, c.count_is_known.ensures.known, false≢true, home, lender.world (OfType t)) in
       let sum = adds_up s c.args.system t lt stands.sound in
+      let reads = needs.reads (OfType t) in
       grind arith;
 }
