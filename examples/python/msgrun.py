@@ -49,11 +49,7 @@ class Engine:
                 file.write_text(json.dumps(scenario), encoding="utf-8")
             words = [program, "serve", file, "--workers", str(workers)]
             self.process = subprocess.Popen(words, stdin=PIPE, stdout=PIPE, stderr=PIPE, text=True)
-            try:
-                self.readers()
-            except Ended as ended:
-                checked = subprocess.run([program, "check", file], capture_output=True, text=True)
-                raise Ended(ended.status, checked.stderr or str(ended)) from None
+            self.readers()
             self.scenario = json.loads(file.read_text(encoding="utf-8"))
         self.frames = list(self.scenario["frames"])
 

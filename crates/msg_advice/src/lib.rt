@@ -29,7 +29,7 @@ pub use explanation::{KnownNames, fault_lines, why};
 pub use not_json::not_json_line;
 pub use planned::{Planned, plan_arrangement, plan_frame};
 pub use put::{Form, put_engine_plan, put_plan};
-pub use refused::value_lines;
+pub use refused::{refused_lines, value_lines};
 pub use remarks::remarks_of;
 pub use repeated::repeated_line;
 pub use unfit::unfit_lines;

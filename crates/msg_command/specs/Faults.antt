@@ -41,7 +41,7 @@ line_of (Report (report.Run run.NoMemory)) = codes "msgrun: run fault 3 NoMemory
 line_of (Report report.Write) = codes "msgrun: write fault\n"
 line_of (Report report.NoMemory) = codes "msgrun: want of memory\n"
 
--- what is printed of a fault: its line, and below it the lines that tell of a checked file
+-- what is printed of a fault: its line, and below it the lines that tell of a refused file
 abbrev pub lines_of : MainFault → List ℕ
 lines_of (CheckFailed why lines) = refusal_line why ++ lines.items
 lines_of fault = line_of fault

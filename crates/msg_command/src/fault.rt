@@ -18,7 +18,7 @@ pub enum MainFault {
     /// The file was refused.
     #[error("refused {0}")]
     Refused(#[from] Refusal),
-    /// The file that was to be checked was refused, and these lines tell where and why.
+    /// The file was refused, and these lines tell where and why.
     #[error("refused {0}")]
     CheckFailed(Refusal, Vec<u8>),
     /// Memory was refused while an engine was made of a scenario, or for lines that are read ahead.

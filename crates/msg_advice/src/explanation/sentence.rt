@@ -103,6 +103,9 @@ fn add_hint(
         Reason::UnknownKey => {
             let keys = keys_of(fault.location, there).iter();
             let known: Vec<&'static str> = keys.map(|key| key.text()).collect(alloc)?;
+            if known.as_slice().contains(&word) {
+                return text.push_str("; it is a key of another kind of file");
+            }
             nearest(word, &known)
         }
         Reason::Kind => nearest(word, &["script", "relay", "tally"]),

@@ -8,7 +8,7 @@ use crate::{InputFault, WordFault};
 use msg_json::{PutFault, Refusal, ReportFault, Sink, put_all};
 use msg_world::RunFault;
 
-/// Puts the fault's line into the sink, and the lines that tell of a checked file below it, and
+/// Puts the fault's line into the sink, and the lines that tell of a refused file below it, and
 /// gives the status that the program ends with. Help has no line. A failure of the sink changes
 /// nothing of the status. It takes no memory.
 pub fn print_fault<S: Sink>(fault: &MainFault, sink: &mut S) -> u8
