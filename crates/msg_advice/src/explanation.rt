@@ -4,8 +4,8 @@ use msg_world::NoMemory;
 use serde_json::{Map, Value};
 use std::alloc::Global;
 
-mod list;
-mod nearest;
+pub(crate) mod list;
+pub(crate) mod nearest;
 mod sentence;
 
 pub use nearest::KnownNames;
@@ -81,7 +81,7 @@ fn add_there(
 }
 
 /// Adds a value in short: as JSON, if that is short.
-fn add_shown(alloc: Global, text: &mut String, value: &Value) -> Result<(), NoMemory> {
+pub(crate) fn add_shown(alloc: Global, text: &mut String, value: &Value) -> Result<(), NoMemory> {
     if let Some(items) = value.as_array() {
         return write!(text, "a list of {}", items.len());
     }

@@ -1,0 +1,168 @@
+// What is told of words that are no command line. No clause says anything of these texts.
+use crate::explanation::add_shown;
+use crate::explanation::list::add_question;
+use crate::explanation::nearest::nearest;
+use msg_world::NoMemory;
+use serde_json::Value;
+use std::alloc::Global;
+
+/// An option, and the greatest number that it may have, from 1 on; 0 if it has no value.
+type Opt = (&'static str, u32);
+
+/// The commands of one FILE, with their options.
+const COMMANDS: &[(&str, &[Opt])] = &[
+    ("buffer", &[("--explain", 0)]),
+    (
+        "run",
+        &[
+            ("--workers", 64),
+            ("--json", 0),
+            ("--losses", 0),
+            ("--explain", 0),
+        ],
+    ),
+    ("serve", &[("--workers", 64)]),
+    ("check", &[]),
+    ("plan", &[("--frame", 10_000), ("--dot", 0)]),
+];
+
+/// A line on the word by which words are no command line: what is wanted there, or the nearest that
+/// is known. It is empty if no such word is found.
+pub fn words_line(alloc: Global, words: &[String]) -> Result<Vec<u8>, NoMemory> {
+    let mut text = String::new(alloc);
+    if let [first, rest @ ..] = words {
+        let is_help = first.as_str() == "help";
+        let word = match rest {
+            [second, ..] if is_help => second.as_str(),
+            _ => first.as_str(),
+        };
+        match COMMANDS.iter().find(|(name, _)| *name == word) {
+            None => add_no_command(alloc, &mut text, word)?,
+            Some(_) if is_help => {}
+            Some((name, options)) => add_wrong(alloc, &mut text, name, options, rest)?,
+        }
+    }
+    if !text.as_str().is_empty() {
+        text.push_str("\n")?;
+    }
+    Ok(text.into_bytes())
+}
+
+fn add_no_command(alloc: Global, text: &mut String, word: &str) -> Result<(), NoMemory> {
+    let mut known: Vec<&str> = COMMANDS.iter().map(|(name, _)| *name).collect(alloc)?;
+    for other in ["help", "--help", "--version"] {
+        known.push(other)?;
+    }
+    add_word(alloc, text, word)?;
+    text.push_str(" is no command")?;
+    add_known(text, word, &known)
+}
+
+/// Adds which of the words after a command can't stand there, and what is wanted.
+fn add_wrong(
+    alloc: Global,
+    text: &mut String,
+    command: &str,
+    options: &[Opt],
+    words: &[String],
+) -> Result<(), NoMemory> {
+    let (mut open, mut has_file, mut has_ended) = (None, false, false);
+    for (k, word) in words.iter().enumerate() {
+        let word = word.as_str();
+        if let Some(option) = open {
+            if !is_number(option, word) {
+                return add_number(alloc, text, option, word);
+            }
+            open = None;
+        } else if has_ended || word == "-" || !word.starts_with('-') {
+            if has_file {
+                add_word(alloc, text, word)?;
+                return write!(text, " is a second FILE, and {command} has one");
+            }
+            has_file = true;
+        } else if word == "--" {
+            has_ended = true;
+        } else {
+            let (name, value) = parts_of(word);
+            let Some(option) = options.iter().find(|(known, _)| *known == name) else {
+                return add_no_option(alloc, text, command, options, name);
+            };
+            if words[..k]
+                .iter()
+                .any(|word| parts_of(word.as_str()).0 == name)
+            {
+                return write!(text, "{name} stands twice");
+            }
+            match value {
+                Some(value) if option.1 == 0 || !is_number(*option, value) => {
+                    return add_number(alloc, text, *option, value);
+                }
+                None if option.1 > 0 => open = Some(*option),
+                _ => {}
+            }
+        }
+    }
+    match open {
+        Some((name, most)) => write!(text, "{name} wants a whole number from 1 to {most}"),
+        None if !has_file => write!(text, "{command} wants a FILE"),
+        None => Ok(()),
+    }
+}
+
+/// Adds that an option has no value, or which numbers it may have.
+fn add_number(alloc: Global, text: &mut String, option: Opt, value: &str) -> Result<(), NoMemory> {
+    let (name, most) = option;
+    if most == 0 {
+        write!(text, "{name} wants no value, not ")?;
+    } else {
+        write!(text, "{name} wants a whole number from 1 to {most}, not ")?;
+    }
+    add_word(alloc, text, value)
+}
+
+fn add_no_option(
+    alloc: Global,
+    text: &mut String,
+    command: &str,
+    options: &[Opt],
+    word: &str,
+) -> Result<(), NoMemory> {
+    let mut known: Vec<&str> = options.iter().map(|(name, _)| *name).collect(alloc)?;
+    known.push("--help")?;
+    add_word(alloc, text, word)?;
+    write!(text, " is no option of {command}")?;
+    add_known(text, word, &known)
+}
+
+/// Adds the nearest of the known words, or if none is near all of them.
+fn add_known(text: &mut String, word: &str, known: &[&str]) -> Result<(), NoMemory> {
+    let near = nearest(word, known);
+    if near.is_some() {
+        return add_question(text, near);
+    }
+    let mut before = "; known are ";
+    for name in known {
+        write!(text, "{before}{name}")?;
+        before = ", ";
+    }
+    Ok(())
+}
+
+/// Adds a word as JSON shows it.
+fn add_word(alloc: Global, text: &mut String, word: &str) -> Result<(), NoMemory> {
+    let shown = Value::try_from_str(alloc, word)?;
+    add_shown(alloc, text, &shown)
+}
+
+/// The name of an option, and the value that stands in the same word.
+fn parts_of(word: &str) -> (&str, Option<&str>) {
+    match word.split_once("=") {
+        Some((name, value)) => (name, Some(value)),
+        None => (word, None),
+    }
+}
+
+fn is_number(option: Opt, text: &str) -> bool {
+    text.parse::<u32>()
+        .is_ok_and(|number| 1 <= number && number <= option.1)
+}
