@@ -15,8 +15,8 @@ class Refused(Exception):
 
 
 class Ended(RuntimeError):
-    """The program ended by itself, with this `status`. The text is what it told: if the scenario is refused, which status
-    2 says, the lines of `msgrun check`."""
+    """The program ended by itself, with this `status`. The text is what it told: if the scenario is refused, with status
+    2, the lines of `msgrun check`."""
 
     def __init__(self, status, told):
         super().__init__(told.strip() or f"msgrun ended with status {status}")
@@ -31,14 +31,14 @@ class Frame(dict):
         return next((turn.get("replies", []) for turn in self["turns"] if turn["system"] == system), [])
 
     def read(self, system, of_type):
-        """The messages of a type that a system was given, numbers and things; none if it was skipped or hasn't joined."""
+        """The messages of a type that a system was given, numbers and things; none if it was skipped."""
         items = [reply.get("items", []) for reply in self.replies(system) if reply.get("type") == of_type]
         return [item[2] if len(item) > 2 else item[0] for some in items for item in some]
 
 
 class Engine:
-    """The engine of a scenario: a file, or a dict of what a file has. `with Engine(program, scenario) as engine:` ends it,
-    and keeps its `status` and its readers."""
+    """The engine of a scenario: a file, or a dict of what a file has. `with Engine(program, scenario) as engine:` ends
+    it, and keeps its `status` and its readers."""
 
     def __init__(self, program, scenario, workers=1):
         self.status, self.end = None, None
@@ -71,8 +71,8 @@ class Engine:
         self.posts.append((of_type, thing))
 
     def frame(self, posts=()):
-        """Runs a frame with what was posted and these posts, each a type and a number or any other thing, and returns what
-        came of it. In place of a thing its number among all posts is posted, and who reads that is given the thing too."""
+        """Runs a frame with what was posted and these posts, each a type and a number or any other thing, and returns
+        what came of it. In place of a thing its number among all posts is posted, and who reads it gets the thing too."""
         posts, self.posts = [*self.posts, *posts], []
         line = [[of_type, thing if is_number(thing) else self.posted + k] for k, (of_type, thing) in enumerate(posts)]
         frame = Frame(self.ask(line))
