@@ -5,7 +5,7 @@ use serde_json::{Map, Value};
 use std::alloc::Global;
 
 pub(crate) mod list;
-pub(crate) mod nearest;
+mod nearest;
 mod sentence;
 
 pub use nearest::KnownNames;

@@ -1,7 +1,6 @@
 // What is told of words that are no command line. No clause says anything of these texts.
 use crate::explanation::add_shown;
-use crate::explanation::list::add_question;
-use crate::explanation::nearest::nearest;
+use crate::explanation::list::add_known;
 use msg_world::NoMemory;
 use serde_json::Value;
 use std::alloc::Global;
@@ -132,20 +131,6 @@ fn add_no_option(
     add_word(alloc, text, word)?;
     write!(text, " is no option of {command}")?;
     add_known(text, word, &known)
-}
-
-/// Adds the nearest of the known words, or if none is near all of them.
-fn add_known(text: &mut String, word: &str, known: &[&str]) -> Result<(), NoMemory> {
-    let near = nearest(word, known);
-    if near.is_some() {
-        return add_question(text, near);
-    }
-    let mut before = "; known are ";
-    for name in known {
-        write!(text, "{before}{name}")?;
-        before = ", ";
-    }
-    Ok(())
 }
 
 /// Adds a word as JSON shows it.

@@ -1,5 +1,5 @@
 // Why a value is refused, as a sentence.
-use crate::explanation::list::{add_question, add_wanted, contents};
+use crate::explanation::list::{add_known, add_question, add_wanted, contents};
 use crate::explanation::nearest::{KnownNames, nearest};
 use crate::explanation::{key_at, value_at};
 use msg_json::{
@@ -106,7 +106,7 @@ fn add_hint(
             if known.as_slice().contains(&word) {
                 return text.push_str("; it is a key of another kind of file");
             }
-            nearest(word, &known)
+            return add_known(text, word, &known);
         }
         Reason::Kind => nearest(word, &["script", "relay", "tally"]),
         Reason::Start => nearest(word, &["zero", "current"]),
