@@ -8,8 +8,10 @@ use std::alloc::Global;
 /// An option, and the greatest number that it may have, from 1 on; 0 if it has no value.
 type Opt = (&'static str, u32);
 
-/// The commands of one FILE, with their options.
-const COMMANDS: &[(&str, &[Opt])] = &[
+/// A command of one FILE, with its options.
+type Command = (&'static str, &'static [Opt]);
+
+const COMMANDS: &[Command] = &[
     ("buffer", &[("--explain", 0)]),
     (
         "run",
@@ -38,7 +40,7 @@ pub fn words_line(alloc: Global, words: &[String]) -> Result<Vec<u8>, NoMemory> 
         match COMMANDS.iter().find(|(name, _)| *name == word) {
             None => add_no_command(alloc, &mut text, word)?,
             Some(_) if is_help => {}
-            Some((name, options)) => add_wrong(alloc, &mut text, name, options, rest)?,
+            Some(command) => add_wrong(alloc, &mut text, *command, rest)?,
         }
     }
     if !text.as_str().is_empty() {
@@ -61,58 +63,78 @@ fn add_no_command(alloc: Global, text: &mut String, word: &str) -> Result<(), No
 fn add_wrong(
     alloc: Global,
     text: &mut String,
-    command: &str,
-    options: &[Opt],
+    command: Command,
     words: &[String],
 ) -> Result<(), NoMemory> {
     let (mut open, mut has_file, mut has_ended) = (None, false, false);
     for (k, word) in words.iter().enumerate() {
         let word = word.as_str();
         if let Some(option) = open {
-            if !is_number(option, word) {
-                return add_number(alloc, text, option, word);
-            }
+            add_unless_number(alloc, text, option, word)?;
             open = None;
         } else if has_ended || word == "-" || !word.starts_with('-') {
             if has_file {
                 add_word(alloc, text, word)?;
-                return write!(text, " is a second FILE, and {command} has one");
+                write!(text, " is a second FILE, and {} has one", command.0)?;
             }
             has_file = true;
         } else if word == "--" {
             has_ended = true;
         } else {
-            let (name, value) = parts_of(word);
-            let Some(option) = options.iter().find(|(known, _)| *known == name) else {
-                return add_no_option(alloc, text, command, options, name);
-            };
-            if words[..k]
-                .iter()
-                .any(|word| parts_of(word.as_str()).0 == name)
-            {
-                return write!(text, "{name} stands twice");
-            }
-            match value {
-                Some(value) if option.1 == 0 || !is_number(*option, value) => {
-                    return add_number(alloc, text, *option, value);
-                }
-                None if option.1 > 0 => open = Some(*option),
-                _ => {}
-            }
+            open = add_option(alloc, text, command, word, &words[..k])?;
+        }
+        if !text.as_str().is_empty() {
+            return Ok(());
         }
     }
     match open {
         Some((name, most)) => write!(text, "{name} wants a whole number from 1 to {most}"),
-        None if !has_file => write!(text, "{command} wants a FILE"),
+        None if !has_file => write!(text, "{} wants a FILE", command.0),
         None => Ok(()),
     }
 }
 
-/// Adds that an option has no value, or which numbers it may have.
-fn add_number(alloc: Global, text: &mut String, option: Opt, value: &str) -> Result<(), NoMemory> {
+/// Adds what is wrong with an option after these words, if anything is; else gives it, if its number
+/// comes next.
+fn add_option(
+    alloc: Global,
+    text: &mut String,
+    command: Command,
+    word: &str,
+    before: &[String],
+) -> Result<Option<Opt>, NoMemory> {
+    let (name, value) = parts_of(word);
+    let Some(option) = command.1.iter().find(|(known, _)| *known == name) else {
+        add_no_option(alloc, text, command, name)?;
+        return Ok(None);
+    };
+    if before.iter().any(|word| parts_of(word.as_str()).0 == name) {
+        write!(text, "{name} stands twice")?;
+        return Ok(None);
+    }
+    match value {
+        Some(value) => add_unless_number(alloc, text, *option, value)?,
+        None if option.1 > 0 => return Ok(Some(*option)),
+        None => {}
+    }
+    Ok(None)
+}
+
+/// Adds what an option wants in place of this value, unless that is such a number.
+fn add_unless_number(
+    alloc: Global,
+    text: &mut String,
+    option: Opt,
+    value: &str,
+) -> Result<(), NoMemory> {
     let (name, most) = option;
     if most == 0 {
         write!(text, "{name} wants no value, not ")?;
+    } else if value
+        .parse::<u32>()
+        .is_ok_and(|number| 1 <= number && number <= most)
+    {
+        return Ok(());
     } else {
         write!(text, "{name} wants a whole number from 1 to {most}, not ")?;
     }
@@ -122,14 +144,13 @@ fn add_number(alloc: Global, text: &mut String, option: Opt, value: &str) -> Res
 fn add_no_option(
     alloc: Global,
     text: &mut String,
-    command: &str,
-    options: &[Opt],
+    command: Command,
     word: &str,
 ) -> Result<(), NoMemory> {
-    let mut known: Vec<&str> = options.iter().map(|(name, _)| *name).collect(alloc)?;
+    let mut known: Vec<&str> = command.1.iter().map(|(name, _)| *name).collect(alloc)?;
     known.push("--help")?;
     add_word(alloc, text, word)?;
-    write!(text, " is no option of {command}")?;
+    write!(text, " is no option of {}", command.0)?;
     add_known(text, word, &known)
 }
 
@@ -145,9 +166,4 @@ fn parts_of(word: &str) -> (&str, Option<&str>) {
         Some((name, value)) => (name, Some(value)),
         None => (word, None),
     }
-}
-
-fn is_number(option: Opt, text: &str) -> bool {
-    text.parse::<u32>()
-        .is_ok_and(|number| 1 <= number && number <= option.1)
 }
