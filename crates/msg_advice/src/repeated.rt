@@ -8,7 +8,7 @@ const LONGEST: usize = 16;
 
 /// What the next byte of a JSON text is part of.
 #[derive(Clone, Copy)]
-enum Within {
+pub(crate) enum Within {
     Value,
     Text,
     Escape,

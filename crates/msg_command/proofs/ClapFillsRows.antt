@@ -11,7 +11,7 @@ use Rattle.clap.specs.Walk.{Step, Held, Names, Outcome, Waiting, Walk, bundle_me
 use Rattle.clap.specs.Takes.{default_passes, bundle_passes, bundle_step_passes, flag_word_passes, flags_pass, is_given, level_passes, long_passes, option_passes, react_passes, settle_passes, short_passes, step_passes, turn_passes, use_passes, walk_passes, word_passes}
 use Rattle.clap.specs.declared.parser.matches.ValueSource.TheVariants.{DefaultValue, CommandLine}
 use Rattle.clap.specs.{declared.builder.ArgAction.ArgAction, declared.builder.ArgAction.TheVariants.Set, declared.builder.ArgAction.TheVariants.SetTrue}
-use Rattle.msg_command.specs.Prelude.{file_app, plan_app, run_app, serve_app}
+use Rattle.msg_command.specs.Prelude.{buffer_app, file_app, plan_app, run_app, serve_app}
 use Rattle.std.proofs.lemmas.{Bool.and_from, Bool.and_parts, Slice.Eq.bytes_eq-Decides}
 
 -- ---- rows
@@ -233,7 +233,11 @@ given s id words valued stands passes =
       | Some t ↦ λ _. (t, refl)
     ] (first_some id last (defaults_keep s.rules first kept) there)
 
--- `run` with its FILE, its flag and its number, and so `serve` and `plan`
+-- `buffer` with its FILE and its flag
+abbrev pub buffer_shape : Shape
+buffer_shape = built_leaf buffer_app.top
+
+-- `run` with its FILE, its flags and its number, and so `serve` and `plan`
 abbrev pub run_shape : Shape
 run_shape = built_leaf run_app.top
 

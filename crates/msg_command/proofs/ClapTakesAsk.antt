@@ -11,7 +11,7 @@ use Rattle.clap.specs.Takes.{entered_passes, level_passes, other_passes, turn_pa
 use Rattle.clap.proofs.OnLiterals.{clap_on_literals}
 use Rattle.msg_command.specs.Prelude.{AsksForNone, HasNoNumber, asked, msgrun_app, number_in}
 use Rattle.msg_command.specs.declared.limits.TheConstants.{LAST_FRAME, MAX_WORKERS}
-use Rattle.msg_command.proofs.ClapFillsRows.{file_shape, given, plan_shape, run_shape, serve_shape, walk_keeps}
+use Rattle.msg_command.proofs.ClapFillsRows.{buffer_shape, file_shape, given, plan_shape, run_shape, serve_shape, walk_keeps}
 
 -- ---- where a walk over words that pass stops, it isn't at `help`
 
@@ -93,7 +93,7 @@ found_asks : (words rest : List Text) (a b c p v h : Bool) → h ≡ false
     → option_map_or (λ s. level_passes s [] nothing_held rest false) (found a b c p v h) true ≡ true → Asks words
 unfolding clap_on_literals
 found_asks words rest true b c p v h isnt sub passes =
-    let file = given (file_shape (codes "buffer")) (codes "FILE") rest refl refl passes in
+    let file = given buffer_shape (codes "FILE") rest refl refl passes in
     inl (rw (sub, file.1) refl)
 found_asks words rest false true c p v h isnt sub passes =
     let file = given run_shape (codes "FILE") rest refl refl passes in

@@ -3,17 +3,20 @@ use Rattle.std.specs.Prelude.{◌≡◌, ◌⊎◌, ℕ, [], ◌<◌, ◌≤◌,
 use Rattle.std.specs.{Char.digit_value, List.list_all, Option.option_map_or, Str.bytes_eq, Str.Parse.digits_value, Str.Parse.without_leading_plus}
 use Rattle.clap.specs.{Words.IsAmong, Words.Kinds, Words.Row, Words.Text, Words.first_of, Words.subcommand_of, declared.error.ErrorKind.ErrorKind}
 use Rattle.clap.specs.declared.error.ErrorKind.TheVariants as kind
-use Rattle.msg_command.specs.{CommandLine.msgrun_app, declared.words.Action.Action, declared.words.Action.TheVariants.Buffer, declared.words.Action.TheVariants.Run, declared.words.Action.TheVariants.RunAsJson, declared.words.Action.TheVariants.RunWithLosses, declared.words.Action.TheVariants.Check, declared.words.Action.TheVariants.Plan, declared.words.Action.TheVariants.Serve, declared.words.WordFault.WordFault}
+use Rattle.msg_command.specs.{CommandLine.msgrun_app, declared.words.Action.Action, declared.words.Action.TheVariants.Buffer, declared.words.Action.TheVariants.BufferExplained, declared.words.Action.TheVariants.Run, declared.words.Action.TheVariants.RunExplained, declared.words.Action.TheVariants.RunAsJson, declared.words.Action.TheVariants.RunWithLosses, declared.words.Action.TheVariants.Check, declared.words.Action.TheVariants.Plan, declared.words.Action.TheVariants.Serve, declared.words.WordFault.WordFault}
 use Rattle.msg_command.specs.declared.limits.TheConstants.{LAST_FRAME, MAX_WORKERS}
 use Rattle.msg_command.specs.declared.words.WordFault.TheVariants as word
 
 -- a request: to answer the calls file of a name, or of standard input; to run the scenario file of
 -- a name on so many workers, and report, with what each reader lost or without, or tell it as JSON;
--- to check the file of a name; to tell the plan of a frame of the scenario file of a name, for
--- Graphviz or not; or to serve the scenario file of a name on so many workers
+-- either with a plain refusal or with one that is explained; to check the file of a name; to tell
+-- the plan of a frame of the scenario file of a name, for Graphviz or not; or to serve the scenario
+-- file of a name on so many workers
 pub data Request : Type 0 where
   buffer : Option Text → Request
+  buffer_explained : Text → Request
   run : Text → ℕ → Request
+  run_explained : Text → ℕ → Request
   run_with_losses : Text → ℕ → Request
   run_as_json : Text → ℕ → Request
   check : Text → Request
@@ -24,7 +27,9 @@ pub data Request : Type 0 where
 abbrev pub request_of : Action → Request
 request_of (Buffer None) = buffer None
 request_of (Buffer (Some file)) = buffer (Some (string_bytes file))
+request_of (BufferExplained file) = buffer_explained (string_bytes file)
 request_of (Run file workers) = run (string_bytes file) workers
+request_of (RunExplained file workers) = run_explained (string_bytes file) workers
 request_of (RunWithLosses file workers) = run_with_losses (string_bytes file) workers
 request_of (RunAsJson file workers) = run_as_json (string_bytes file) workers
 request_of (Check file) = check (string_bytes file)
@@ -56,19 +61,26 @@ if_both make (Some file) (Some number) = Some (make file number)
 if_both make (Some file) None = None
 if_both make None number = None
 
--- how a run is told: as JSON, which tells losses too; else as a report with losses or without
+-- how a run is told: as JSON, which tells losses too; else as a report with losses or without. A
+-- refusal is explained if that is asked for, and always beside JSON or losses.
 abbrev pub run_asked : List Row → Text → ℕ → Request
 run_asked rows = if is_asked (codes "json") rows then run_as_json
-    else (if is_asked (codes "losses") rows then run_with_losses else run)
+    else (if is_asked (codes "losses") rows then run_with_losses
+    else (if is_asked (codes "explain") rows then run_explained else run))
 
--- without a subcommand, standard input; with the subcommand `buffer` or `check`, its FILE; with
--- `run`, its FILE and N, and how it is told; with `plan`, its FILE, K, and whether it is for
--- Graphviz
+-- how the calls of a file are answered
+abbrev pub buffer_asked : List Row → Text → Request
+buffer_asked rows file =
+    if is_asked (codes "explain") rows then buffer_explained file else buffer (Some file)
+
+-- without a subcommand, standard input; with the subcommand `buffer`, its FILE, and how it is
+-- answered; with `check`, its FILE; with `run`, its FILE and N, and how it is told; with `plan`, its
+-- FILE, K, and whether it is for Graphviz
 abbrev pub asked_by : Option (Text × List Row) → Option Request
 asked_by None = Some (buffer None)
 asked_by (Some (name, rows)) =
     if bytes_eq name (codes "buffer")
-    then option_map (λ file. buffer (Some file)) (first_of (codes "FILE") rows)
+    then option_map (buffer_asked rows) (first_of (codes "FILE") rows)
     else (if bytes_eq name (codes "run")
     then if_both (run_asked rows) (first_of (codes "FILE") rows)
     (number_asked (codes "workers") MAX_WORKERS rows)
@@ -113,7 +125,9 @@ IsWordFaultOf kinds word.NoMemory = Unit {0}
 -- a run is on 1 to `MAX_WORKERS` workers, a plan of a frame from 1 to `LAST_FRAME`
 abbrev pub IsInRange : Action → Type 0
 IsInRange (Buffer file) = Unit {0}
+IsInRange (BufferExplained file) = Unit {0}
 IsInRange (Run file workers) = (0 < workers) × (workers ≤ MAX_WORKERS)
+IsInRange (RunExplained file workers) = (0 < workers) × (workers ≤ MAX_WORKERS)
 IsInRange (RunWithLosses file workers) = (0 < workers) × (workers ≤ MAX_WORKERS)
 IsInRange (RunAsJson file workers) = (0 < workers) × (workers ≤ MAX_WORKERS)
 IsInRange (Check file) = Unit {0}

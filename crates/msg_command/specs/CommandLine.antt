@@ -1,5 +1,6 @@
--- The command line: `msgrun`, `msgrun buffer FILE`, `msgrun run FILE --workers N --json --losses`,
--- `msgrun check FILE`, `msgrun plan FILE --frame K --dot`, or `msgrun serve FILE --workers N`.
+-- The command line: `msgrun`, `msgrun buffer FILE --explain`,
+-- `msgrun run FILE --workers N --json --losses --explain`, `msgrun check FILE`,
+-- `msgrun plan FILE --frame K --dot`, or `msgrun serve FILE --workers N`.
 use Rattle.std.specs.Prelude.{Some, List, [], ◌∷◌, String, codes, map, string_bytes, true}
 use Rattle.std.specs.declared.alloc.Global.{Global}
 use Rattle.clap.specs.{Words.App, Words.Rule, Words.Text, Words.new_app, Words.new_rule, Words.with_rule, Words.with_subcommand, declared.builder.ArgAction.TheVariants.Set, declared.builder.ArgAction.TheVariants.SetTrue}
@@ -25,11 +26,15 @@ flag_rule name = record (new_rule name) { long = Some name; action = Some SetTru
 abbrev pub file_app : Text → App
 file_app name = with_rule (new_app name) file_rule
 
--- run FILE --workers N --json --losses
+-- buffer FILE --explain
+abbrev pub buffer_app : App
+buffer_app = with_rule (file_app (codes "buffer")) (flag_rule (codes "explain"))
+
+-- run FILE --workers N --json --losses --explain
 abbrev pub run_app : App
 run_app =
-    with_rule (with_rule (with_rule (file_app (codes "run")) (flag_rule (codes "json")))
-    (flag_rule (codes "losses"))) (number_rule (codes "workers"))
+    with_rule (with_rule (with_rule (with_rule (file_app (codes "run")) (flag_rule (codes "json")))
+    (flag_rule (codes "losses"))) (flag_rule (codes "explain"))) (number_rule (codes "workers"))
 
 -- serve FILE --workers N
 abbrev pub serve_app : App
@@ -54,7 +59,7 @@ texts_of words = map string_bytes words
 -- the command with the subcommands that answer calls or run frames
 abbrev pub running_app : App
 running_app =
-    with_subcommand (with_subcommand bare_app (file_app (codes "buffer")).top) run_app.top
+    with_subcommand (with_subcommand bare_app buffer_app.top) run_app.top
 
 -- the whole command: nothing, or one of the subcommands
 abbrev pub msgrun_app : App

@@ -12,13 +12,16 @@ pub enum MainFault {
     /// The command line gives no action.
     #[error("{0}")]
     Words(#[from] WordFault),
+    /// The same, and this line tells of a word what is wanted there.
+    #[error("bad command line")]
+    BadWords(Vec<u8>),
     /// The input wasn't read.
     #[error("{0}")]
     Input(#[from] InputFault),
     /// The file was refused.
     #[error("refused {0}")]
     Refused(#[from] Refusal),
-    /// The file that was to be checked was refused, and these lines tell where and why.
+    /// The file was refused, and these lines tell where and why.
     #[error("refused {0}")]
     CheckFailed(Refusal, Vec<u8>),
     /// Memory was refused while an engine was made of a scenario, or for lines that are read ahead.

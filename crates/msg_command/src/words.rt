@@ -11,8 +11,12 @@ pub use parse::parse_words;
 pub enum Action {
     /// Answer the calls file of this name, or if there is none that of standard input.
     Buffer(Option<String>),
+    /// Answer the calls file of this name, and if it is refused tell where and why.
+    BufferExplained(String),
     /// Run the scenario file of this name on 1 to 64 workers, and report.
     Run { file: String, workers: u32 },
+    /// The same, and if it is refused tell where and why.
+    RunExplained { file: String, workers: u32 },
     /// The same, and tell what each reader lost.
     RunWithLosses { file: String, workers: u32 },
     /// The same, and tell it as lines of JSON.

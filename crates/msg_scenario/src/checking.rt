@@ -7,11 +7,11 @@ ghost use Rattle.msg_scenario.specs.Checked.{EndsCheck, FailsFor, IsEither, Pass
 ghost use Rattle.msg_scenario.specs.inner.Checking.{EndsIf, IsRefusalOfEither};
 
 use crate::CheckFault;
-use msg_advice::{fault_lines, remarks_of, repeated_line, unfit_lines};
+use msg_advice::{not_json_line, remarks_of, repeated_line, value_lines};
 use msg_calls::{Calls, read_file};
 use msg_json::json::parse;
 use msg_json::{Fault, FileFault, Reason, Refusal, ReportFault, Sink, is_calls_file, put_text};
-use msg_reading::{Scenario, read_sections, read_value};
+use msg_reading::{Scenario, read_value};
 use msg_world::NoMemory;
 use serde_json::Value;
 use std::alloc::Global;
@@ -48,7 +48,7 @@ fn check(alloc: Global, bytes: &[u8]) -> Result<Vec<u8>, CheckFault>
             checked
         }
         Err(FileFault::NotJson { line, column }) => {
-            let lines = tell_not_json(alloc, line, column)?;
+            let lines = not_json_line(alloc, bytes, line, column)?;
             Err(CheckFault::Refused(Refusal::NotJson, lines))
         }
         Err(FileFault::At(_)) => Err(CheckFault::Report(ReportFault::NoMemory)),
@@ -84,37 +84,10 @@ fn tell(alloc: Global, fault: &Fault, value: &Value, repeated: &[u8]) -> CheckFa
     if matches!(fault.reason, Reason::NoMemory) {
         return CheckFault::Report(ReportFault::NoMemory);
     }
-    match lines_of(alloc, fault, value, repeated) {
+    match value_lines(alloc, fault, value, repeated) {
         Ok(lines) => CheckFault::Refused(fault.reason.refusal(), lines),
         Err(_) => CheckFault::Report(ReportFault::NoMemory),
     }
-}
-
-/// The lines that tell of a fault of a value, what there is to tell of a scenario that is refused as
-/// a whole, and the line of a repeated key.
-fn lines_of(
-    alloc: Global,
-    fault: &Fault,
-    value: &Value,
-    repeated: &[u8],
-) -> Result<Vec<u8>, NoMemory> {
-    let mut text = fault_lines(alloc, fault, value)?.into_bytes();
-    if matches!(fault.reason, Reason::Clash(_) | Reason::Cycle(_)) {
-        match read_sections(alloc, value) {
-            Ok(scenario) => {
-                text.extend_from_slice(&unfit_lines(alloc, &scenario, fault.reason)?)?;
-            }
-            Err(fault) if matches!(fault.reason, Reason::NoMemory) => return Err(NoMemory),
-            Err(_) => {}
-        }
-    }
-    text.extend_from_slice(repeated)?;
-    Ok(text)
-}
-
-/// The line that tells where bytes stop to be JSON.
-fn tell_not_json(alloc: Global, line: usize, column: usize) -> Result<Vec<u8>, NoMemory> {
-    Ok(format!(in alloc; "at line {line}, column {column}\n")?.into_bytes())
 }
 
 /// The counts of a scenario that can be run, and what is remarked of it.

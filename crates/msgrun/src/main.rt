@@ -10,16 +10,19 @@
 #![tactic(auto)]
 
 ghost use Rattle.std.specs.Prelude.{◌≡◌, ◌<◌, ◌≤◌};
+ghost use Rattle.msg_command.specs.Prelude.{IsInRange, line_of, status_of};
 ghost use Rattle.msgrun.specs.Prelude.{main_fault, main_fault_of_check, status_after};
 
+use msg_advice::{refused_lines, words_line};
 use msg_command::{Action, InputFault, MainFault, WordFault, parse_words, print_fault, read_all};
 use msg_exec::{MAX_WORKERS, Workers};
-use msg_json::{StdSink, StdSource, put_all};
+use msg_json::{Refusal, StdSink, StdSource, put_all};
 use msg_scenario::{
-    AnswerFault, CheckFault, Form, Readers, answer_bytes, check_bytes, plan_bytes,
-    report_bytes_with,
+    AnswerFault, CheckFault, Form, Readers, answer_bytes, check_bytes, check_calls, check_scenario,
+    plan_bytes, report_bytes_with,
 };
 use msg_serve::{serve_bytes, trace_bytes};
+use std::alloc::Global;
 use std::env::Env;
 use std::fs::Files;
 use std::io::{BufReader, ErrorKind, Input, Print};
@@ -40,11 +43,34 @@ fn run<R: AllocGlobal + Env + Files + Input + Print + Sync + Threads>(
     rt: &R,
 ) -> Result<(), MainFault> {
     let words = words_given(rt)?;
-    match parse_words(rt.alloc(), words.as_slice())? {
-        Action::Buffer(file) => answer_calls(rt, file),
-        Action::Run { file, workers } => report_scenario(rt, file, Readers::Plain, workers),
+    match parse_words(rt.alloc(), words.as_slice()) {
+        Ok(action) => act(rt, action),
+        Err(WordFault::Bad) => {
+            let line = words_line(rt.alloc(), words.as_slice());
+            Err(MainFault::BadWords(line.unwrap_or(Vec::new(rt.alloc()))))
+        }
+        Err(fault) => Err(MainFault::Words(fault)),
+    }
+}
+
+/// Does what the words ask for.
+fn act<R: AllocGlobal + Files + Input + Print + Sync + Threads>(
+    rt: &R,
+    action: Action,
+) -> Result<(), MainFault>
+    requires in_range { IsInRange action }
+{
+    match action {
+        Action::Buffer(file) => answer_calls(rt, file, false),
+        Action::BufferExplained(file) => answer_calls(rt, Some(file), true),
+        Action::Run { file, workers } => {
+            report_scenario(rt, file, Readers::Plain, false, workers)
+        }
+        Action::RunExplained { file, workers } => {
+            report_scenario(rt, file, Readers::Plain, true, workers)
+        }
         Action::RunWithLosses { file, workers } => {
-            report_scenario(rt, file, Readers::WithLosses, workers)
+            report_scenario(rt, file, Readers::WithLosses, true, workers)
         }
         Action::RunAsJson { file, workers } => trace_scenario(rt, file, workers),
         Action::Check(file) => check_file(rt, file),
@@ -65,21 +91,28 @@ fn words_given<R: AllocGlobal + Env>(rt: &R) -> Result<Vec<String>, WordFault> {
     }
 }
 
-/// Answers a calls file, or if none is named that of standard input, on standard output.
+/// Answers a calls file, or if none is named that of standard input, on standard output; tells why
+/// it is refused, if `explains` says so.
 fn answer_calls<R: AllocGlobal + Files + Input + Print>(
     rt: &R,
     file: Option<String>,
+    explains: bool,
 ) -> Result<(), MainFault> {
     let bytes = bytes_of(rt, file)?;
     let mut output = StdSink::new(io::writer(rt));
-    answer_bytes(rt.alloc(), bytes.as_slice(), &mut output).map_err(as_main_fault)
+    match answer_bytes(rt.alloc(), bytes.as_slice(), &mut output) {
+        Err(fault) if explains => Err(explained(rt.alloc(), bytes.as_slice(), true, fault)),
+        ended => ended.map_err(as_main_fault),
+    }
 }
 
-/// Runs a scenario file on 1 to 64 workers, and reports on standard output.
+/// Runs a scenario file on 1 to 64 workers, and reports on standard output; tells why it is
+/// refused, if `explains` says so.
 fn report_scenario<R: AllocGlobal + Files + Input + Print + Sync + Threads>(
     rt: &R,
     file: String,
     readers: Readers,
+    explains: bool,
     workers: u32,
 ) -> Result<(), MainFault>
     requires some { 0 < workers }
@@ -90,7 +123,10 @@ fn report_scenario<R: AllocGlobal + Files + Input + Print + Sync + Threads>(
     };
     let bytes = bytes_of(rt, Some(file))?;
     let mut output = StdSink::new(io::writer(rt));
-    report_bytes_with(rt, bytes.as_slice(), readers, workers, &mut output).map_err(as_main_fault)
+    match report_bytes_with(rt, bytes.as_slice(), readers, workers, &mut output) {
+        Err(fault) if explains => Err(explained(rt.alloc(), bytes.as_slice(), false, fault)),
+        ended => ended.map_err(as_main_fault),
+    }
 }
 
 /// Runs a scenario file on 1 to 64 workers, and tells it as lines of JSON on standard output.
@@ -107,7 +143,10 @@ fn trace_scenario<R: AllocGlobal + Files + Input + Print + Sync + Threads>(
     };
     let bytes = bytes_of(rt, Some(file))?;
     let mut output = StdSink::new(io::writer(rt));
-    trace_bytes(rt, bytes.as_slice(), workers, &mut output).map_err(as_main_fault)
+    match trace_bytes(rt, bytes.as_slice(), workers, &mut output) {
+        Ok(()) => Ok(()),
+        Err(fault) => Err(explained(rt.alloc(), bytes.as_slice(), false, fault)),
+    }
 }
 
 /// Runs the frames of a scenario file on 1 to 64 workers, and then those that are lines of standard
@@ -129,7 +168,10 @@ fn serve_lines<R: AllocGlobal + Files + Input + Print + Sync + Threads>(
     };
     let mut input = StdSource::new(input);
     let mut output = StdSink::new(io::writer(rt));
-    serve_bytes(rt, bytes.as_slice(), workers, &mut input, &mut output).map_err(as_main_fault)
+    match serve_bytes(rt, bytes.as_slice(), workers, &mut input, &mut output) {
+        Ok(()) => Ok(()),
+        Err(fault) => Err(explained(rt.alloc(), bytes.as_slice(), false, fault)),
+    }
 }
 
 /// Why a file wasn't answered to its end, as the fault that ends the program.
@@ -141,6 +183,33 @@ fn as_main_fault(fault: AnswerFault) -> MainFault
         AnswerFault::NoMemory => MainFault::Built,
         AnswerFault::Report(fault) => MainFault::Report(fault),
         AnswerFault::Input => MainFault::Input(InputFault::Failed),
+    }
+}
+
+/// The same, with the lines of a check, if the bytes are refused as a calls file or as a scenario.
+fn explained(alloc: Global, bytes: &[u8], as_calls: bool, fault: AnswerFault) -> MainFault
+    ensures line { line_of result ≡ line_of (main_fault fault) }
+    ensures status { status_of result ≡ status_of (main_fault fault) }
+{
+    match fault {
+        AnswerFault::Refused(Refusal::NoMemory) => MainFault::Refused(Refusal::NoMemory),
+        AnswerFault::Refused(why) => {
+            MainFault::CheckFailed(why, check_lines(alloc, bytes, as_calls))
+        }
+        fault => as_main_fault(fault),
+    }
+}
+
+/// The lines of a check on bytes that are refused; none if there is no memory for them.
+fn check_lines(alloc: Global, bytes: &[u8], as_calls: bool) -> Vec<u8> {
+    let fault = if as_calls {
+        check_calls(alloc, bytes).err()
+    } else {
+        check_scenario(alloc, bytes).err()
+    };
+    match fault {
+        Some(fault) => refused_lines(alloc, bytes, fault).unwrap_or(Vec::new(alloc)),
+        None => Vec::new(alloc),
     }
 }
 
@@ -176,7 +245,10 @@ fn plan_scenario<R: AllocGlobal + Files + Input + Print>(
     let form = if dot { Form::Dot } else { Form::Lines };
     let bytes = bytes_of(rt, Some(file))?;
     let mut output = StdSink::new(io::writer(rt));
-    plan_bytes(rt.alloc(), bytes.as_slice(), frame, form, &mut output).map_err(as_main_fault)
+    match plan_bytes(rt.alloc(), bytes.as_slice(), frame, form, &mut output) {
+        Ok(()) => Ok(()),
+        Err(fault) => Err(explained(rt.alloc(), bytes.as_slice(), false, fault)),
+    }
 }
 
 /// All bytes of a file, or of standard input.

@@ -124,7 +124,7 @@ pub fn add_wanted(
     }
 }
 
-/// Adds the forms of a list with this head; or what else begins so, or the nearest head.
+/// Adds the forms of a list with this head; or what else begins so, or which heads are known.
 fn add_head(alloc: Global, text: &mut String, kind: Kind, head: &Value) -> Result<(), NoMemory> {
     let word = head.as_str().unwrap_or("");
     if let Some((_, forms)) = kind.heads.iter().find(|(known, _)| *known == word) {
@@ -138,7 +138,21 @@ fn add_head(alloc: Global, text: &mut String, kind: Kind, head: &Value) -> Resul
         }
     }
     let heads: Vec<&str> = kind.heads.iter().map(|(known, _)| *known).collect(alloc)?;
-    add_question(text, nearest(word, &heads))
+    add_known(text, word, &heads)
+}
+
+/// Adds the nearest of the known words as a question, or if none is near all of them.
+pub fn add_known(text: &mut String, word: &str, known: &[&str]) -> Result<(), NoMemory> {
+    let near = nearest(word, known);
+    if near.is_some() {
+        return add_question(text, near);
+    }
+    let mut before = "; known are ";
+    for name in known {
+        write!(text, "{before}{name}")?;
+        before = ", ";
+    }
+    Ok(())
 }
 
 /// Adds a name as a question.

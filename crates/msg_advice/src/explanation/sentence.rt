@@ -1,5 +1,5 @@
 // Why a value is refused, as a sentence.
-use crate::explanation::list::{add_question, add_wanted, contents};
+use crate::explanation::list::{add_known, add_question, add_wanted, contents};
 use crate::explanation::nearest::{KnownNames, nearest};
 use crate::explanation::{key_at, value_at};
 use msg_json::{
@@ -103,7 +103,10 @@ fn add_hint(
         Reason::UnknownKey => {
             let keys = keys_of(fault.location, there).iter();
             let known: Vec<&'static str> = keys.map(|key| key.text()).collect(alloc)?;
-            nearest(word, &known)
+            if known.as_slice().contains(&word) {
+                return text.push_str("; it is a key of another kind of file");
+            }
+            return add_known(text, word, &known);
         }
         Reason::Kind => nearest(word, &["script", "relay", "tally"]),
         Reason::Start => nearest(word, &["zero", "current"]),

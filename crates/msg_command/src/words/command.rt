@@ -2,7 +2,7 @@
 ghost use Rattle.std.specs.Prelude.{◌≡◌, ◌⊎◌, [], IfOk, IfErr, OnOk, codes, false, true};
 ghost use Rattle.clap.specs.{Words.App, Words.app_of, Words.with_subcommand, Words.rule_of, Words.fault_of, Words.takes, Words.subcommand_of, Words.subcommand_rows_of, Words.kind_of, declared.Command.out-Command as fields_of, declared.error.ErrorKind.TheVariants.OutOfMemory};
 ghost use Rattle.msg_command.specs.CommandLine.{bare_app};
-ghost use Rattle.msg_command.specs.Prelude.{IsShown, IsWordFaultOf, file_app, file_rule, flag_rule, msgrun_app, number_rule, plan_app, run_app, serve_app, texts_of};
+ghost use Rattle.msg_command.specs.Prelude.{IsShown, IsWordFaultOf, buffer_app, file_app, file_rule, flag_rule, msgrun_app, number_rule, plan_app, run_app, serve_app, texts_of};
 ghost use Rattle.msg_command.specs.inner.Telling.{IsHelp};
 
 use crate::words::{WordFault, help};
@@ -84,6 +84,28 @@ fn file_command<'a>(
     Ok(with_texts(command, about, short, long))
 }
 
+fn explain_arg<'a>(alloc: Global) -> Arg<'a>
+    ensures rule { rule_of result ≡ flag_rule (codes "explain") }
+    ensures local { result.global ≡ false }
+{
+    flag_arg(alloc, "explain", "Tells of a refused file what check tells")
+}
+
+fn buffer_command<'a>(alloc: Global) -> Result<Command<'a>, AllocError>
+    ensures app { IfOk result (λ c. app_of c ≡ buffer_app) }
+    ensures local { IfOk result (λ c. (fields_of c).has_globals ≡ false) }
+{
+    let command = file_command(
+        alloc,
+        "buffer",
+        "The calls file",
+        "Answers the calls file FILE",
+        help::BUFFER,
+        help::BUFFER_IN_FULL,
+    )?;
+    command.arg(explain_arg(alloc))
+}
+
 fn run_command<'a>(alloc: Global) -> Result<Command<'a>, AllocError>
     ensures app { IfOk result (λ c. app_of c ≡ run_app) }
     ensures local { IfOk result (λ c. (fields_of c).has_globals ≡ false) }
@@ -102,7 +124,8 @@ fn run_command<'a>(alloc: Global) -> Result<Command<'a>, AllocError>
         "losses",
         "Tells what each reader lost and writer was refused, too",
     );
-    command.arg(json)?.arg(losses)?.arg(workers_arg(alloc))
+    let command = command.arg(json)?.arg(losses)?;
+    command.arg(explain_arg(alloc))?.arg(workers_arg(alloc))
 }
 
 fn serve_command<'a>(alloc: Global) -> Result<Command<'a>, AllocError>
@@ -172,14 +195,6 @@ fn command<'a>(alloc: Global) -> Result<Command<'a>, AllocError>
     ensures app { IfOk result (λ c. app_of c ≡ msgrun_app) }
     ensures local { IfOk result (λ c. (fields_of c).has_globals ≡ false) }
 {
-    let buffer = file_command(
-        alloc,
-        "buffer",
-        "The calls file",
-        "Answers the calls file FILE",
-        help::BUFFER,
-        help::BUFFER_IN_FULL,
-    );
     let check = file_command(
         alloc,
         "check",
@@ -188,7 +203,7 @@ fn command<'a>(alloc: Global) -> Result<Command<'a>, AllocError>
         help::CHECK,
         help::CHECK,
     );
-    let command = with_subcommand(bare_command(alloc), buffer);
+    let command = with_subcommand(bare_command(alloc), buffer_command(alloc));
     let command = with_subcommand(command, run_command(alloc));
     let command = with_subcommand(command, check);
     let command = with_subcommand(command, plan_command(alloc));

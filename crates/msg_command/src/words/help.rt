@@ -71,7 +71,7 @@ A file is refused as
    8 UnknownName  there is no type, resource or system of this name
    9 Clash        a system reads and writes one type
   10 Cycle        the rules go round in a circle
-`msgrun check FILE` says where and why."
+`msgrun check FILE` says where and why, and so do `run` and `buffer` with --explain."
 );
 
 pub(crate) const BUFFER: &str = front!(

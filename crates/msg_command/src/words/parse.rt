@@ -39,7 +39,11 @@ fn action_of(alloc: Global, matches: &ArgMatches<'_>) -> Result<Action, WordFaul
     };
     if name == "buffer" {
         let file = file_of(alloc, inner)?;
-        return Ok(Action::Buffer(Some(file)));
+        return Ok(if is_given(inner, "explain") {
+            Action::BufferExplained(file)
+        } else {
+            Action::Buffer(Some(file))
+        });
     }
     if name == "run" {
         let file = file_of(alloc, inner)?;
@@ -48,6 +52,8 @@ fn action_of(alloc: Global, matches: &ArgMatches<'_>) -> Result<Action, WordFaul
             Action::RunAsJson { file, workers }
         } else if is_given(inner, "losses") {
             Action::RunWithLosses { file, workers }
+        } else if is_given(inner, "explain") {
+            Action::RunExplained { file, workers }
         } else {
             Action::Run { file, workers }
         });

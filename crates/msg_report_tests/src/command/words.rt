@@ -13,10 +13,12 @@ fn words_of(rt: &(impl Abort + AllocGlobal), line: &str) -> Vec<String> {
 }
 
 /// Command lines, each before what it is parsed as.
-const ACTIONS: [&str; 52] = [
+const ACTIONS: [&str; 57] = [
     " => Ok(Buffer(None))",
     r#"buffer f => Ok(Buffer(Some("f")))"#,
     r#"buffer -- --help => Ok(Buffer(Some("--help")))"#,
+    r#"buffer --explain f => Ok(BufferExplained("f"))"#,
+    "buffer f --explain --explain => Err(Bad)",
     r#"run f => Ok(Run { file: "f", workers: 1 })"#,
     r#"run f --workers 7 => Ok(Run { file: "f", workers: 7 })"#,
     r#"run --workers 7 f => Ok(Run { file: "f", workers: 7 })"#,
@@ -28,12 +30,15 @@ const ACTIONS: [&str; 52] = [
     r#"run --json f => Ok(RunAsJson { file: "f", workers: 1 })"#,
     r#"run f --losses --workers 2 => Ok(RunWithLosses { file: "f", workers: 2 })"#,
     r#"run --losses f --json => Ok(RunAsJson { file: "f", workers: 1 })"#,
+    r#"run f --explain --workers 2 => Ok(RunExplained { file: "f", workers: 2 })"#,
+    r#"run f --explain --losses => Ok(RunWithLosses { file: "f", workers: 1 })"#,
     "run f --json=false => Err(Bad)",
     r#"serve f => Ok(Serve { file: "f", workers: 1 })"#,
     r#"serve f --workers 64 => Ok(Serve { file: "f", workers: 64 })"#,
     "serve f --workers 65 => Err(Bad)",
     "serve f --json => Err(Bad)",
     "serve f --losses => Err(Bad)",
+    "serve f --explain => Err(Bad)",
     "run f --losses --losses => Err(Bad)",
     "run f --workers 0 => Err(Bad)",
     "run f --workers 65 => Err(Bad)",
