@@ -1,4 +1,6 @@
 // What the parts of a game are called.
+ghost use Rattle.std.specs.Prelude.{◌≡◌, []};
+
 use msg_exec::EngineOf;
 use msg_names::Names;
 use msg_system::SystemOf;
@@ -15,8 +17,12 @@ pub struct GameNames {
 }
 
 impl GameNames {
-    /// There are none.
-    pub fn new(alloc: Global) -> GameNames {
+    /// There are none. It takes no memory.
+    pub fn new(alloc: Global) -> GameNames
+        ensures systems { result.systems.items ≡ [] }
+        ensures types { result.types.items ≡ [] }
+        ensures resources { result.resources.items ≡ [] }
+    {
         GameNames {
             systems: Vec::new(alloc),
             types: Vec::new(alloc),

@@ -86,5 +86,7 @@ pub(crate) fn set_value<V: Value>(lent: &mut Lent<V>, r: ResNo, value: V)
 pub fn added_up<V: Value>(start: V, records: &[Record<V>]) -> V
     ensures sum { result ≡ sum_onto V.values.plus start records.now }
 {
-    records.iter().fold(start, |sum, record| sum.plus(record.value))
+    records
+        .iter()
+        .fold(start, |sum, record| sum.plus(record.value))
 }
