@@ -109,7 +109,7 @@ fn add_option(
         return Ok(None);
     };
     if before.iter().any(|word| parts_of(word.as_str()).0 == name) {
-        write!(text, "{name} stands twice")?;
+        write!(text, "{} stands twice", option.0)?;
         return Ok(None);
     }
     match value {
