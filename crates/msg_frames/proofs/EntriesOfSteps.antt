@@ -1,7 +1,7 @@
 -- The entries that the replies of a turn tell of are those of its steps.
-use Rattle.std.proofs.Common.{List, [], ap, append_assoc, arith, flat_map, fold, length, map, refl, ℕ, ◌+◌, ◌++◌, ◌∙◌, ◌∷◌, ◌≡◌}
+use Rattle.std.proofs.Common.{List, [], ap, arith, flat_map, fold, length, map, refl, ℕ, ◌++◌, ◌∙◌, ◌∷◌, ◌≡◌}
 use Rattle.std.specs.List.{sum_by, zip}
-use Rattle.std.proofs.lemmas.{Bool.cases_Bool, Grind.flat_map-append, List.append-nil, List.length-append, List.map-append, List.Sums.sum_by-cons}
+use Rattle.std.proofs.lemmas.{Bool.cases_Bool, List.append-nil, List.length-append, List.map-append, List.Sums.sum_by-cons}
 use Rattle.msg_world.specs.Prelude.{Values, WorldState}
 use Rattle.msg_system.specs.{declared.limits.TheConstants.MAX_OPS, declared.op.Op.Op, declared.reply.Reply.Reply}
 use Rattle.msg_system.specs.Prelude.{AfterOp, AfterProgram, Job, Meaning, Step, after_at_most, after_job, after_op, next_op, ops_answered, turn}

@@ -1,16 +1,17 @@
 -- What the functions of the order, of frames and of runs come to.
-use Rattle.std.proofs.Common.{All, Bool, Contains, IsTrue, List, [], append_assoc, arith, map, refl, ℕ, ◌&&◌, ◌++◌, ◌<◌, ◌||◌, ◌↔◌, ◌∷◌, ◌≡◌, ◌⊎◌}
+use Rattle.std.proofs.Common.{All, Bool, Contains, IsTrue, List, [], ap, append_assoc, arith, length, map, refl, sym, ℕ, ◌&&◌, ◌++◌, ◌<◌, ◌||◌, ◌↔◌, ◌∙◌, ◌∷◌, ◌≡◌, ◌≤◌, ◌⊎◌}
 use Rattle.std.specs.List.{range_with_len}
 use Rattle.std.proofs.lemmas.{Bool.cases_Bool, List.Elements.Contains-append_left, List.Elements.Contains-append_right, List.FromFn.length-map-range_with_len}
 use Rattle.msg_world.specs.{declared.access.Access.Access, declared.part.Part.Part}
 use Rattle.msg_world.specs.Prelude.{Conflict, HasPart, Values, uses, writes}
-use Rattle.msg_world.specs.declared.limits.TheConstants.{MAX_RESOURCES, MAX_TYPES}
+use Rattle.msg_world.specs.declared.limits.TheConstants.{MAX_RESOURCES, MAX_SYSTEMS, MAX_TYPES}
 use Rattle.msg_world.specs.declared.part.Part.TheVariants.{OfResource, OfType, Registry}
-use Rattle.msg_order.specs.Prelude.{IsAcyclic, IsAmong, IsPlanOf, IsTurnOrder, NoneConflict, PlanView, TellsConflicts, batches, plan_of, settled}
+use Rattle.msg_order.specs.Prelude.{IsAcyclic, IsAmong, IsPlanOf, IsTurnOrder, NameSystemsBelow, NoneConflict, PlanView, TellsConflicts, batches, plan_of, settled}
 use Rattle.msg_order.proofs.{Elements.Contains-head, Elements.Contains-list_any, Elements.Contains-map, Elements.Contains-range, Elements.list_any-Contains, Functions.batches_are, Functions.settled_among, Functions.settled_no_cycle, Functions.settled_only, Functions.turns_are, TurnOrders.none_conflict}
 use Rattle.msg_system.specs.Prelude.{FitsWorld, IsAccessOf, Needs, needs_any}
 use Rattle.msg_frames.specs.Frames.{parts, settled_order, turn_order}
-use Rattle.msg_frames.specs.Prelude.{AreAccessesOf, Frame, Log, NoCycle, SameSystems, State, UsesParts, are_in_conflict, before_turns, frame, join_flags, needs_conflict, run}
+use Rattle.msg_frames.specs.declared.arrangement.Arrangement.{Arrangement}
+use Rattle.msg_frames.specs.Prelude.{AreAccessesOf, Frame, IsArrangementOf, IsOrderly, Log, NoCycle, SameSystems, State, UsesParts, are_in_conflict, before_turns, frame, join_flags, needs_conflict, run}
 use Rattle.msg_frames.proofs.SystemsStay.{frame_keeps, joined_below}
 
 -- ---- conflicts
@@ -92,6 +93,16 @@ module _ {V : Type 0} {values : Values V} where
   batches_apart s accesses uses are free =
       none_conflict accesses s.rules (join_flags s) (are_in_conflict s) _ (conflicts_tell s accesses are uses)
       (batches_are (settled_order s) (join_flags s) (order_among s) (order_free s free))
+
+  -- there is a plan of what the order comes of
+  pub orderly_of : (s : State values) (a : Arrangement) → IsArrangementOf s a → s.systems ≤ MAX_SYSTEMS
+      → NameSystemsBelow s.systems s.rules → NoCycle s → IsOrderly a
+  orderly_of s a is few named free = record {
+    few = omega (arith, is.accesses.each, few);
+    one_each = ap length is.joins ∙ length-map-range_with_len _ 0 s.systems ∙ sym is.accesses.each;
+    in_range = rw (is.accesses.each, is.rules) named;
+    no_cycle = λ joined size. rw is.rules (free joined (size ∙ is.accesses.each));
+  }
 
   -- ---- frames and then others
 

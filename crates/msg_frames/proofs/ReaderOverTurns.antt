@@ -1,5 +1,5 @@
 -- What a reader goes past in the turns of systems, its own and those of others.
-use Rattle.std.proofs.Common.{Contains, List, [], ap, arith, cond, filter, flat_map, map, refl, sym, ℕ, ◌++◌, ◌==◌, ◌∙◌, ◌∷◌, ◌≡◌, ◌≤◌}
+use Rattle.std.proofs.Common.{Contains, List, [], ap, arith, cond, filter, flat_map, refl, sym, ℕ, ◌++◌, ◌==◌, ◌∙◌, ◌∷◌, ◌≡◌, ◌≤◌}
 use Rattle.std.proofs.lemmas.{Bool.cases_Bool, Bool.Decides.eqb_tells, Grind.flat_map-append, List.map-append, List.Elements.filter-append}
 use Rattle.msg_buffer.specs.Prelude.{History, IsSound, count}
 use Rattle.msg_system.specs.{Prelude.Step, Prelude.after_job, declared.reply.Reply.Reply}

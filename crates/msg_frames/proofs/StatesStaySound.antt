@@ -1,5 +1,5 @@
 -- Frames keep states sound.
-use Rattle.std.proofs.Common.{AllPairs, Contains, IsFalse, List, [], ap, arith, length, map, ℕ, ◌-◌, ◌<◌, ◌∷◌, ◌≡◌, ◌≢◌}
+use Rattle.std.proofs.Common.{AllPairs, Contains, IsFalse, List, [], ap, arith, length, ℕ, ◌-◌, ◌<◌, ◌∷◌, ◌≡◌, ◌≢◌}
 use Rattle.msg_order.specs.Prelude.{has_joined}
 use Rattle.std.proofs.lemmas.{Bool.false≢true, List.FromFn.length-range_with_len}
 use Rattle.msg_frames.specs.Frames.{settled_order, turn_order}
