@@ -21,6 +21,12 @@ plus_event (Lots n) (Sold lot to price) = Lots (n - 1)
 plus_event (Lots n) (Passed lot) = Lots (n - 1)
 plus_event kept _ = kept
 
+-- the price that an event tells of
+abbrev pub price_of : Event → ℕ
+price_of (Called lot price leader) = price
+price_of (Record price) = price
+price_of _ = 0
+
 -- what an auctioneer is and says after this call, so many frames without a better bid
 abbrev pub called : ℕ → Event → Part × Answer Event
 called quiet (Called lot price leader) =
@@ -41,7 +47,7 @@ changed None f = nothing
 abbrev pub answers_of : Part → Given Event → Part × Answer Event
 answers_of (Auctioneer before quiet) given =
     let call : Event = sum_onto plus_event (sum_onto plus_event before (given.messages 0)) (given.messages 1) in
-    called (if same_event call before then min (quiet + 1) (2 ^ 32 - 1) else 0) call
+    called (if price_of call == price_of before then min (quiet + 1) (2 ^ 32 - 1) else 0) call
 answers_of (Bidder before limit) given =
     let purse : Event = sum_onto plus_event before (given.messages 1) in
     (Bidder purse limit, bid_of limit purse (sum_onto plus_event (Passed 0) (given.messages 0)))
@@ -50,4 +56,4 @@ answers_of Porter given =
     (Porter, changed (given.value 2) (λ lots. sum_onto plus_event (sum_onto plus_event lots (given.messages 0)) (given.messages 1)))
 answers_of (Press before) given =
     let best : Event = sum_onto plus_event before (given.messages 0) in
-    (Press best, if same_event best before then nothing else put 0 best nothing)
+    (Press best, if price_of best == price_of before then nothing else put 0 best nothing)

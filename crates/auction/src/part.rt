@@ -1,5 +1,8 @@
+ghost use Rattle.std.specs.Prelude.{◌≡◌};
+ghost use Rattle.auction.specs.House.{price_of};
+
 use crate::event::Event::{self, *};
-use msg_game::{Function, Inbox, NoMemory, Outbox, Value, added_up};
+use msg_game::{Function, Inbox, NoMemory, Outbox, added_up};
 
 /// Who does something in an auction house, and what it remembers.
 #[derive(Clone, Copy)]
@@ -14,6 +17,17 @@ pub enum Part {
     Porter,
     /// Tells of each record.
     Press(Event),
+}
+
+/// The price that an event tells of.
+fn price_of(event: Event) -> u32
+    ensures price { result ≡ price_of event }
+{
+    match event {
+        Called(_, price, _) => price,
+        Record(price) => price,
+        _ => 0,
+    }
 }
 
 impl Function<3, 3> for Part {
@@ -31,7 +45,7 @@ impl Function<3, 3> for Part {
         match *self {
             Part::Auctioneer(before, quiet) => {
                 let call = added_up(added_up(before, inbox.read(0)), inbox.read(1));
-                let quiet = if call == before {
+                let quiet = if price_of(call) == price_of(before) {
                     quiet.saturating_add(1)
                 } else {
                     0
@@ -75,7 +89,7 @@ impl Function<3, 3> for Part {
             Part::Press(before) => {
                 let best = added_up(before, inbox.read(0));
                 *self = Part::Press(best);
-                if best == before {
+                if price_of(best) == price_of(before) {
                     Ok(())
                 } else {
                     outbox.write(0, best)
