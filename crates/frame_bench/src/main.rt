@@ -6,12 +6,12 @@
 //! nothing, `skipped` has a condition that doesn't hold, `get` gets a resource, `len` asks for a
 //! length, `write` writes a message, `batch` writes 1,024, `read` reads two by a script, `limited`
 //! reads one of two, `decide` reads two by a behavior, and `function` reads two and writes one by a
-//! function. `forward` forwards two, `sum` adds two to a resource, and of `drain` each system drains
-//! a type of its own, to one of which two were posted. Of `half` each two are one of `skipped` and
-//! one of `get`. Of `boxed` each system is in a box, and half of them read by a script and half by a
-//! behavior. In the first frame alone, and skipped in the others, `large` reads 4,096 at once, and
-//! `many` reads 64, each by an op of its own. Of `replayed` each system does nothing, and each frame
-//! is run after it was replayed. On one worker, or on that many.
+//! function. `forward` forwards two, `sum` adds two to a resource, and of `drain` each system
+//! drains a type of its own, to one of which two were posted. Of `half` each two are one of
+//! `skipped` and one of `get`. Of `boxed` each system is in a box, and half of them read by a
+//! script and half by a behavior. In the first frame alone, and skipped in the others, `large`
+//! reads 4,096 at once, and `many` reads 64, each by an op of its own. Of `replayed` each system
+//! does nothing, and each frame is run after it was replayed. On one worker, or on that many.
 #![tactic(auto)]
 
 ghost use Rattle.std.specs.Prelude.{◌≤◌, IfOk, length};

@@ -54,8 +54,8 @@ impl Behavior for Asked {
     }
 }
 
-/// How many messages each of two systems would write in a turn, and how often it is asked for an op:
-/// once for each that it writes, and once more.
+/// How many messages each of two systems would write in a turn, and how often it is asked for an
+/// op: once for each that it writes, and once more.
 const ASKED: &[(u64, u64)] = &[(0, 1), (1, 2), (3, 4), (63, 64), (64, 65), (65, 65)];
 
 /// A system that writes so many messages to this type.

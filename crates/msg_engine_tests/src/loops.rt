@@ -50,8 +50,8 @@ impl Host for Giver {
     }
 }
 
-/// How many frames a loop runs at most, how many its host gives and what it does then, what the loop
-/// comes to, and how many frames were run.
+/// How many frames a loop runs at most, how many its host gives and what it does then, what the
+/// loop comes to, and how many frames were run.
 type Row = (u64, u32, Then, Result<(), LoopFault>, u32);
 
 const ROWS: &[Row] = &[
@@ -155,8 +155,8 @@ fn a_host_is_told_the_turns_in_their_order(rt: HostRuntime) {
     }
 }
 
-/// In each of its turns it waits until all that are awaited there have begun theirs, and does nothing
-/// else.
+/// In each of its turns it waits until all that are awaited there have begun theirs, and does
+/// nothing else.
 #[derive(Drop)]
 struct Waiter<'a, 'c, C> {
     meetings: &'a [Meeting<'c, C>; 2],

@@ -77,8 +77,8 @@ impl<V: Value> Spares<V> {
         }
     }
 
-    /// What came of a turn in place: whether the system ran, and its replies. If it didn't run, their
-    /// list is kept.
+    /// What came of a turn in place: whether the system ran, and its replies. If it didn't run,
+    /// their list is kept.
     pub(crate) fn outcome_if(&mut self, ran: bool, replies: Vec<Reply<V>>) -> Outcome<V>
         ensures outcome { result ≡ outcome_if ran replies.items }
     {

@@ -101,7 +101,8 @@ fn enter_refused<V: Value, S: SystemOf<Value = V>>(
     ensures entered { (t : ℕ) (x : TotalsOf) → t < length totals.old
         → totals_at totals.old t ≡ capped_totals x
         → totals_at totals.new t
-        ≡ capped_totals (with_refused (refused_there t (S.meaning system.now).last op reply.now) x) }
+        ≡ capped_totals (with_refused
+        (refused_there t (S.meaning system.now).last op reply.now) x) }
 {
     if !reply.is_spent() {
         return;

@@ -42,7 +42,8 @@ impl<V: Value, S: SystemOf<Value = V>> EngineOf<S, V> {
     /// ```
     /// for account in &engine.writer_accounts()? {
     ///     if account.refused > 0 {
-    ///         println!(rt; "system {} wrote {} messages in vain", account.system, account.refused)?;
+    ///         let WriterAccount { system, refused, .. } = account;
+    ///         println!(rt; "system {system} wrote {refused} messages in vain")?;
     ///     }
     /// }
     /// ```

@@ -1,5 +1,5 @@
 -- What is kept of a world is told as the world that it stands for.
-use Rattle.std.proofs.Common.{◌≡◌, ℕ, ◌+◌, ◌<◌, ◌≤◌, ℤ, false, true, List, [], ◌∷◌, length, nat_lt, refl, arith, ap, flat_map, Option, Some, None, IsSome, IfSome, get_or}
+use Rattle.std.proofs.Common.{◌≡◌, ℕ, ◌+◌, ◌<◌, ℤ, false, true, List, [], ◌∷◌, length, nat_lt, refl, arith, ap, flat_map, Option, Some, None, IsSome, IfSome, get_or}
 use Rattle.std.specs.List.{enumerate_from}
 use Rattle.std.proofs.Math.ListN.{get_or-eq_default}
 use Rattle.std.proofs.lemmas.Bool.Decides.{nat_tests}
@@ -9,7 +9,7 @@ use Rattle.msg_frames.specs.{Prelude.State, declared.account.Account.Account}
 use Rattle.msg_reading.specs.declared.scenario.Scenario.{Scenario}
 use Rattle.msg_json.specs.Prelude.{Text}
 use Rattle.msg_world.specs.{Prelude.IsWhole, Prelude.Parts, Prelude.PartsStand, Prelude.WorldState, Prelude.i64_values, Prelude.slot, declared.part.Part.TheVariants.OfResource, declared.part.Part.TheVariants.OfType, declared.record.Record.Record}
-use Rattle.msg_log_json.specs.Prelude.{account_json, list_item, listed, numbered, past_json, resource_json, resources_json, rest_json, standing_json, type_json, types_json, use_json}
+use Rattle.msg_log_json.specs.Prelude.{account_json, list_item, listed, numbered, past_json, resource_json, rest_json, type_json}
 use Rattle.msg_log_json.specs.inner.KeptJson.{account_kept, accounts_kept, past_kept, resource_kept, resources_kept, type_kept, types_kept}
 
 -- ---- lists whose elements are told alike

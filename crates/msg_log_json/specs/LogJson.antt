@@ -134,7 +134,8 @@ outcome_json s system (Ran answers) = replies_json s system answers
 -- the same by the system's number; nothing of a system that the scenario hasn't got
 abbrev pub outcome_json_of : Scenario → Turn ℤ → Text
 outcome_json_of s turn =
-    option_map_or (λ system. outcome_json s system turn.outcome) (slice_get s.systems turn.system) []
+    option_map_or (λ system. outcome_json s system turn.outcome) (slice_get s.systems turn.system)
+    []
 
 -- a turn
 abbrev pub turn_json : Scenario → Turn ℤ → Text
@@ -222,7 +223,8 @@ use_json s i t =
 -- a reader
 abbrev pub account_json : Scenario → State i64_values → Account → Text
 account_json s now a =
-    use_json s a.system a.of_type ++ standing_json a a.start ++ rest_json (length s.types) now a ++ codes "}"
+    use_json s a.system a.of_type ++ standing_json a a.start ++ rest_json (length s.types) now a
+    ++ codes "}"
 
 -- what a system that writes a type was refused of it
 abbrev pub writer_json : Scenario → WriterAccount → Text

@@ -1,4 +1,5 @@
-//! What frames came to, what readers were given and why a line is refused, each as one line of JSON.
+//! What frames came to, what readers were given and why a line is refused, each as one line of
+//! JSON.
 #![tactic(auto)]
 
 mod accounts;

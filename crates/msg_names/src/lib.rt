@@ -1,5 +1,5 @@
-//! Names for what an engine tells. An engine knows its systems, types and resources by numbers; with
-//! `Names` a log and an account are shown as lines for a person.
+//! Names for what an engine tells. An engine knows its systems, types and resources by numbers;
+//! with `Names` a log and an account are shown as lines for a person.
 #![tactic(auto)]
 
 mod account;

@@ -76,7 +76,8 @@ impl SystemOf for Prefaced {
     fn run(&mut self, alloc: Global, lent: Lent, out: &mut Vec<Reply>) -> Result<Taken, NoMemory>
         requires covers { Covers (⟦<Scripted as SystemOf>⟧.meaning self.old.script).needs lent }
         ensures ran { IfOk result
-            (λ taken. Ran i64_values (⟦<Scripted as SystemOf>⟧.meaning self.old.script) (⟦<Scripted as SystemOf>⟧.meaning self.new.script)
+            (λ taken. Ran i64_values (⟦<Scripted as SystemOf>⟧.meaning self.old.script)
+            (⟦<Scripted as SystemOf>⟧.meaning self.new.script)
             lent.entry taken out.old.items out.new.items) }
         ensures shape { IfOk result (λ taken. SameShape (taken_of lent.entry) taken) }
     {

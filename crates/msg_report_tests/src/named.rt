@@ -76,8 +76,8 @@ fn add_replies_of_numbers(rt: &(impl Abort + AllocGlobal), replies: &mut Vec<Rep
     replies.push(Reply::Signalled).have(rt);
 }
 
-/// The log of a turn of system 0 with these replies, after posts that were answered so, and of one of
-/// system 1 that was skipped.
+/// The log of a turn of system 0 with these replies, after posts that were answered so, and of one
+/// of system 1 that was skipped.
 fn log_of(rt: &(impl Abort + AllocGlobal), posts: Vec<Reply>, replies: Vec<Reply>) -> Log {
     let (ran, alloc) = (Outcome::Ran(Items::from_vec(replies)), rt.alloc());
     let mut turns = Vec::new(alloc);

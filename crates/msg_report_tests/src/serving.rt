@@ -11,8 +11,8 @@ use std::process::Abort;
 use std::sync::atomic::{AtomicU64, Ordering};
 use std::thread::Threads;
 
-/// Shows lines, at most `at_once` bytes at a time. It begins a line once as many line feeds were put
-/// as lines were read, and fails if it is asked for one before.
+/// Shows lines, at most `at_once` bytes at a time. It begins a line once as many line feeds were
+/// put as lines were read, and fails if it is asked for one before.
 #[derive(Drop)]
 struct InTurn<'a> {
     lines: &'a [&'a [u8]],

@@ -1,5 +1,5 @@
 -- Types, resources and readers told by what is kept of a world: the words of private functions.
-use Rattle.std.specs.Prelude.{ℕ, ◌-◌, max, ℤ, List, [], ◌++◌, Option, Some, None, codes, decimal}
+use Rattle.std.specs.Prelude.{ℕ, ◌-◌, max, ℤ, List, [], ◌++◌, Option, Some, None, codes}
 use Rattle.msg_buffer.specs.Prelude.{Kept, kept_count}
 use Rattle.msg_frames.specs.declared.account.Account.{Account}
 use Rattle.msg_world.specs.{Prelude.Parts, Prelude.slot, declared.part.Part.TheVariants.OfResource, declared.part.Part.TheVariants.OfType, declared.record.Record.Record}

@@ -43,7 +43,8 @@ fn expect_kept(rt: &impl Abort, world: &World, want: [Option<Record>; 2]) {
     expect_eq(rt, (messages.oldest(), messages.count()), (0, count));
 }
 
-/// Writes a message to the type that is lent for writing: it is false if there was no memory for that.
+/// Writes a message to the type that is lent for writing: it is false if there was no memory for
+/// that.
 fn write(rt: &impl Abort, lent: &mut Lent, record: Record) -> bool
     ensures same { SameLoan lent.old lent.new }
 {

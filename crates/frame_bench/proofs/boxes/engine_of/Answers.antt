@@ -1,6 +1,5 @@
-use Rattle.std.proofs.Common.{rules, ◌≡◌}
+use Rattle.std.proofs.Common.{rules}
 use Rattle.std.proofs.lemmas.Option.{get_or_from_slice_get, slice_get_within}
-use Rattle.msg_frames.specs.Prelude.{default_place}
 use Rattle.frame_bench.proofs.boxes.engine_of.Goals as goal
 
 pub new-requires-2-clause-each : goal.new-requires-2-clause-each
