@@ -4,7 +4,7 @@ use msg_world::NoMemory;
 use serde_json::{Map, Value};
 use std::alloc::Global;
 
-pub(crate) mod list;
+mod list;
 mod nearest;
 mod sentence;
 
@@ -81,7 +81,7 @@ fn add_there(
 }
 
 /// Adds a value in short: as JSON, if that is short.
-pub(crate) fn add_shown(alloc: Global, text: &mut String, value: &Value) -> Result<(), NoMemory> {
+fn add_shown(alloc: Global, text: &mut String, value: &Value) -> Result<(), NoMemory> {
     if let Some(items) = value.as_array() {
         return write!(text, "a list of {}", items.len());
     }

@@ -22,7 +22,6 @@ mod subject;
 mod unfit;
 mod users;
 mod uses;
-mod words;
 
 pub use clash::{Clash, clash_of};
 pub use cycle::shortest_cycle;
@@ -34,4 +33,3 @@ pub use refused::{refused_lines, value_lines};
 pub use remarks::remarks_of;
 pub use repeated::repeated_line;
 pub use unfit::unfit_lines;
-pub use words::words_line;

@@ -1,7 +1,7 @@
 -- The line that each fault of the program prints, and the status that it ends with.
 use Rattle.std.specs.Prelude.{ℕ, List, [], ◌++◌, codes}
 use Rattle.msg_command.specs.declared.fault.MainFault.{MainFault}
-use Rattle.msg_command.specs.declared.fault.MainFault.TheVariants.{Words, BadWords, Input, Refused, CheckFailed, Built, Report}
+use Rattle.msg_command.specs.declared.fault.MainFault.TheVariants.{Words, Input, Refused, CheckFailed, Built, Report}
 use Rattle.msg_command.specs.declared.words.WordFault.TheVariants as word
 use Rattle.msg_command.specs.declared.input.InputFault.TheVariants as input
 use Rattle.msg_json.specs.declared.refusal.Refusal.{Refusal}
@@ -28,7 +28,6 @@ refusal_line refusal.NoMemory = codes "msgrun: want of memory\n"
 abbrev pub line_of : MainFault → List ℕ
 line_of (Words word.Bad) = codes "msgrun: bad command line\n"
 line_of (Words (word.Help text)) = []
-line_of (BadWords lines) = codes "msgrun: bad command line\n"
 line_of (Words word.NoMemory) = codes "msgrun: want of memory\n"
 line_of (Input input.Failed) = codes "msgrun: cannot read input\n"
 line_of (Input input.TooLarge) = codes "msgrun: input too large\n"
@@ -42,22 +41,16 @@ line_of (Report (report.Run run.NoMemory)) = codes "msgrun: run fault 3 NoMemory
 line_of (Report report.Write) = codes "msgrun: write fault\n"
 line_of (Report report.NoMemory) = codes "msgrun: want of memory\n"
 
--- the lines that tell more of a fault: where and why a file is refused, or which word is wrong
-abbrev pub more_of : MainFault → List ℕ
-more_of (CheckFailed why lines) = lines.items
-more_of (BadWords line) = line.items
-more_of _ = []
-
--- what is printed of a fault: its line, and those that tell more below it
+-- what is printed of a fault: its line, and below it the lines that tell of a refused file
 abbrev pub lines_of : MainFault → List ℕ
-lines_of fault = line_of fault ++ more_of fault
+lines_of (CheckFailed why lines) = refusal_line why ++ lines.items
+lines_of fault = line_of fault
 
 -- the status that the program ends with: 0 for help; 2 for a bad command line, too large an input
 -- or a refused file; 1 for a fault while running, reading or writing, and for want of memory
 abbrev pub status_of : MainFault → ℕ
 status_of (Words (word.Help text)) = 0
 status_of (Words word.Bad) = 2
-status_of (BadWords lines) = 2
 status_of (Input input.TooLarge) = 2
 status_of (Refused refusal.NoMemory) = 1
 status_of (Refused refused) = 2

@@ -12,9 +12,6 @@ pub enum MainFault {
     /// The command line gives no action.
     #[error("{0}")]
     Words(#[from] WordFault),
-    /// The same, and this line tells of a word what is wanted there.
-    #[error("bad command line")]
-    BadWords(Vec<u8>),
     /// The input wasn't read.
     #[error("{0}")]
     Input(#[from] InputFault),

@@ -10,10 +10,10 @@
 #![tactic(auto)]
 
 ghost use Rattle.std.specs.Prelude.{◌≡◌, ◌<◌, ◌≤◌};
-ghost use Rattle.msg_command.specs.Prelude.{IsInRange, line_of, status_of};
+ghost use Rattle.msg_command.specs.Prelude.{line_of, status_of};
 ghost use Rattle.msgrun.specs.Prelude.{main_fault, main_fault_of_check, status_after};
 
-use msg_advice::{refused_lines, words_line};
+use msg_advice::refused_lines;
 use msg_command::{Action, InputFault, MainFault, WordFault, parse_words, print_fault, read_all};
 use msg_exec::{MAX_WORKERS, Workers};
 use msg_json::{Refusal, StdSink, StdSource, put_all};
@@ -43,24 +43,7 @@ fn run<R: AllocGlobal + Env + Files + Input + Print + Sync + Threads>(
     rt: &R,
 ) -> Result<(), MainFault> {
     let words = words_given(rt)?;
-    match parse_words(rt.alloc(), words.as_slice()) {
-        Ok(action) => act(rt, action),
-        Err(WordFault::Bad) => {
-            let line = words_line(rt.alloc(), words.as_slice());
-            Err(MainFault::BadWords(line.unwrap_or(Vec::new(rt.alloc()))))
-        }
-        Err(fault) => Err(MainFault::Words(fault)),
-    }
-}
-
-/// Does what the words ask for.
-fn act<R: AllocGlobal + Files + Input + Print + Sync + Threads>(
-    rt: &R,
-    action: Action,
-) -> Result<(), MainFault>
-    requires in_range { IsInRange action }
-{
-    match action {
+    match parse_words(rt.alloc(), words.as_slice())? {
         Action::Buffer(file) => answer_calls(rt, file, false),
         Action::BufferExplained(file) => answer_calls(rt, Some(file), true),
         Action::Run { file, workers } => {

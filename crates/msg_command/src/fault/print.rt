@@ -1,22 +1,26 @@
 ghost use Rattle.std.specs.Prelude.{◌≡◌, ◌++◌, OnErr, OnOk};
 ghost use Rattle.std.specs.Io.KnownBytes.{Appends};
 ghost use Rattle.msg_json.specs.Prelude.{AppendsPrefix, TakesUnlessFailed, one_failure_more};
-ghost use Rattle.msg_command.specs.Prelude.{line_of, lines_of, more_of, refusal_line, status_of};
+ghost use Rattle.msg_command.specs.Prelude.{line_of, lines_of, refusal_line, status_of};
 
 use crate::fault::MainFault;
 use crate::{InputFault, WordFault};
 use msg_json::{PutFault, Refusal, ReportFault, Sink, put_all};
 use msg_world::RunFault;
 
-/// Puts the fault's line into the sink, and the lines that tell more below it, and gives the status
-/// that the program ends with. Help has no line. A failure of the sink changes
+/// Puts the fault's line into the sink, and the lines that tell of a refused file below it, and
+/// gives the status that the program ends with. Help has no line. A failure of the sink changes
 /// nothing of the status. It takes no memory.
 pub fn print_fault<S: Sink>(fault: &MainFault, sink: &mut S) -> u8
     ensures lines { TakesUnlessFailed (S.contents sink.old) (S.contents sink.new)
         (S.failures sink.old) (S.failures sink.new) (lines_of fault.now) }
     ensures status { result ≡ status_of fault.now }
 {
-    let _ = put_both(line_of(fault), more_of(fault), sink);
+    if let MainFault::CheckFailed(why, lines) = fault {
+        let _ = put_both(refusal_line(*why), lines.as_slice(), sink);
+    } else {
+        let _ = put_all(sink, line_of(fault));
+    }
     status_of(fault)
 }
 
@@ -38,7 +42,7 @@ fn line_of(fault: &MainFault) -> &[u8]
     ensures { result.now ≡ line_of fault.now }
 {
     match fault {
-        MainFault::Words(WordFault::Bad) | MainFault::BadWords(_) => b"msgrun: bad command line\n",
+        MainFault::Words(WordFault::Bad) => b"msgrun: bad command line\n",
         MainFault::Words(WordFault::Help(_)) => b"",
         MainFault::Input(InputFault::Failed) => b"msgrun: cannot read input\n",
         MainFault::Input(InputFault::TooLarge) => b"msgrun: input too large\n",
@@ -56,17 +60,6 @@ fn line_of(fault: &MainFault) -> &[u8]
         | MainFault::Input(InputFault::NoMemory)
         | MainFault::Built
         | MainFault::Report(ReportFault::NoMemory) => b"msgrun: want of memory\n",
-    }
-}
-
-/// The lines that tell more of a fault, below its own.
-fn more_of(fault: &MainFault) -> &[u8]
-    ensures { result.now ≡ more_of fault.now }
-{
-    match fault {
-        MainFault::CheckFailed(_, lines) => lines.as_slice(),
-        MainFault::BadWords(line) => line.as_slice(),
-        _ => b"",
     }
 }
 
@@ -96,7 +89,6 @@ fn status_of(fault: &MainFault) -> u8
         MainFault::Words(WordFault::Help(_)) => 0,
         MainFault::Refused(Refusal::NoMemory) => 1,
         MainFault::Words(WordFault::Bad)
-        | MainFault::BadWords(_)
         | MainFault::Input(InputFault::TooLarge)
         | MainFault::Refused(_)
         | MainFault::CheckFailed(..) => 2,

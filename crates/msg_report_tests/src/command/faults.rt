@@ -30,9 +30,6 @@ fn refused_files(rt: HostRuntime) {
     let told = MainFault::CheckFailed(Refusal::Shape, Vec::new(rt.alloc()));
     expect_text(rt, &told, "refused 2 Shape");
     drop(told);
-    let told = MainFault::BadWords(Vec::new(rt.alloc()));
-    expect_text(rt, &told, "bad command line");
-    drop(told);
     let told = CheckFault::Refused(Refusal::Shape, Vec::new(rt.alloc()));
     expect_text(rt, &told, "refused 2 Shape");
     drop(told);
@@ -118,9 +115,6 @@ fn printed_faults_without_a_table(rt: HostRuntime) {
     let lines = Vec::from_slice(rt.alloc(), b"why\n").have(rt);
     let checked = MainFault::CheckFailed(Refusal::Cycle(3), lines);
     expect_printed(rt, checked, "msgrun: refused 10 Cycle\nwhy\n", 2);
-    let line = Vec::from_slice(rt.alloc(), b"why\n").have(rt);
-    let told = MainFault::BadWords(line);
-    expect_printed(rt, told, "msgrun: bad command line\nwhy\n", 2);
 }
 
 const REPORTS: [(ReportFault, &str); 5] = [
