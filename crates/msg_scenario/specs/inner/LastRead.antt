@@ -9,5 +9,7 @@ use Rattle.msg_scenario.specs.{declared.reports.last_read.LastRead.LastRead, Rep
 abbrev pub IsInText : Scenario → Option LastRead → Text → Type 0
 IsInText s None text = ⊤
 IsInText s (Some read) text =
-    (before : Text) × (after : Text) × (text ≡ before ++ reply_text s (reply.Read read.took.now) ++ after)
-    × (length before ≡ read.start) × (length (before ++ reply_text s (reply.Read read.took.now)) ≡ read.end)
+    (before : Text) × (after : Text)
+    × (text ≡ before ++ reply_text s (reply.Read read.took.now) ++ after)
+    × (length before ≡ read.start)
+    × (length (before ++ reply_text s (reply.Read read.took.now)) ≡ read.end)

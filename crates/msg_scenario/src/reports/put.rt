@@ -65,8 +65,9 @@ pub fn put_accounts<X: SystemOf<Value = i64>, S: Sink>(
     sink: &mut S,
 ) -> Result<(), ReportFault>
     ensures put { (state : State i64_values) → EngineStands X.meaning engine.now state
-        → IsPut S.contents S.failures (accounts_text reporter.old.scenario.now
-        reporter.old.readers state accounts.now ++ writers_text reporter.old.scenario.now writers.now)
+        → IsPut S.contents S.failures
+        (accounts_text reporter.old.scenario.now reporter.old.readers state accounts.now
+        ++ writers_text reporter.old.scenario.now writers.now)
         result sink.old sink.new }
     ensures faults { IfErr result
         (λ fault. (fault ≡ ReportFault.Write) ⊎ (fault ≡ ReportFault.NoMemory)) }
