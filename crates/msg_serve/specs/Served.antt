@@ -80,7 +80,8 @@ pub record IsTraced (s : Scenario) (before after : Option (List ℕ)) : Type 0 w
 
 -- The input was answered to its end: each line by one line, in the run of the file's frames and of
 -- those among the lines, with all that a run comes to; and then the readers were told.
-pub record IsAnswered (s : Scenario) (input : List ℕ) (before after : Option (List ℕ)) : Type 0 where
+pub record IsAnswered (s : Scenario) (input : List ℕ)
+    (before after : Option (List ℕ)) : Type 0 where
   pub requests : List Request
   pub asked : AllZip (AsksFor s) (lines_of input) requests
   pub complete : IsCompleteRun (s.frames ++ frames_among requests) (state_of s)

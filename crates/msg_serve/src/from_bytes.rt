@@ -48,8 +48,8 @@ fn serve_systems<R: Threads + Sync + AllocGlobal, I: Source, S: Sink>(
     serve_scenario(rt, scenario, systems, workers, input, sink)
 }
 
-/// Runs the frames of a scenario file, and then a frame for each line of the input that is a list of
-/// posts; each line is answered by a line of JSON, before the next is read.
+/// Runs the frames of a scenario file, and then a frame for each line of the input that is a list
+/// of posts; each line is answered by a line of JSON, before the next is read.
 ///
 /// # Errors
 ///
@@ -65,8 +65,8 @@ pub fn serve_bytes<R: Threads + Sync + AllocGlobal, I: Source, S: Sink>(
     sink: &mut S,
 ) -> Result<(), AnswerFault>
 
-    // Whatever the workers: the answers are those of one thread, but for the sentence and the column
-    // of a refusal.
+    // Whatever the workers: the answers are those of one thread, but for the sentence and the
+    // column of a refusal.
     ensures ok { OnOk result (IsOfScenario bytes.now (λ scenario.
         IfSome (I.remaining input.old) (λ lines.
         IsAnswered scenario lines (S.contents sink.old) (S.contents sink.new)))) }

@@ -1,5 +1,5 @@
-//! Laws of lines. Calling one makes its fact available to the caller's proof; it does nothing at run
-//! time.
+//! Laws of lines. Calling one makes its fact available to the caller's proof; it does nothing at
+//! run time.
 ghost use Rattle.msg_serve.specs.Prelude.{EachFileHasOneTrace, EachLineHasOneAnswer, OnlyFramesChange, ServesAsRunsTell};
 
 /// What is left after lines is what the frames among them leave, in one run: a line that asks for

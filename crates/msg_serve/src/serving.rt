@@ -57,8 +57,8 @@ pub fn serve_scenario<
     requires as_many { length systems.items ≡ length scenario.now.systems }
     requires each { EachIs (IsSystemAt X.meaning scenario.now.systems) systems.items }
 
-    // Whatever the workers: the answers are those of one thread, but for the sentence and the column
-    // of a refusal.
+    // Whatever the workers: the answers are those of one thread, but for the sentence and the
+    // column of a refusal.
     ensures ok { OnOk result (IfSome (I.remaining input.old) (λ bytes.
         IsAnswered scenario.now bytes (S.contents sink.old) (S.contents sink.new))) }
     ensures all_read { OnOk result (IfSome (I.remaining input.old)
