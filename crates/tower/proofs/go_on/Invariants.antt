@@ -11,7 +11,7 @@ invariant-loop-frame g l = record {
   fit : All (PostsFit l.engine) l.frames;
   ran : (s : State g.V.Value.values) → EngineStands g.S.SystemOf.meaning l.initial.engine s
       → HasRunFrames g.S.SystemOf.meaning (take l.frame-index l.frames) s l.initial.logs.items l.logs.items l.engine;
-  since : (s : State g.V.Value.values) (before : List (Frame g.V))
+  since : (s : State g.V.Value.values) (before : List (Frame g.row.V.Denot))
       → HasRunSince g.S.SystemOf.meaning s before l.initial.logs.items l.initial.engine
       → HasRunSince g.S.SystemOf.meaning s (before ++ take l.frame-index l.frames) l.logs.items l.engine;
 }
