@@ -6,7 +6,7 @@ use msg_world::{ResNo, TypeNo, Value};
 pub enum Probe<V = i64> {
     /// Whether messages are unread by its own cursor. It goes past them.
     OnMessage(TypeNo),
-    /// Whether a resource has this value, as `Value::same` says.
+    /// Whether a resource has this value, by `==`.
     ResourceEquals(ResNo, V),
 }
 
